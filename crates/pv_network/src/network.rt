@@ -49,6 +49,7 @@ impl Network {
         requires some { 1 ≤ centres }
         requires few { centres ≤ 4 }
         ensures ok { IfOk result (λ network. StandsFor network (start centres limits.frames limits.records)) }
+        ensures centres { IfOk result (λ network. length network.centres ≡ centres) }
     {
         let records = limits.records as usize;
         let edits = Vec::with_capacity(alloc, records)?;
@@ -70,6 +71,7 @@ impl Network {
 
         // Whatever world the network stood for, it stands for the next one, and the outcome is that answer.
         ensures performs { IfOk result (λ outcome. Performs self.old self.new outcome (λ w. happens w event.now)) }
+        ensures centres { length self.new.centres ≡ length self.old.centres }
     {
         Ok(match *event {
             Event::Seed { name, row } => self.seed(name, &row),
@@ -82,7 +84,8 @@ impl Network {
     /// The operator puts a row under a name.
     fn seed(&mut self, name: FrameName, row: &[u8; 40]) -> Outcome
         requires { IsRow row.now }
-        ensures { Performs self.old self.new result (λ w. seeded w name row.now) }
+        ensures performs { Performs self.old self.new result (λ w. seeded w name row.now) }
+        ensures centres { length self.new.centres ≡ length self.old.centres }
     {
         let is_new = last_frame(&self.edits, name).is_none();
         match self.refusal(is_new) {
@@ -129,7 +132,8 @@ impl Network {
     /// Packs the next record for a centre.
     fn send(&mut self, centre: usize) -> Outcome
         requires { centre < length self.old.centres }
-        ensures { Performs self.old self.new result (λ w. sent w centre) }
+        ensures performs { Performs self.old self.new result (λ w. sent w centre) }
+        ensures centres { length self.new.centres ≡ length self.old.centres }
     {
         if self.packets >= MAX_PACKETS {
             return Outcome::PacketsFull;
@@ -147,7 +151,8 @@ impl Network {
     /// A packet arrives at a centre.
     fn deliver(&mut self, centre: usize, index: u64) -> Outcome
         requires { centre < length self.old.centres }
-        ensures { Performs self.old self.new result (λ w. delivered w centre index) }
+        ensures performs { Performs self.old self.new result (λ w. delivered w centre index) }
+        ensures centres { length self.new.centres ≡ length self.old.centres }
     {
         let Some(packet) = self.centres[centre].packet(index) else {
             return Outcome::NoPacket;
@@ -201,7 +206,8 @@ impl Network {
     /// index is answered.
     fn acknowledge(&mut self, centre: usize) -> Option<u64>
         requires { centre < length self.old.centres }
-        ensures { Performs self.old self.new result (λ w. acknowledged w centre) }
+        ensures performs { Performs self.old self.new result (λ w. acknowledged w centre) }
+        ensures centres { length self.new.centres ≡ length self.old.centres }
     {
         if self.packets >= MAX_PACKETS {
             return None;

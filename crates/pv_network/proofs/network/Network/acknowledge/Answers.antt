@@ -9,8 +9,8 @@ use Rattle.pv_network.proofs.Performing.{acknowledges}
 use Rattle.pv_network.proofs.network.Network.acknowledge.Goals as goal
 
 -- the centre has one acknowledgement more
-pub returns : goal.returns
-returns c =
+pub returns-clause-performs : goal.returns-clause-performs
+returns-clause-performs c =
     let vec = c.self.inside.centres in
     let new : List Kept = (with_items vec c.acknowledge_at-index.new.centres).items in
     let length_kept : length c.acknowledge_at-index.new.centres ≡ vec.len = omega (arith, c.acknowledge_at-index.auto.centres, c.deref_mut.ensures.len) in

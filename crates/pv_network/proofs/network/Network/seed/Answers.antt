@@ -16,8 +16,8 @@ turned false true is = refl
 turned false false is = absurd cc
 
 -- nothing is refused, and the record is stored
-pub returns-in-None : goal.returns-in-None
-returns-in-None c = λ w stands.
+pub returns-in-None-clause-performs : goal.returns-in-None-clause-performs
+returns-in-None-clause-performs c = λ w stands.
     let s = c.args.self.now in
     let is_new : c.is_none-is_new.result ≡ is_none (frame_at s.edits c.args.name) =
         turned c.is_none-is_new.result (is_some c.last_frame.result) c.is_none-is_new.ensures ∙ ap (λ (o : Option (List ℕ)). is_none o) c.last_frame.ensures

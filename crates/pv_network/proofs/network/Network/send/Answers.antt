@@ -12,8 +12,8 @@ use Rattle.pv_network.proofs.Performing.{sends, next_below}
 use Rattle.pv_network.proofs.network.Network.send.Goals as goal
 
 -- the record of the next number goes down in a packet
-pub returns : goal.returns
-returns c =
+pub returns-clause-performs : goal.returns-clause-performs
+returns-clause-performs c =
     let vec = c.self.inside.centres in
     let edits = c.self.inside.edits in
     let number = c.in-Some.number in
