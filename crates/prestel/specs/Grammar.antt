@@ -1,14 +1,14 @@
 -- The script: its lines, and what each of them asks for.
-use Rattle.std.specs.Prelude.{◌≡◌, ℕ, ◌-◌, ◌^◌, ◌<◌, ◌≤◌, ◌⊎◌, ◌==◌, List, [], ◌∷◌, ◌++◌, length, replicate, codes, decimal, if◌then◌else◌}
-use Rattle.std.specs.List.{AllByRecursion, AllZip}
+use Rattle.std.specs.Prelude.{◌≡◌, ℕ, ◌-◌, ◌^◌, ◌<◌, ◌≤◌, true, ◌⊎◌, ◌==◌, List, [], ◌∷◌, ◌++◌, length, codes, decimal, if◌then◌else◌}
+use Rattle.std.specs.List.{AllByRecursion, AllZip, list_all}
 use Rattle.pv_page.specs.Names.{IsName, name_text, space}
 use Rattle.pv_network.specs.declared.event.Event.{Event}
 use Rattle.pv_network.specs.declared.event.Event.TheVariants.{Seed, Send, Deliver, View}
 use Rattle.prestel.specs.declared.grammar.Command.{Command}
 use Rattle.prestel.specs.declared.grammar.Command.TheVariants.{Nothing, Do}
 use Rattle.prestel.specs.declared.grammar.TheConstants.{REMARK}
-use Rattle.prestel.specs.declared.notation.TheConstants.{BACKSLASH}
 use Rattle.pv_network.specs.Composed.{padded}
+use Rattle.prestel.specs.Notation.{is_plain}
 
 -- ---- lines
 
@@ -24,13 +24,9 @@ lines_of (byte ∷ bytes) = if byte == 10 then [] ∷ lines_of bytes else before
 
 -- ---- what a line asks for
 
--- a byte that may stand in a row's text: a space up to a tilde, but no backslash
-abbrev pub IsRowByte : ℕ → Type 0
-IsRowByte byte = (0x20 ≤ byte) × (byte ≤ 0x7e) × (byte ≡ BACKSLASH → ⊥)
-
--- the text, of at most 40 such bytes, is the row, which spaces fill
+-- the text, of at most 40 bytes that stand for themselves, is the row, which spaces fill
 pub record SpellsRow (text row : List ℕ) : Type 0 where
-  pub bytes : AllByRecursion IsRowByte text
+  pub bytes : list_all is_plain text ≡ true
   pub fits : length text ≤ 40
   pub filled : row ≡ padded text
 

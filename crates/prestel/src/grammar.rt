@@ -1,8 +1,7 @@
-ghost use Rattle.std.specs.Prelude.{◌≡◌, ℕ, ◌^◌, ◌<◌, ◌↔◌, ◌++◌, List, Some, IfSome, IsNone, IsTrue, codes, decimal};
-ghost use Rattle.std.specs.List.{AllByRecursion};
-ghost use Rattle.prestel.specs.Grammar.{Asks, Reads, SpellsRow, IsRowByte, IsWord, BeginsWithWord};
+ghost use Rattle.std.specs.Prelude.{◌≡◌, ℕ, ◌^◌, ◌<◌, ◌++◌, List, Some, IfSome, IsNone, codes, decimal};
+ghost use Rattle.prestel.specs.Grammar.{Asks, Reads, SpellsRow, IsWord, BeginsWithWord};
 
-use crate::notation::BACKSLASH;
+use crate::notation::are_plain;
 use itoa::Buffer;
 use pv_network::Event;
 use pv_page::FrameName;
@@ -38,13 +37,13 @@ fn event_of(line: &[u8], centres: u8) -> Option<Event>
     ensures only { (event : Event) → Asks centres line.now event → result ≡ Some event }
 {
     let (word, rest) = split_word(line)?;
-    if word == b"seed" {
-        seed_of(rest)
-    } else if word == b"send" {
+    if word == b"seed".as_slice() {
+        seed_of(rest, centres)
+    } else if word == b"send".as_slice() {
         send_of(rest, centres)
-    } else if word == b"deliver" {
+    } else if word == b"deliver".as_slice() {
         deliver_of(rest, centres)
-    } else if word == b"view" {
+    } else if word == b"view".as_slice() {
         view_of(rest, centres)
     } else {
         None
@@ -121,12 +120,21 @@ fn number_of(text: &[u8]) -> Option<u64>
     ensures found { IfSome result (λ number. text.now ≡ decimal number) }
     ensures only { (number : ℕ) → number < 2 ^ 64 → text.now ≡ decimal number → result ≡ Some number }
 {
-    let digits = std::str::from_utf8(text).ok()?;
-    let number = digits.parse().ok()?;
-    if Buffer::new().format(number) == digits {
+    let number = read_number(text)?;
+    if Buffer::new().format(number).as_bytes() == text {
         Some(number)
     } else {
         None
+    }
+}
+
+/// The number that a text writes in decimal; it may also be found where the text is not canonical.
+fn read_number(text: &[u8]) -> Option<u64>
+    ensures { (number : ℕ) → number < 2 ^ 64 → text.now ≡ decimal number → result ≡ Some number }
+{
+    match std::str::from_utf8(text) {
+        Ok(digits) => digits.parse().ok(),
+        Err(_) => None,
     }
 }
 
@@ -135,22 +143,10 @@ fn row_of(text: &[u8]) -> Option<[u8; 40]>
     ensures found { IfSome result (SpellsRow text.now) }
     ensures only { (row : List ℕ) → SpellsRow text.now row → result ≡ Some row }
 {
-    if text.len() > 40 || !are_row_bytes(text) {
+    if text.len() > 40 || !are_plain(text) {
         return None;
     }
     let mut row = [b' '; 40];
     row[..text.len()].copy_from_slice(text);
     Some(row)
-}
-
-/// Whether each byte may stand in a row's text.
-fn are_row_bytes(text: &[u8]) -> bool
-    ensures { IsTrue result ↔ AllByRecursion IsRowByte text.now }
-{
-    for byte in text {
-        if !(0x20..=0x7e).contains(byte) || *byte == BACKSLASH {
-            return false;
-        }
-    }
-    true
 }

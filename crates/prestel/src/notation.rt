@@ -1,4 +1,5 @@
 ghost use Rattle.std.specs.Prelude.{◌≡◌, ◌<◌, ◌++◌, OnOk};
+ghost use Rattle.std.specs.List.{list_all};
 ghost use Rattle.prestel.specs.Notation.{is_plain, hex_digit, byte_notation, notation_of};
 
 use std::alloc::AllocError;
@@ -26,6 +27,13 @@ fn push_byte(text: &mut Vec<u8>, byte: u8) -> Result<(), AllocError>
         text.extend_from_slice(&[BACKSLASH, hex_digit(byte / 16), hex_digit(byte % 16)])?;
     }
     Ok(())
+}
+
+/// Whether each byte stands for itself.
+pub fn are_plain(bytes: &[u8]) -> bool
+    ensures { result ≡ list_all is_plain bytes.now }
+{
+    bytes.iter().all(|byte| is_plain(*byte))
 }
 
 /// Whether a byte stands for itself.
