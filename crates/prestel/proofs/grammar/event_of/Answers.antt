@@ -3,12 +3,12 @@ use Rattle.std.specs.Prelude.{codes, decimal}
 use Rattle.pv_page.specs.Names.{name_text, space}
 use Rattle.pv_network.specs.declared.event.Event.{Event}
 use Rattle.pv_network.specs.declared.event.Event.TheVariants.{Seed, Send, Deliver, View}
-use Rattle.prestel.specs.Grammar.{Asks, BeginsWithWord}
+use Rattle.prestel.specs.Grammar.{Asks, IsCutAt}
 use Rattle.prestel.proofs.Words.{words_agree, tested_word, other_word}
 use Rattle.prestel.proofs.grammar.event_of.Goals as goal
 
 -- the line's first word is none of the four
-no_event : (centres : ℕ) (line word rest : List ℕ) (event : Event) → BeginsWithWord line word rest
+no_event : (centres : ℕ) (line word rest : List ℕ) (event : Event) → IsCutAt space line word rest
     → (word ≡ codes "seed" → ⊥) → (word ≡ codes "send" → ⊥) → (word ≡ codes "deliver" → ⊥) → (word ≡ codes "view" → ⊥) → Asks centres line event → ⊥
 no_event centres line word rest (Seed name row) begins seed send deliver view asks =
     seed (words_agree line word rest (codes "seed") (name_text name ++ space ∷ asks.0) begins (tested_word (codes "seed") refl) asks.3).0
