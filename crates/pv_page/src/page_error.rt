@@ -1,0 +1,21 @@
+use thiserror::Error;
+
+/// Why digits are no page number. Where several apply, it is the first of them in this order.
+#[derive(Clone, Copy, Debug, PartialEq, Eq, Error)]
+pub enum PageError {
+    /// There is no digit.
+    #[error("a page number has at least one digit")]
+    Empty,
+    /// There are more than nine bytes.
+    #[error("a page number has at most nine digits")]
+    TooLong,
+    /// A byte is not a decimal digit.
+    #[error("byte {at} of the page number is no digit")]
+    NotDigit {
+        /// The place of the first such byte, counted from 0.
+        at: usize,
+    },
+    /// A zero stands before other digits.
+    #[error("a page number of several digits does not begin with a zero")]
+    LeadingZero,
+}

@@ -1,0 +1,5 @@
+use Rattle.pv_screen.proofs.Grids.{IsGrid-blank}
+use Rattle.pv_screen.proofs.grid.Grid.blank.Goals as goal
+
+pub invariant_of-result : goal.invariant_of-result
+invariant_of-result c = IsGrid-blank
