@@ -11,4 +11,4 @@ refused status network ended before now is = record {
   too_long = ((λ long. absurd cc), (λ long. absurd (omega (arith, long))));
   done = λ done. absurd cc;
   bad_line = λ number bad. absurd cc;
-  }
+}

@@ -78,7 +78,7 @@ ends text number network before now rest p none = record {
   read = subst (λ (l : List (List ℕ)). AreCommands CENTRES l p.commands) (sym (p.lines ∙ ap (λ (r : List ℕ). p.done ++ lines_of r) none ∙ append-nil p.done)) p.read;
   stands = p.stands;
   written = p.written;
-  }
+}
 
 -- the next line is none of the forms
 pub cut_short : (text rest line behind : List ℕ) (number : ℕ) (network : State) (before now : Option (List ℕ)) → Progress text rest number network before now → lines_of rest ≡ line ∷ lines_of behind → ((command : Command) → Reads CENTRES line command → ⊥) → IsCutShort text (number + 1) before now
@@ -86,4 +86,4 @@ cut_short text rest line behind number network before now p is none = record {
   commands = p.commands;
   line = record { before = p.done; bad = line; behind = lines_of behind; lines = p.lines ∙ ap (λ (l : List (List ℕ)). p.done ++ l) is; number = omega (arith, p.count); read = p.read; none = none };
   written = p.written;
-  }
+}

@@ -15,8 +15,8 @@ pub const LONGEST_SCRIPT: usize = 1_048_576;
 pub fn read_script<S: Source>(alloc: Global, source: &mut S) -> Result<Vec<u8>, Status>
     ensures read { (text : List ℕ) × HasRead (S.taken source.old) (S.taken source.new) (S.left source.old) (S.left source.new) text
         × MatchResult result
-            (λ script. (script.items ≡ text) × (length text ≤ LONGEST_SCRIPT) × IsTrue (S.ended source.new))
-            (IsReadEnd text (S.read_faults source.old) (S.read_faults source.new)) }
+        (λ script. (script.items ≡ text) × (length text ≤ LONGEST_SCRIPT) × IsTrue (S.ended source.new))
+        (IsReadEnd text (S.read_faults source.old) (S.read_faults source.new)) }
     ensures counted { S.read_faults source.old ≤ S.read_faults source.new }
 {
     let Ok(mut script) = vec![in alloc; 0; LONGEST_SCRIPT + 1] else {
@@ -33,8 +33,8 @@ fn fill<S: Source>(source: &mut S, into: &mut [u8]) -> Result<usize, Status>
     requires { length into.old ≡ LONGEST_SCRIPT + 1 }
     ensures read { (text : List ℕ) × HasRead (S.taken source.old) (S.taken source.new) (S.left source.old) (S.left source.new) text
         × MatchResult result
-            (λ len. (take len into.new ≡ text) × (length text ≡ len) × (len ≤ LONGEST_SCRIPT) × IsTrue (S.ended source.new))
-            (IsReadEnd text (S.read_faults source.old) (S.read_faults source.new)) }
+        (λ len. (take len into.new ≡ text) × (length text ≡ len) × (len ≤ LONGEST_SCRIPT) × IsTrue (S.ended source.new))
+        (IsReadEnd text (S.read_faults source.old) (S.read_faults source.new)) }
     ensures counted { S.read_faults source.old ≤ S.read_faults source.new }
 {
     let mut len = 0;

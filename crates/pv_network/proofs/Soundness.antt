@@ -94,7 +94,7 @@ sound_edit w name row sound frames records =
 pub sound_seeded : (w : World) (name : Name) (row : List ℕ) → IsSound w → IsSound (seeded w name row).0
 sound_seeded w name row sound =
     choice (is_frames_full w name) _ _ (λ _. sound) (λ frames.
-        choice (leb w.record_limit (length w.edits)) _ _ (λ _. sound) (λ records. sound_edit w name row sound frames records))
+    choice (leb w.record_limit (length w.edits)) _ _ (λ _. sound) (λ records. sound_edit w name row sound frames records))
 
 -- ---- send
 
@@ -113,6 +113,7 @@ sound_sent w c sound = choice (is_packets_full w) _ _ (λ _. sound) (λ _. numbe
     pack : (number : ℕ) (found : Option Record) → slice_get w.edits number ≡ found → IsSound (packed w c number found).0
     pack number None is = sound
     pack number (Some edit) is = sound_packet w c number edit sound is
+
     numbered : (number : Option ℕ) → IsSound (sent_number w c number).0
     numbered None = sound
     numbered (Some number) = pack number (slice_get w.edits number) refl
@@ -156,6 +157,7 @@ sound_delivered w c index sound = arrives (slice_get (centre_at w c).down index)
     by packet arrivals.Old is how = sound_acknowledged w c sound
     by packet arrivals.Early is how = sound_acknowledged w c sound
     by packet arrivals.Full is how = sound
+
     arrives : (found : Option Packet) → slice_get (centre_at w c).down index ≡ found → IsSound (delivered_packet w c found).0
     arrives None is = sound
     arrives (Some packet) is = by packet _ (all_get (IsGenuine w.edits) (centre_at w c).down index packet (sound_at w c sound).packets is) refl

@@ -11,5 +11,4 @@ ghost use Rattle.pv_network.specs.Sound.{IsSound};
 /// carries the list's record of its number, and each centre has a front of the list.
 pub fn every_reachable_world_is_sound()
     ensures { (centres frames records : ℕ) (events : List Event) → IsSound (after (start centres frames records) events) }
-{
-}
+{}
