@@ -2,7 +2,7 @@
 use Rattle.std.proofs.Common.{◌≡◌, ℕ, ◌+◌, ◌-◌, ◌<◌, ◌≤◌, List, [], ◌∷◌, ◌++◌, length, take, drop, set, replicate, Ok, Err, refl, sym, ap, ◌∙◌, subst, arith}
 use Rattle.std.specs.List.{All}
 use Rattle.std.proofs.lemmas.List.{append-nil, take-append-drop, length-take-le, length-replicate, length-set, take_more_set, take_all, drop-set-lt, drop-drop, drop-replicate, drop-take, take-take, length-drop}
-use Rattle.std.proofs.lemmas.List.Elements.{All-nil, All-push}
+use Rattle.std.proofs.lemmas.List.Elements.{All-nil, All-push, All-append, All-same, All-replicate}
 use Rattle.pv_cells.specs.Notation.{ReadsByte, ReadsAs}
 use Rattle.pv_cells.specs.Row.{IsCell, BeginsFault, Ends, TellsRow, filled}
 use Rattle.pv_cells.specs.declared.error.NotationError.{NotationError}
@@ -76,6 +76,13 @@ module _ {width : ℕ} {text row : List ℕ} {count at : ℕ} (so_far : RowSoFar
   row_is =
       sym (take-append-drop count row)
       ∙ ap (λ left. take count row ++ left) (so_far.blank ∙ ap (λ n. replicate (width - n) BLANK) (sym count_is))
+
+  -- a row holds cells
+  pub holds_cells : All IsCell row
+  holds_cells =
+      All-same IsCell row (filled width (take count row)) row_is
+      (All-append IsCell (take count row) (replicate (width - length (take count row)) BLANK) so_far.are_cells
+      (All-replicate IsCell (width - length (take count row)) BLANK (omega arith)))
 
   -- at the end of the text the row is told
   pub ended : length text ≤ at → TellsRow width text (Ok row)
