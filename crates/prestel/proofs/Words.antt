@@ -11,7 +11,7 @@ use Rattle.std.proofs.lemmas.Str.Parse.{digit_from_value}
 use Rattle.std.proofs.lemmas.List.Elements.{recursion_from_All}
 use Rattle.pv_page.specs.Names.{Name, IsName, name_text, space}
 use Rattle.pv_page.proofs.CallerLemmas.{no_space_in_name}
-use Rattle.prestel.specs.Grammar.{IsWord, BeginsWithWord}
+use Rattle.prestel.specs.Grammar.{IsWord, HasNone, IsCutAt}
 
 -- a text begins with one word
 pub same_word : (a b x y : List ℕ) → IsWord a → IsWord b → a ++ space ∷ x ≡ b ++ space ∷ y → (a ≡ b) × (x ≡ y)
@@ -32,8 +32,8 @@ no_word (c ∷ text) [] x is same = let e : c ≡ space = cc in is.0 e
 no_word (c ∷ text) (d ∷ a) x is same = let tails : text ≡ a ++ space ∷ x = cc in no_word text a x is.1 tails
 
 -- the words of two texts that are one
-pub words_agree : (text first rest a x : List ℕ) → BeginsWithWord text first rest → IsWord a → text ≡ a ++ space ∷ x → (first ≡ a) × (rest ≡ x)
-words_agree text first rest a x begins is same = same_word first a rest x begins.word is (sym begins.parts ∙ same)
+pub words_agree : (text first rest a x : List ℕ) → IsCutAt space text first rest → IsWord a → text ≡ a ++ space ∷ x → (first ≡ a) × (rest ≡ x)
+words_agree text first rest a x begins is same = same_word first a rest x begins.before is (sym begins.parts ∙ same)
 
 digits_are_word : (ds : List ℕ) → AllDigits 10 ds → IsWord ds
 digits_are_word [] digits = tt
@@ -57,6 +57,7 @@ tested_word (c ∷ bytes) is =
     both : (a b : Bool) → (a && b) ≡ true → (a ≡ true) × (b ≡ true)
     both true b is = (refl, is)
     both false b is = absurd cc
+
     apart : (b : Bool) → b ≡ true → not b ≡ true → ⊥
     apart true same other = cc
     apart false same other = cc

@@ -10,6 +10,17 @@ use Rattle.prestel.specs.declared.grammar.TheConstants.{REMARK}
 use Rattle.pv_network.specs.Composed.{padded}
 use Rattle.prestel.specs.Notation.{is_plain}
 
+-- ---- parts of a text
+
+-- the byte is not among these
+abbrev pub HasNone : ℕ → List ℕ → Type 0
+HasNone byte bytes = AllByRecursion (λ other. other ≡ byte → ⊥) bytes
+
+-- the text is cut at the first such byte
+pub record IsCutAt (byte : ℕ) (text first rest : List ℕ) : Type 0 where
+  pub parts : text ≡ first ++ byte ∷ rest
+  pub before : HasNone byte first
+
 -- ---- lines
 
 -- a byte goes to the front of the first line
@@ -32,12 +43,7 @@ pub record SpellsRow (text row : List ℕ) : Type 0 where
 
 -- bytes with no space among them
 abbrev pub IsWord : List ℕ → Type 0
-IsWord bytes = AllByRecursion (λ byte. byte ≡ space → ⊥) bytes
-
--- the text is a word, a space and a rest
-pub record BeginsWithWord (text first rest : List ℕ) : Type 0 where
-  pub parts : text ≡ first ++ space ∷ rest
-  pub word : IsWord first
+IsWord bytes = HasNone space bytes
 
 -- a line's words for an event, in a play of so many centres
 abbrev pub Asks : ℕ → List ℕ → Event → Type 0

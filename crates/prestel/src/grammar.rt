@@ -1,6 +1,7 @@
-ghost use Rattle.std.specs.Prelude.{◌≡◌, ℕ, ◌^◌, ◌<◌, ◌++◌, List, Some, IfSome, IsNone, codes, decimal};
-ghost use Rattle.prestel.specs.Grammar.{Asks, Reads, SpellsRow, IsWord, BeginsWithWord};
+ghost use Rattle.std.specs.Prelude.{◌≡◌, ℕ, ◌^◌, ◌<◌, ◌++◌, List, Some, IfSome, codes, decimal};
+ghost use Rattle.prestel.specs.Grammar.{Asks, Reads, SpellsRow};
 
+use crate::cut::cut_at;
 use crate::notation::are_plain;
 use itoa::Buffer;
 use pv_network::Event;
@@ -36,7 +37,7 @@ fn event_of(line: &[u8], centres: u8) -> Option<Event>
     ensures found { IfSome result (Asks centres line.now) }
     ensures only { (event : Event) → Asks centres line.now event → result ≡ Some event }
 {
-    let (word, rest) = split_word(line)?;
+    let (word, rest) = cut_at(line, b' ')?;
     if word == b"seed".as_slice() {
         seed_of(rest, centres)
     } else if word == b"send".as_slice() {
@@ -55,7 +56,7 @@ fn seed_of(rest: &[u8], centres: u8) -> Option<Event>
     ensures found { IfSome result (Asks centres (codes "seed " ++ rest.now)) }
     ensures only { (event : Event) → Asks centres (codes "seed " ++ rest.now) event → result ≡ Some event }
 {
-    let (name, text) = split_word(rest)?;
+    let (name, text) = cut_at(rest, b' ')?;
     let name = FrameName::of_text(name)?;
     let row = row_of(text)?;
     Some(Event::Seed { name, row })
@@ -75,7 +76,7 @@ fn deliver_of(rest: &[u8], centres: u8) -> Option<Event>
     ensures found { IfSome result (Asks centres (codes "deliver " ++ rest.now)) }
     ensures only { (event : Event) → Asks centres (codes "deliver " ++ rest.now) event → result ≡ Some event }
 {
-    let (centre, index) = split_word(rest)?;
+    let (centre, index) = cut_at(rest, b' ')?;
     let centre = centre_of(centre, centres)?;
     let index = number_of(index)?;
     Some(Event::Deliver { centre, index })
@@ -86,20 +87,10 @@ fn view_of(rest: &[u8], centres: u8) -> Option<Event>
     ensures found { IfSome result (Asks centres (codes "view " ++ rest.now)) }
     ensures only { (event : Event) → Asks centres (codes "view " ++ rest.now) event → result ≡ Some event }
 {
-    let (centre, name) = split_word(rest)?;
+    let (centre, name) = cut_at(rest, b' ')?;
     let centre = centre_of(centre, centres)?;
     let name = FrameName::of_text(name)?;
     Some(Event::View { centre, name })
-}
-
-/// The first word of a text and all that follows the space behind it. It is missing exactly where the
-/// text has no space.
-fn split_word(text: &[u8]) -> Option<(&[u8], &[u8])>
-    ensures found { IfSome result (λ parts. BeginsWithWord text.now parts.0.now parts.1.now) }
-    ensures missing { IsNone result → IsWord text.now }
-{
-    let at = text.iter().position(|byte| *byte == b' ')?;
-    Some((&text[..at], &text[at + 1..]))
 }
 
 /// The number of a centre that there is.

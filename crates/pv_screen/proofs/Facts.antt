@@ -1,6 +1,8 @@
--- Worked rows and screens, computed from the definitions.
+-- Worked rows, screens and cursors, computed from the definitions.
 use Rattle.std.proofs.Common.{◌≡◌, [], ◌∷◌, ◌++◌, List, ℕ, zero, suc, replicate, refl}
 use Rattle.std.specs.Prelude.{codes}
+use Rattle.pv_screen.specs.declared.codes.TheConstants.{CURSOR_ON, CURSOR_OFF}
+use Rattle.pv_screen.specs.Terminal.{new_display, terminal_after}
 use Rattle.pv_screen.specs.Painting.{line_bytes, painted, message_text}
 
 -- so many line ends
@@ -31,3 +33,28 @@ three_rows = refl
 -- a message goes home and up, and sends all its cells
 pub blank_message : message_text (replicate 40 32) ≡ 30 ∷ 11 ∷ replicate 40 32
 blank_message = refl
+
+-- the cursor at the edges, and what stands there
+pub up_from_the_first_row : (terminal_after new_display (codes "\u{b}")).row ≡ 24
+up_from_the_first_row = refl
+
+pub down_from_the_last_row : (terminal_after new_display (codes "\u{b}\n")).row ≡ 1
+down_from_the_last_row = refl
+
+pub back_from_the_first_column : terminal_after new_display (codes "\u{8}") ≡ record new_display { row = 24; column = 39 }
+back_from_the_first_column = refl
+
+pub forward_from_the_last_column : terminal_after new_display (replicate 40 9) ≡ record new_display { row = 2; column = 0 }
+forward_from_the_last_column = refl
+
+-- the last cell of the screen is written without a scroll
+pub last_cell : (terminal_after new_display (codes "\u{8}Z")).cells ≡ replicate 23 (replicate 40 32) ++ (replicate 39 32 ++ 90 ∷ []) ∷ []
+last_cell = refl
+
+-- an escape, an escape and a letter: the second escape does nothing, and the letter is a letter
+pub escape_twice : terminal_after new_display (codes "\u{1b}\u{1b}A") ≡ terminal_after new_display (codes "A")
+escape_twice = refl
+
+-- the bytes of cursor on and cursor off change no cell
+pub cursor_codes : terminal_after new_display (CURSOR_ON ∷ CURSOR_OFF ∷ 0 ∷ 24 ∷ 128 ∷ 255 ∷ []) ≡ new_display
+cursor_codes = refl

@@ -37,5 +37,8 @@ pub const SPACE: u8 = 0x20;
 /// The byte of attribute 0 behind an escape: attribute `a` is sent as an escape and `ATTRIBUTES + a`.
 pub const ATTRIBUTES: u8 = 0x40;
 
+/// The highest byte that is an attribute behind an escape.
+pub const LAST_ATTRIBUTE: u8 = 0x5F;
+
 /// The highest cell.
 pub const LAST_CELL: u8 = 0x7F;

@@ -1,4 +1,4 @@
-ghost use Rattle.std.specs.Prelude.{◌≡◌, ℕ, ◌-◌, ◌≤◌, List, All, Some, slice_get, slice_set, replicate};
+ghost use Rattle.std.specs.Prelude.{◌≡◌, ℕ, ◌-◌, ◌<◌, ◌≤◌, List, All, Some, slice_get, slice_set, replicate};
 
 use crate::codes::{LAST_CELL, SPACE};
 use std::marker::Model;
@@ -30,10 +30,12 @@ impl Model for Grid {
 
 impl Grid {
     ghost use Rattle.pv_screen.specs.Grid.{IsGrid, IsRow};
+    ghost use Rattle.pv_screen.specs.Terminal.{with_cell};
 
     /// A screen with every cell a space.
     pub fn blank() -> Self
-        ensures { result ≡ replicate ROWS (replicate COLUMNS SPACE) }
+        ensures value { result ≡ replicate ROWS (replicate COLUMNS SPACE) }
+        ensures cells { IsGrid result }
     {
         Grid {
             rows: [[SPACE; COLUMNS]; ROWS],
@@ -46,6 +48,9 @@ impl Grid {
         requires to { row ≤ ROWS }
         ensures value { slice_get self.now (row - 1) ≡ Some result.now }
         ensures cells { IsRow result.now }
+
+        // Every row is one of 40 cells of 0 to 127, and there are 24.
+        ensures all { IsGrid self.now }
     {
         &self.rows[row as usize - 1]
     }
@@ -58,5 +63,16 @@ impl Grid {
         ensures { self.new ≡ slice_set self.old (row - 1) cells.now }
     {
         self.rows[row as usize - 1] = *cells;
+    }
+    /// Puts a cell of 0 to 127 in a column, which is counted from 0 at the left, of a row, which is counted from 1.
+    pub(crate) fn set_cell(&mut self, row: u8, column: u8, cell: u8)
+        requires from { 1 ≤ row }
+        requires to { row ≤ ROWS }
+        requires column { column < COLUMNS }
+        requires cell { cell ≤ LAST_CELL }
+        ensures value { self.new ≡ with_cell self.old row column cell }
+        ensures cells { IsGrid self.new }
+    {
+        self.rows[row as usize - 1][column as usize] = cell;
     }
 }

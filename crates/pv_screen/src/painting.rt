@@ -1,8 +1,10 @@
-ghost use Rattle.std.specs.Prelude.{◌≡◌, ◌+◌, ◌*◌, ◌≤◌, [], ◌∷◌, length, take, drop};
+ghost use Rattle.std.specs.Prelude.{◌≡◌, ℕ, ◌+◌, ◌-◌, ◌*◌, ◌≤◌, List, [], ◌∷◌, ◌++◌, All, IsFalse, length, take, drop, slice_set};
+ghost use Rattle.pv_screen.specs.Grid.{IsGrid};
+ghost use Rattle.pv_screen.specs.Terminal.{Display, IsReady, terminal_after};
 ghost use Rattle.pv_screen.specs.Painting.{painted, message_text, cell_bytes, cells_bytes, shown, line_bytes};
 ghost use Rattle.pv_screen.specs.Overwriting.{overwritten};
 
-use crate::codes::{ATTRIBUTES, CLEAR, DOWN, ESCAPE, HOME, RETURN, SPACE, UP};
+use crate::codes::{ATTRIBUTES, CLEAR, DOWN, ESCAPE, HOME, LAST_CELL, RETURN, SPACE, UP};
 use crate::grid::{COLUMNS, Grid, ROWS};
 
 /// How many bytes the caller's buffer has.
@@ -17,6 +19,13 @@ pub fn paint(grid: &Grid, into: &mut [u8; BUFFER]) -> usize
     ensures count { result ≡ length (painted grid.now) }
     ensures within { result ≤ LONGEST }
     ensures behind { drop result into.new ≡ drop result into.old }
+
+    // The terminal that takes these bytes shows the grid, whatever it showed. A new terminal is one of them; it only may
+    // not be waiting for the byte behind an escape, and it does not wait for one afterwards.
+    ensures shows { (t : Display) → IsFalse t.waiting
+        → (terminal_after t (take result into.new)).cells ≡ grid.now }
+    ensures ready { (t : Display) → IsFalse t.waiting
+        → IsReady (terminal_after t (take result into.new)) }
 {
     into[0] = CLEAR;
     let mut at = 1;
@@ -32,6 +41,18 @@ pub fn message(cells: &[u8; COLUMNS], into: &mut [u8; BUFFER]) -> usize
     ensures count { result ≡ length (message_text cells.now) }
     ensures within { result ≤ 2 + 2 * COLUMNS }
     ensures behind { drop result into.new ≡ drop result into.old }
+
+    // The terminal that takes these bytes shows the cells in row 24, and in the other rows what it showed.
+    ensures shows { All (λ cell. cell ≤ LAST_CELL) cells.now → (t : Display) → IsReady t
+        → (terminal_after t (take result into.new)).cells ≡ slice_set t.cells (ROWS - 1) cells.now }
+    ensures ready { All (λ cell. cell ≤ LAST_CELL) cells.now → (t : Display) → IsReady t
+        → IsReady (terminal_after t (take result into.new)) }
+
+    // After any painted screen, they change row 24 of that screen alone.
+    ensures after_a_screen { All (λ cell. cell ≤ LAST_CELL) cells.now → (grid : List (List ℕ)) → IsGrid grid
+        → (t : Display) → IsFalse t.waiting
+        → (terminal_after t (painted grid ++ take result into.new)).cells
+        ≡ slice_set grid (ROWS - 1) cells.now }
 {
     let at = put_pair(HOME, UP, into, 0);
     put_cells(cells, into, at)

@@ -3,6 +3,7 @@ ghost use Rattle.std.specs.Prelude.{◌≤◌, All, length};
 use super::*;
 use crate::attributes::{ALPHA_YELLOW, FLASH};
 use crate::codes::{LAST_CELL, SPACE};
+use std::process::Abort;
 use std::test::Fail;
 
 /// Twenty-two line ends.
@@ -10,7 +11,7 @@ const LINE_ENDS: &[u8; 44] =
     b"\r\n\r\n\r\n\r\n\r\n\r\n\r\n\r\n\r\n\r\n\r\n\r\n\r\n\r\n\r\n\r\n\r\n\r\n\r\n\r\n\r\n\r\n";
 
 /// The bytes that paint a grid, one slice after another, are `parts`.
-fn assert_painted(rt: &impl std::process::Abort, grid: &Grid, parts: &[&[u8]]) {
+fn assert_painted(rt: &impl Abort, grid: &Grid, parts: &[&[u8]]) {
     let mut bytes = [0xEE; BUFFER];
     let count = paint(grid, &mut bytes);
     let mut rest = &bytes[..count];
@@ -119,4 +120,98 @@ fn rows_are_counted_from_one(rt: HostRuntime) {
     assert_eq!(rt; grid.row(24)[39], b'Z');
     assert_eq!(rt; grid.row(23)[0], SPACE);
     assert_eq!(rt; grid == Grid::blank(), false);
+}
+
+/// What a terminal shows at a row, from 1, and a column, from 0.
+fn cell_at(rt: &impl Abort, terminal: &Terminal, row: u8, column: usize) -> u8 {
+    assert!(rt; row >= 1 && row <= 24 && column < 40);
+    terminal.grid().row(row)[column]
+}
+
+/// A terminal that shows `AB` in row 1, with its cursor at the third column of row 2.
+fn in_the_middle() -> Terminal {
+    let mut terminal = Terminal::new();
+    for byte in b"AB\n" {
+        terminal.take(*byte);
+    }
+    terminal
+}
+
+/// Where the cursor is after a byte from there, if the byte is no cell.
+fn place_after(byte: u8) -> (u8, usize) {
+    match byte {
+        0x08 => (2, 1),
+        0x09 => (2, 3),
+        0x0A => (3, 2),
+        0x0B => (1, 2),
+        0x0C | 0x1E => (1, 0),
+        0x0D => (2, 0),
+        0x20..=0x7F => (2, 3),
+        _ => (2, 2),
+    }
+}
+
+#[test]
+fn each_byte_moves_the_cursor(rt: HostRuntime) {
+    for byte in 0..=255 {
+        if byte != codes::ESCAPE {
+            let mut terminal = in_the_middle();
+            terminal.take(byte);
+            let blank = if byte == codes::CLEAR { SPACE } else { b'A' };
+            assert_eq!(rt; cell_at(&rt, &terminal, 1, 0), blank);
+            let written = if byte >= 0x20 && byte <= 0x7F {
+                byte
+            } else {
+                SPACE
+            };
+            assert_eq!(rt; cell_at(&rt, &terminal, 2, 2), written);
+            let (row, column) = place_after(byte);
+            terminal.take(b'X');
+            assert_eq!(rt; cell_at(&rt, &terminal, row, column), b'X', "after {byte}");
+        }
+    }
+}
+
+#[test]
+fn each_byte_behind_an_escape(rt: HostRuntime) {
+    for byte in 0..=255 {
+        let mut terminal = in_the_middle();
+        terminal.take(codes::ESCAPE);
+        terminal.take(byte);
+        terminal.take(b'X');
+        if byte >= 0x40 && byte <= 0x5F {
+            assert_eq!(rt; cell_at(&rt, &terminal, 2, 2), byte - 0x40);
+            assert_eq!(rt; cell_at(&rt, &terminal, 2, 3), b'X', "after {byte}");
+        } else {
+            assert_eq!(rt; cell_at(&rt, &terminal, 2, 2), b'X', "after {byte}");
+            assert_eq!(rt; cell_at(&rt, &terminal, 2, 3), SPACE);
+        }
+        assert_eq!(rt; cell_at(&rt, &terminal, 1, 0), b'A');
+    }
+}
+
+#[test]
+fn a_painted_screen_and_a_message_are_shown(rt: HostRuntime) {
+    let mut grid = Grid::blank();
+    grid.set_row(1, &row_of(b"AAAAAAAAAAAAAAAAAAAAAAAAAAAAAAAAAAAAAAA\x03"));
+    grid.set_row(2, &row_of(b"A\x03"));
+    grid.set_row(24, &row_of(b"\x0dEND"));
+    let mut terminal = in_the_middle();
+    send(&mut terminal, &Screen::Whole(grid));
+    assert_eq!(rt; *terminal.grid(), grid);
+    let row = row_of(b"KEY YOUR ACCOUNT NUMBER");
+    send(&mut terminal, &Screen::Row(row));
+    grid.set_row(24, &row);
+    assert_eq!(rt; *terminal.grid(), grid);
+    any_bytes_leave_a_screen();
+    screens_are_shown();
+}
+
+/// Gives the bytes of a screen to a terminal.
+fn send(terminal: &mut Terminal, screen: &Screen) {
+    let mut bytes = [0; BUFFER];
+    let count = screen.bytes(&mut bytes);
+    for byte in &bytes[..count] {
+        terminal.take(*byte);
+    }
 }

@@ -1,9 +1,11 @@
-use Rattle.std.proofs.Common.{◌-◌, ◌∷◌, length, take, ap, sym, ◌∙◌, arith}
+use Rattle.std.proofs.Common.{◌-◌, ◌∷◌, length, take, ap, subst, sym, ◌∙◌, arith}
 use Rattle.std.specs.List.{flat_map}
 use Rattle.std.proofs.lemmas.List.{length-append}
 use Rattle.pv_screen.specs.Overwriting.{overwritten}
 use Rattle.pv_screen.specs.Painting.{cells_bytes, line_bytes, painted}
 use Rattle.pv_screen.proofs.Bytes.{length-line_bytes-le, length-row_bytes-le, lines_more, written_behind, front_written, painted_by_rows}
+use Rattle.pv_screen.specs.Terminal.{IsReady, terminal_after}
+use Rattle.pv_screen.proofs.Shows.{painted_shows, painted_ready}
 use Rattle.pv_screen.proofs.painting.paint.Goals as goal
 
 pub loop-row-preserved : goal.loop-row-preserved
@@ -32,4 +34,6 @@ returns c =
       count = front.count;
       within = omega (arith, ap length (ap cells_bytes c.shown.ensures), length-row_bytes-le last c.row-2.ensures.cells.width, c.loop-row.invariant.within);
       behind = front.behind;
+      shows = λ t first. ap (λ bytes. (terminal_after t bytes).cells) front.value ∙ painted_shows c.args.grid.now c.row-2.ensures.all t first;
+      ready = λ t first. subst (λ bytes. IsReady (terminal_after t bytes)) (sym front.value) (painted_ready c.args.grid.now c.row-2.ensures.all t first);
     }
