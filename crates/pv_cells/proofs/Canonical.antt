@@ -14,6 +14,7 @@ use Rattle.pv_cells.proofs.OneOutcome.{one_reading}
 abbrev written : ℕ → Bool → List ℕ
 written byte stands = cond stands (byte ∷ []) (BACKSLASH ∷ digit_char (byte / 16) ∷ digit_char (byte % 16) ∷ [])
 
+-- either form is read as the byte
 written_reads : (byte : ℕ) (stands : Bool) → is_plain byte ≡ stands → IsByte byte → ReadsByte (written byte stands) byte
 written_reads byte true is small = (is, refl)
 written_reads byte false is small =
@@ -57,6 +58,7 @@ and_left false y both = both
 digit_prints : (digit : ℕ) → digit < 16 → can_be_printed (digit_char digit) ≡ true
 digit_prints digit small = grind (arith, nat_tests)
 
+-- either form can be printed
 written_prints : (byte : ℕ) (stands : Bool) → is_plain byte ≡ stands → IsByte byte → AllPass can_be_printed (written byte stands)
 written_prints byte true is small =
     All-cons (λ b. can_be_printed b ≡ true) byte [] (and_left (can_be_printed byte) (not (byte == BACKSLASH)) is) (All-nil (λ b. can_be_printed b ≡ true))

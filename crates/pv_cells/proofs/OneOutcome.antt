@@ -102,6 +102,7 @@ fault_stops at (first ∷ rest) (BadByte place) begins piece left cell whole (es
     backslash_in_range first (cc (whole, backslash)) begins.1
 
 module _ (width : ℕ) (cells rest others : List ℕ) (on : GoesOn cells rest others) (fits : length others ≤ width) (are_cells : All IsCell others) where
+  -- the further byte is a cell
   is_cell : IsCell on.cell
   is_cell =
       let at_its_place = get_or_at cells on.cell on.more 0 (length cells) refl in

@@ -108,6 +108,7 @@ module _ {width : ℕ} {text row : List ℕ} {count at : ℕ} (so_far : RowSoFar
     ends = (omega (arith, length-drop at text), count_is ∙ is_full);
   }
 
+  -- a fault that begins here is what is told here
   fault_ends : (told : NotationError) → BeginsFault at (drop at text) told → count < width → Ends width (take count row) at (drop at text) (Err told)
   fault_ends TooLong begins room = absurd (too_long_begins_nowhere at (drop at text) begins)
   fault_ends (BadEscape place) begins room = (omega (arith, count_is), begins)

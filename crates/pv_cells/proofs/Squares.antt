@@ -59,16 +59,19 @@ no_further_bit weights small part (inr seven) = seven (omega (arith, and_pow wei
 bit_of : Bool → ℕ
 bit_of is_lit = lit is_lit 1
 
+-- a square's part in the sum is its bit times its weight
 lit_is : (is_lit : Bool) (weight : ℕ) → lit is_lit weight ≡ bit_of is_lit * weight
 unfolding bit_of
 lit_is true weight = omega arith
 lit_is false weight = omega arith
 
+-- which is a bit
 bit_of_below : (is_lit : Bool) → bit_of is_lit < 2
 unfolding bit_of
 bit_of_below true = omega arith
 bit_of_below false = omega arith
 
+-- and tells whether the square is lit
 same_square : (one other : Bool) → bit_of one ≡ bit_of other → one ≡ other
 unfolding bit_of
 same_square true true e = refl
@@ -84,6 +87,7 @@ module _ (a b c d e f a' b' c' d' e' f' : ℕ)
   same_bits : (a ≡ a') × (b ≡ b') × (c ≡ c') × (d ≡ d') × (e ≡ e') × (f ≡ f')
   same_bits = (omega arith, omega arith, omega arith, omega arith, omega arith, omega arith)
 
+-- the sum of a block by its bits
 sum_by_bits : (block : Block) → weight_of block ≡ bit_of block.top_left * 1 + bit_of block.top_right * 2 + bit_of block.middle_left * 4 + bit_of block.middle_right * 8 + bit_of block.bottom_left * 16 + bit_of block.bottom_right * 64
 sum_by_bits block = omega (
   arith,
@@ -95,12 +99,15 @@ sum_by_bits block = omega (
   lit_is block.bottom_right 64,
 )
 
+-- which are bits
 are_bits : (block : Block) → (bit_of block.top_left < 2) × (bit_of block.top_right < 2) × (bit_of block.middle_left < 2) × (bit_of block.middle_right < 2) × (bit_of block.bottom_left < 2) × (bit_of block.bottom_right < 2)
 are_bits block = (bit_of_below _, bit_of_below _, bit_of_below _, bit_of_below _, bit_of_below _, bit_of_below _)
 
+-- a block of six squares
 abbrev block : Bool → Bool → Bool → Bool → Bool → Bool → Block
 block a b c d e f = record { top_left = a; top_right = b; middle_left = c; middle_right = d; bottom_left = e; bottom_right = f }
 
+-- blocks are the same where their squares are
 same_squares : (a b c d e f a' b' c' d' e' f' : Bool) → a ≡ a' → b ≡ b' → c ≡ c' → d ≡ d' → e ≡ e' → f ≡ f' → block a b c d e f ≡ block a' b' c' d' e' f'
 same_squares a b c d e f a' b' c' d' e' f' p q r s t u = cc
 
