@@ -9,7 +9,7 @@ use Rattle.pv_network.specs.declared.outcome.Why.TheVariants as why
 use Rattle.pv_network.specs.declared.outcome.Outcome.{Outcome}
 use Rattle.pv_network.specs.declared.outcome.Outcome.TheVariants.{Reply, Shown, Idle, PacketsFull, NoPacket, SentRecord, Taken, Old, Early, Full, NotHeld}
 use Rattle.pv_network.specs.World.{World}
-use Rattle.pv_network.specs.Step.{happens, after}
+use Rattle.pv_network.specs.Step.{happens}
 
 -- the end of a line
 abbrev pub newline : List ℕ

@@ -196,12 +196,13 @@ fn other_words_are_refused(rt: HostRuntime) -> Result<(), Fail> {
 #[test]
 fn the_longest_script_and_one_byte_more(rt: HostRuntime) -> Result<(), Fail> {
     let alloc = rt.alloc();
-    let newlines = vec![in alloc; b'\n'; 1_048_577]?;
-    let (status, sink) = played(alloc, &newlines[..1_048_576])?;
-    assert_eq!(rt; status, Status::Done);
-    assert_eq!(rt; sink.bytes().len(), 0);
+    let mut newlines = vec![in alloc; b'\n'; 1_048_577]?;
     let (status, sink) = played(alloc, &newlines)?;
     assert_eq!(rt; status, Status::TooLong);
+    assert_eq!(rt; sink.bytes().len(), 0);
+    newlines.truncate(1_048_576);
+    let (status, sink) = played(alloc, &newlines)?;
+    assert_eq!(rt; status, Status::Done);
     assert_eq!(rt; sink.bytes().len(), 0);
     Ok(())
 }
