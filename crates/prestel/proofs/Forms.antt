@@ -1,5 +1,5 @@
 -- What the rest of a line is, behind its first word.
-use Rattle.std.proofs.Common.{◌≡◌, ℕ, ◌^◌, ◌<◌, List, [], ◌∷◌, ◌++◌, refl, sym, ap, ◌∙◌, arith}
+use Rattle.std.proofs.Common.{◌≡◌, ℕ, ◌^◌, ◌<◌, List, ◌∷◌, ◌++◌, refl, arith}
 use Rattle.std.specs.Prelude.{codes, decimal}
 use Rattle.pv_page.specs.Names.{Name, IsName, name_text, space}
 use Rattle.pv_network.specs.declared.event.Event.{Event}

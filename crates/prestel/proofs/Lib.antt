@@ -1,6 +1,7 @@
 pub mod Ending
 pub mod Forms
 pub mod Lines
+pub mod Notations
 pub mod Reading
 pub mod Running
 pub mod Words

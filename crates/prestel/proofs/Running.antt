@@ -1,6 +1,5 @@
 -- What was run and written, line by line.
-use Rattle.std.proofs.Common.{◌≡◌, ℕ, ◌+◌, ◌<◌, ◌≤◌, List, [], ◌∷◌, ◌++◌, length, Option, refl, sym, ap, subst, ◌∙◌, append_assoc, arith}
-use Rattle.std.specs.List.{AllZip}
+use Rattle.std.proofs.Common.{◌≡◌, ℕ, ◌+◌, List, [], ◌∷◌, ◌++◌, length, Option, refl, sym, ap, subst, ◌∙◌, append_assoc, arith}
 use Rattle.std.specs.Io.KnownBytes.{Appends}
 use Rattle.std.proofs.lemmas.List.{append-nil, length-append}
 use Rattle.pv_network.specs.declared.event.Event.{Event}
@@ -12,7 +11,7 @@ use Rattle.prestel.specs.declared.grammar.Command.TheVariants.{Nothing, Do}
 use Rattle.prestel.specs.declared.play.TheConstants.{CENTRES}
 use Rattle.prestel.specs.Grammar.{lines_of, Reads, AreCommands, events_of}
 use Rattle.prestel.specs.Transcript.{answer_text, answers}
-use Rattle.prestel.specs.Play.{first_world, IsBadLine, IsPlayed, IsCutShort, IsFront, HasRun}
+use Rattle.prestel.specs.Play.{first_world, IsPlayed, IsCutShort, IsFront, HasRun}
 use Rattle.prestel.proofs.Reading.{Appends-none, Appends-more}
 
 -- ---- events, one list after another

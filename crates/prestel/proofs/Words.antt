@@ -1,7 +1,7 @@
 -- Words end at the first space.
-use Rattle.std.proofs.Common.{◌≡◌, ℕ, ◌+◌, ◌^◌, ◌<◌, ◌≤◌, Bool, true, false, not, ◌&&◌, eqb, nat_eq, List, [], ◌∷◌, ◌++◌, length, refl, sym, ap, ◌∙◌, arith}
+use Rattle.std.proofs.Common.{◌≡◌, ℕ, ◌^◌, ◌<◌, Bool, true, false, not, ◌&&◌, eqb, nat_eq, List, [], ◌∷◌, ◌++◌, refl, sym, ◌∙◌, arith}
 use Rattle.std.specs.Prelude.{decimal}
-use Rattle.std.specs.List.{AllByRecursion, list_all}
+use Rattle.std.specs.List.{list_all}
 use Rattle.std.specs.Cmp.Lexicographic.{pointwise}
 use Rattle.std.proofs.lemmas.Bool.{eq-eqb}
 use Rattle.std.proofs.lemmas.Slice.Eq.{bytes_eq-Decides}
@@ -11,7 +11,7 @@ use Rattle.std.proofs.lemmas.Str.Parse.{digit_from_value}
 use Rattle.std.proofs.lemmas.List.Elements.{recursion_from_All}
 use Rattle.pv_page.specs.Names.{Name, IsName, name_text, space}
 use Rattle.pv_page.proofs.CallerLemmas.{no_space_in_name}
-use Rattle.prestel.specs.Grammar.{IsWord, HasNone, IsCutAt}
+use Rattle.prestel.specs.Grammar.{IsWord, IsCutAt}
 
 -- a text begins with one word
 pub same_word : (a b x y : List ℕ) → IsWord a → IsWord b → a ++ space ∷ x ≡ b ++ space ∷ y → (a ≡ b) × (x ≡ y)

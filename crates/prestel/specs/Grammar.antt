@@ -1,14 +1,13 @@
 -- The script: its lines, and what each of them asks for.
-use Rattle.std.specs.Prelude.{◌≡◌, ℕ, ◌-◌, ◌^◌, ◌<◌, ◌≤◌, true, ◌⊎◌, ◌==◌, List, [], ◌∷◌, ◌++◌, length, codes, decimal, if◌then◌else◌}
-use Rattle.std.specs.List.{AllByRecursion, AllZip, list_all}
+use Rattle.std.specs.Prelude.{◌≡◌, ℕ, ◌^◌, ◌<◌, ◌⊎◌, ◌==◌, List, [], ◌∷◌, ◌++◌, Ok, codes, decimal, if◌then◌else◌}
+use Rattle.std.specs.List.{AllByRecursion, AllZip}
 use Rattle.pv_page.specs.Names.{IsName, name_text, space}
+use Rattle.pv_cells.specs.Row.{TellsRow}
 use Rattle.pv_network.specs.declared.event.Event.{Event}
 use Rattle.pv_network.specs.declared.event.Event.TheVariants.{Seed, Send, Deliver, View}
 use Rattle.prestel.specs.declared.grammar.Command.{Command}
 use Rattle.prestel.specs.declared.grammar.Command.TheVariants.{Nothing, Do}
 use Rattle.prestel.specs.declared.grammar.TheConstants.{REMARK}
-use Rattle.pv_network.specs.Composed.{padded}
-use Rattle.prestel.specs.Notation.{is_plain}
 
 -- ---- parts of a text
 
@@ -35,11 +34,9 @@ lines_of (byte ∷ bytes) = if byte == 10 then [] ∷ lines_of bytes else before
 
 -- ---- what a line asks for
 
--- the text, of at most 40 bytes that stand for themselves, is the row, which spaces fill
-pub record SpellsRow (text row : List ℕ) : Type 0 where
-  pub bytes : list_all is_plain text ≡ true
-  pub fits : length text ≤ 40
-  pub filled : row ≡ padded text
+-- the text is the notation of at most 40 cells, which with spaces behind them are the row
+abbrev pub SpellsRow : List ℕ → List ℕ → Type 0
+SpellsRow text row = TellsRow 40 text (Ok row)
 
 -- bytes with no space among them
 abbrev pub IsWord : List ℕ → Type 0

@@ -1,4 +1,3 @@
 pub mod Grammar
-pub mod Notation
 pub mod Play
 pub mod Transcript

@@ -1,5 +1,6 @@
 -- What is written for what came of events.
 use Rattle.std.specs.Prelude.{ℕ, List, [], ◌∷◌, ◌++◌, Option, Some, None, codes, decimal}
+use Rattle.pv_cells.specs.Notation.{notation_of}
 use Rattle.pv_screen.specs.Painting.{screen_bytes}
 use Rattle.pv_network.specs.declared.event.Event.{Event}
 use Rattle.pv_network.specs.declared.outcome.Why.{Why}
@@ -8,8 +9,7 @@ use Rattle.pv_network.specs.declared.outcome.Why.TheVariants as why
 use Rattle.pv_network.specs.declared.outcome.Outcome.{Outcome}
 use Rattle.pv_network.specs.declared.outcome.Outcome.TheVariants.{Reply, Shown, Idle, PacketsFull, NoPacket, SentRecord, Taken, Old, Early, Full, NotHeld}
 use Rattle.pv_network.specs.World.{World}
-use Rattle.pv_network.specs.Step.{happens, after}
-use Rattle.prestel.specs.Notation.{notation_of}
+use Rattle.pv_network.specs.Step.{happens}
 
 -- the end of a line
 abbrev pub newline : List ℕ

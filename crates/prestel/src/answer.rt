@@ -1,11 +1,16 @@
-ghost use Rattle.std.specs.Prelude.{◌≡◌, ◌++◌, OnOk, decimal};
+ghost use Rattle.std.specs.Prelude.{◌≡◌, ◌≤◌, ◌++◌, length, OnOk, decimal};
+ghost use Rattle.pv_cells.specs.Notation.{notation_of};
 ghost use Rattle.prestel.specs.Transcript.{answer_text, ack_text, end_text, newline};
 
-use crate::notation::push_notation;
 use itoa::Buffer;
+use pv_cells::notation;
+use pv_fields::Out;
 use pv_network::{Outcome, Turn, Why};
-use pv_screen::BUFFER;
+use pv_screen::{BUFFER, LONGEST};
 use std::alloc::AllocError;
+
+/// The most bytes that the notation of a screen has: three for each byte.
+const LONGEST_NOTATION: usize = 3 * LONGEST;
 
 /// Appends the line or lines that tell an outcome.
 pub fn push_answer(text: &mut Vec<u8>, outcome: &Outcome) -> Result<(), AllocError>
@@ -78,6 +83,18 @@ fn push_turn(text: &mut Vec<u8>, turn: &Turn) -> Result<(), AllocError>
     push_notation(text, &bytes[..count])?;
     push_words(text, b"\n")?;
     push_end(text, turn.ended)
+}
+
+/// Appends the notation of the bytes of a screen.
+fn push_notation(text: &mut Vec<u8>, bytes: &[u8]) -> Result<(), AllocError>
+    requires { length bytes.now ≤ LONGEST }
+    ensures { OnOk result (text.new.items ≡ text.old.items ++ notation_of bytes.now) }
+{
+    let mut buffer = [0; LONGEST_NOTATION];
+    let mut out = Out::new(&mut buffer);
+    notation(bytes, &mut out).unwrap();
+    let count = out.written();
+    text.extend_from_slice(&buffer[..count])
 }
 
 /// Appends why a call ended, where it did.

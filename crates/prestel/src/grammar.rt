@@ -2,8 +2,8 @@ ghost use Rattle.std.specs.Prelude.{◌≡◌, ℕ, ◌^◌, ◌<◌, ◌++◌, 
 ghost use Rattle.prestel.specs.Grammar.{Asks, Reads, SpellsRow};
 
 use crate::cut::cut_at;
-use crate::notation::are_plain;
 use itoa::Buffer;
+use pv_cells::ROW_LENGTH;
 use pv_network::Event;
 use pv_page::FrameName;
 
@@ -129,15 +129,10 @@ fn read_number(text: &[u8]) -> Option<u64>
     }
 }
 
-/// The row that a text spells.
-fn row_of(text: &[u8]) -> Option<[u8; 40]>
+/// The row that a text spells in notation.
+fn row_of(text: &[u8]) -> Option<[u8; ROW_LENGTH]>
     ensures found { IfSome result (SpellsRow text.now) }
     ensures only { (row : List ℕ) → SpellsRow text.now row → result ≡ Some row }
 {
-    if text.len() > 40 || !are_plain(text) {
-        return None;
-    }
-    let mut row = [b' '; 40];
-    row[..text.len()].copy_from_slice(text);
-    Some(row)
+    pv_cells::row_of(text).ok()
 }

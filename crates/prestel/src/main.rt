@@ -8,7 +8,6 @@
 mod answer;
 mod cut;
 mod grammar;
-mod notation;
 mod play;
 mod script;
 mod streams;

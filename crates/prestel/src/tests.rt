@@ -65,7 +65,7 @@ fn lost_repeated_and_early_packets(rt: HostRuntime) -> Result<(), Fail> {
 
 #[test]
 fn the_edges_of_the_grammar(rt: HostRuntime) -> Result<(), Fail> {
-    let cases: [(&[u8], &[u8], bool); 31] = [
+    let cases: [(&[u8], &[u8], bool); 35] = [
         (b"\n", b"", true),
         (b"; seed 1a X\n", b"", true),
         (b";\n\n;", b"", true),
@@ -91,6 +91,10 @@ fn the_edges_of_the_grammar(rt: HostRuntime) -> Result<(), Fail> {
         (b"seed a X", b"", false),
         (b"seed 1000000000a X", b"", false),
         (b"seed 1a \\", b"", false),
+        (b"seed 1a \\41", b"OK 0\n", true),
+        (b"seed 1a \\7f", b"OK 0\n", true),
+        (b"seed 1a \\7F", b"OK 0\n", true),
+        (b"seed 1a \\80", b"", false),
         (b"seed 1a \x7f", b"", false),
         (b"seed 1a \x80", b"", false),
         (b"seed 1a X\r\n", b"", false),
@@ -116,6 +120,40 @@ fn the_edges_of_the_grammar(rt: HostRuntime) -> Result<(), Fail> {
         assert_eq!(rt; status, wanted);
         assert_eq!(rt; sink.bytes(), told);
     }
+    Ok(())
+}
+
+/// The line that puts a row of so many escaped cells under 1a.
+fn escapes(alloc: Global, count: usize) -> Result<Vec<u8>, Fail> {
+    let mut line = Vec::new(alloc);
+    line.extend_from_slice(b"seed 1a ")?;
+    for _ in 0..count {
+        line.extend_from_slice(b"\\1f")?;
+    }
+    Ok(line)
+}
+
+#[test]
+fn forty_escapes_are_a_row_and_one_more_are_none(rt: HostRuntime) -> Result<(), Fail> {
+    let alloc = rt.alloc();
+    let (status, sink) = played(alloc, &escapes(alloc, 40)?)?;
+    assert_eq!(rt; status, Status::Done);
+    assert_eq!(rt; sink.bytes(), b"OK 0\n".as_slice());
+    let (status, sink) = played(alloc, &escapes(alloc, 41)?)?;
+    assert_eq!(rt; status, Status::BadLine { line: 1 });
+    assert_eq!(rt; sink.bytes().len(), 0);
+    Ok(())
+}
+
+#[test]
+fn an_escaped_row_is_painted_and_written_in_lower_case(rt: HostRuntime) -> Result<(), Fail> {
+    let script = b"seed 1a \\41\\01RED \\5C\\7F\\1fX\nsend 0\ndeliver 0 0\nview 0 1a";
+    let (status, sink) = played(rt.alloc(), script)?;
+    assert_eq!(rt; status, Status::Done);
+    let front =
+        b"OK 0\nsent 0 record 0\ntaken 0 ack 0\nscreen \\0c                         1a\\0d\\0aA\\1bARED \\5c\\7f\\1b_X\\0d\\0a\\0d\\0a";
+    assert!(rt; sink.bytes().starts_with(front));
+    assert_eq!(rt; sink.bytes().len(), front.len() + 20 * 6 + 1);
     Ok(())
 }
 
@@ -158,12 +196,13 @@ fn other_words_are_refused(rt: HostRuntime) -> Result<(), Fail> {
 #[test]
 fn the_longest_script_and_one_byte_more(rt: HostRuntime) -> Result<(), Fail> {
     let alloc = rt.alloc();
-    let newlines = vec![in alloc; b'\n'; 1_048_577]?;
-    let (status, sink) = played(alloc, &newlines[..1_048_576])?;
-    assert_eq!(rt; status, Status::Done);
-    assert_eq!(rt; sink.bytes().len(), 0);
+    let mut newlines = vec![in alloc; b'\n'; 1_048_577]?;
     let (status, sink) = played(alloc, &newlines)?;
     assert_eq!(rt; status, Status::TooLong);
+    assert_eq!(rt; sink.bytes().len(), 0);
+    newlines.truncate(1_048_576);
+    let (status, sink) = played(alloc, &newlines)?;
+    assert_eq!(rt; status, Status::Done);
     assert_eq!(rt; sink.bytes().len(), 0);
     Ok(())
 }

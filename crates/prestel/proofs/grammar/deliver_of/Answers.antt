@@ -1,6 +1,5 @@
-use Rattle.std.proofs.Common.{◌≡◌, ℕ, Option, Some, None, sym, ◌∙◌, refl, arith}
+use Rattle.std.proofs.Common.{◌≡◌, Some, None, refl, arith}
 use Rattle.std.specs.Prelude.{decimal}
-use Rattle.pv_network.specs.declared.event.Event.{Event}
 use Rattle.prestel.proofs.Words.{no_word, words_agree, decimal_is_word}
 use Rattle.prestel.proofs.Forms.{asks_deliver}
 use Rattle.prestel.proofs.grammar.deliver_of.Goals as goal

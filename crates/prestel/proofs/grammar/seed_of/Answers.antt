@@ -1,6 +1,5 @@
-use Rattle.std.proofs.Common.{◌≡◌, List, ℕ, Option, Some, None, ap, sym, subst, ◌∙◌, refl}
+use Rattle.std.proofs.Common.{◌≡◌, List, ℕ, Some, None, sym, subst, refl}
 use Rattle.pv_page.specs.Names.{name_text}
-use Rattle.pv_network.specs.declared.event.Event.{Event}
 use Rattle.prestel.specs.Grammar.{SpellsRow}
 use Rattle.prestel.proofs.Words.{no_word, words_agree, name_is_word}
 use Rattle.prestel.proofs.Forms.{asks_seed}

@@ -1,4 +1,4 @@
-use Rattle.std.proofs.Common.{◌≡◌, []}
+use Rattle.std.proofs.Common.{[]}
 use Rattle.prestel.proofs.Ending.{refused, not_read_as}
 use Rattle.prestel.proofs.Reading.{nothing_read}
 use Rattle.prestel.proofs.play.play.Goals as goal

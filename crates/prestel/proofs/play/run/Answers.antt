@@ -1,4 +1,4 @@
-use Rattle.std.proofs.Common.{◌≡◌, refl}
+use Rattle.std.proofs.Common.{refl}
 use Rattle.prestel.proofs.Running.{front_of_nothing}
 use Rattle.prestel.proofs.play.run.Goals as goal
 

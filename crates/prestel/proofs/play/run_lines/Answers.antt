@@ -1,4 +1,4 @@
-use Rattle.std.proofs.Common.{◌≡◌, ◌+◌, ◌≤◌, length, ◌∙◌, arith}
+use Rattle.std.proofs.Common.{◌∙◌, arith}
 use Rattle.prestel.proofs.Running.{begins, goes_on}
 use Rattle.prestel.proofs.play.run_lines.Goals as goal
 

@@ -1,5 +1,4 @@
 use Rattle.std.proofs.Common.{◌≡◌, ℕ, ◌-◌, List, [], ◌∷◌, length, take, drop, ap, sym, ◌∙◌, refl, arith}
-use Rattle.std.proofs.lemmas.List.{drop_all}
 use Rattle.prestel.specs.Grammar.{lines_of}
 use Rattle.prestel.proofs.Lines.{line_first, line_last}
 use Rattle.prestel.proofs.script.first_line.Goals as goal

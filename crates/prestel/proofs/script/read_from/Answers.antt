@@ -1,4 +1,4 @@
-use Rattle.std.proofs.Common.{◌≡◌, ◌-◌, ◌≤◌, length, List, ℕ, sym, subst, arith}
+use Rattle.std.proofs.Common.{◌≤◌, length, ℕ, sym, subst, arith}
 use Rattle.std.specs.Prelude.{IfOk}
 use Rattle.prestel.proofs.Reading.{given_from, end_of}
 use Rattle.prestel.proofs.script.read_from.Goals as goal
