@@ -12,7 +12,7 @@ use mir.Val.{bool_byte}
 use Rattle.pv_page.specs.Names.{Name}
 use Rattle.pv_network.specs.declared.record.Record.{Record}
 use Rattle.pv_network.specs.declared.record.TheConstants.{OPERATOR}
-use Rattle.pv_network.specs.Edits.{is_name, puts, is_by, frame_at, frame_count, last_number, IsRun}
+use Rattle.pv_network.specs.Edits.{same_name, puts, is_by, frame_at, frame_count, last_number, IsNumbered}
 
 -- ---- names
 
@@ -21,8 +21,8 @@ both_true true b is = (refl, is)
 both_true false b is = absurd cc
 
 -- names that the test finds alike are one
-pub same_name : (a b : Name) → is_name a b ≡ true → a ≡ b
-same_name a b is =
+pub equal_names : (a b : Name) → same_name a b ≡ true → a ≡ b
+equal_names a b is =
     let both = both_true (eqb a.page b.page) (eqb a.letter b.letter) is in
     let pages : a.page ≡ b.page = eqb-true a.page b.page both.0 in
     let letters : a.letter ≡ b.letter = eqb-true a.letter b.letter both.1 in
@@ -31,7 +31,7 @@ same_name a b is =
 eqb_comm : (m n : ℕ) → eqb m n ≡ eqb n m
 eqb_comm m n = grind (arith, nat_tests)
 
-is_name_comm : (a b : Name) → is_name a b ≡ is_name b a
+is_name_comm : (a b : Name) → same_name a b ≡ same_name b a
 is_name_comm a b = ap (λ (t : Bool). t && eqb a.letter b.letter) (eqb_comm a.page b.page) ∙ ap (λ (t : Bool). eqb b.page a.page && t) (eqb_comm a.letter b.letter)
 
 -- ---- searches from the end
@@ -86,19 +86,19 @@ or-false false = refl
 pub frame_count-push : (edits : List Record) (edit : Record) → frame_count (edits ++ edit ∷ []) ≡ frame_count edits + cond (list_any (puts edit.name) edits) 0 1
 frame_count-push [] edit = refl
 frame_count-push (x ∷ edits) edit =
-    let later : list_any (puts x.name) (edits ++ edit ∷ []) ≡ (list_any (puts x.name) edits || is_name x.name edit.name) =
+    let later : list_any (puts x.name) (edits ++ edit ∷ []) ≡ (list_any (puts x.name) edits || same_name x.name edit.name) =
     list_any-append (puts x.name) edits (edit ∷ [])
-    ∙ ap (λ (t : Bool). list_any (puts x.name) edits || t) (or-false (is_name edit.name x.name) ∙ is_name_comm edit.name x.name) in
-    let agree : is_name x.name edit.name ≡ true → list_any (puts x.name) edits ≡ list_any (puts edit.name) edits =
-    λ is. ap (λ (n : Name). list_any (puts n) edits) (same_name x.name edit.name is) in
+    ∙ ap (λ (t : Bool). list_any (puts x.name) edits || t) (or-false (same_name edit.name x.name) ∙ is_name_comm edit.name x.name) in
+    let agree : same_name x.name edit.name ≡ true → list_any (puts x.name) edits ≡ list_any (puts edit.name) edits =
+    λ is. ap (λ (n : Name). list_any (puts n) edits) (equal_names x.name edit.name is) in
     ap (λ (t : Bool). cond t 0 1 + frame_count (edits ++ edit ∷ [])) later
-    ∙ ap (λ (n : ℕ). cond (list_any (puts x.name) edits || is_name x.name edit.name) 0 1 + n) (frame_count-push edits edit)
-    ∙ arranged (list_any (puts x.name) edits) (list_any (puts edit.name) edits) (is_name x.name edit.name) (frame_count edits) agree
+    ∙ ap (λ (n : ℕ). cond (list_any (puts x.name) edits || same_name x.name edit.name) 0 1 + n) (frame_count-push edits edit)
+    ∙ arranged (list_any (puts x.name) edits) (list_any (puts edit.name) edits) (same_name x.name edit.name) (frame_count edits) agree
 
 -- ---- the next number
 
 -- in a run the operator's last number is the list's length
-pub last_number-run : (edits : List Record) → IsRun edits → last_number edits OPERATOR ≡ length edits
+pub last_number-run : (edits : List Record) → IsNumbered edits → last_number edits OPERATOR ≡ length edits
 last_number-run [] run = refl
 last_number-run (x ∷ edits) run =
     let n = length edits in

@@ -14,7 +14,7 @@ use Rattle.pv_network.specs.declared.packet.Packet.{Packet}
 use Rattle.pv_network.specs.declared.packet.TheConstants.{MAX_PACKETS}
 use Rattle.pv_network.specs.declared.record.Record.{Record}
 use Rattle.pv_network.specs.World.{World, Centre, End, centre_at, with_centre, packet_count}
-use Rattle.pv_network.specs.Step.{is_packets_full, with_packet, sent_number, sent, next_number, packed, acknowledged, with_taken, arrival_of, arrived, delivered_packet, delivered}
+use Rattle.pv_network.specs.Step.{is_packets_full, with_packet, sent_number, sent, next_number, packed, with_acknowledgement, with_taken, arrival_of, arrived, delivered_packet, delivered}
 use Rattle.pv_network.specs.Sound.{IsSound, IsSoundCentre, IsGenuine}
 use Rattle.pv_network.specs.Standing.{Kept, State, kept_centre, kept_of, kept_at, nothing_kept, packets_of, with_down, with_up, with_held, StandsFor, Performs}
 use Rattle.pv_network.proofs.Keeping.{centre_kept, kept_with, packets_kept, count_kept}
@@ -48,22 +48,22 @@ length_held : (w : World) (c : ℕ) → IsSound w → length (take (centre_at w 
 length_held w c sound = length-take-le (centre_at w c).number w.edits (sound_at w c sound).within
 
 acknowledged_kept : (w : World) (c : ℕ) → IsSound w → c < length (kept_of w).centres → sum_by packets_of (kept_of w).centres < MAX_PACKETS
-    → StandsFor (with_centres (kept_of w) (set (kept_of w).centres c (with_up (kept_at (kept_of w).centres c)))) (acknowledged w c).0 × (Some (length (kept_at (kept_of w).centres c).up) ≡ (acknowledged w c).1)
+    → StandsFor (with_centres (kept_of w) (set (kept_of w).centres c (with_up (kept_at (kept_of w).centres c)))) (with_acknowledgement w c).0 × (Some (length (kept_at (kept_of w).centres c).up) ≡ (with_acknowledgement w c).1)
 acknowledged_kept w c sound there room =
     let centre = centre_at w c in
-    let changed : kept_of (acknowledged w c).0 ≡ with_centres (kept_of w) (set (kept_of w).centres c (with_up (kept_at (kept_of w).centres c))) =
+    let changed : kept_of (with_acknowledgement w c).0 ≡ with_centres (kept_of w) (set (kept_of w).centres c (with_up (kept_at (kept_of w).centres c))) =
     rw (room_for_packets w room) (kept_changed w c there (record centre { up = centre.up ++ centre.number ∷ [] }) with_up
     (ap (λ (n : ℕ). record (kept_centre w.edits w.record_limit centre) { up = centre.up ++ n ∷ [] }) (sym (length_held w c sound)))) in
-    let index : Some (length (kept_at (kept_of w).centres c).up) ≡ (acknowledged w c).1 =
+    let index : Some (length (kept_at (kept_of w).centres c).up) ≡ (with_acknowledgement w c).1 =
     rw (room_for_packets w room) (ap (λ (kept : Kept). Some (length kept.up)) (centre_kept w c there)) in
     (record { sound = sound_acknowledged w c sound; same = sym changed }, index)
 
 module _ (s : State) (c : ℕ) (there : c < length s.centres) where
   -- an acknowledgement is made
-  pub acknowledges : (index : ℕ) (centres : List Kept) → sum_by packets_of s.centres < MAX_PACKETS → index ≡ length (kept_at s.centres c).up → centres ≡ set s.centres c (with_up (kept_at s.centres c)) → Performs s (with_centres s centres) (Some index) (λ w. acknowledged w c)
+  pub acknowledges : (index : ℕ) (centres : List Kept) → sum_by packets_of s.centres < MAX_PACKETS → index ≡ length (kept_at s.centres c).up → centres ≡ set s.centres c (with_up (kept_at s.centres c)) → Performs s (with_centres s centres) (Some index) (λ w. with_acknowledgement w c)
   acknowledges index centres room index-is centres-is w stands =
       let Q : State → World → Type 0 = λ t v. c < length t.centres → sum_by packets_of t.centres < MAX_PACKETS
-      → StandsFor (with_centres t (set t.centres c (with_up (kept_at t.centres c)))) (acknowledged v c).0 × (Some (length (kept_at t.centres c).up) ≡ (acknowledged v c).1) in
+      → StandsFor (with_centres t (set t.centres c (with_up (kept_at t.centres c)))) (with_acknowledgement v c).0 × (Some (length (kept_at t.centres c).up) ≡ (with_acknowledgement v c).1) in
       rw (index-is, centres-is) (at_kept s Q (λ v sound. acknowledged_kept v c sound) w stands there room)
 
 -- ---- send

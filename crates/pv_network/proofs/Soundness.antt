@@ -14,10 +14,11 @@ use Rattle.pv_network.specs.declared.packet.Packet.{Packet}
 use Rattle.pv_network.specs.declared.record.Record.{Record}
 use Rattle.pv_network.specs.declared.record.TheConstants.{OPERATOR}
 use Rattle.pv_network.specs.declared.outcome.Outcome.{Outcome}
-use Rattle.pv_network.specs.Edits.{puts, frame_at, frame_count, last_number, IsRun}
+use Rattle.pv_network.specs.Edits.{puts, frame_at, frame_count, last_number, IsNumbered}
 use Rattle.pv_network.specs.World.{World, Centre, Acknowledged, new_centre, start, centre_at, with_centre}
-use Rattle.pv_network.specs.Step.{is_packets_full, next_edit, with_edit, is_frames_full, seeded, next_number, with_packet, packed, sent_number, sent, arrival_of, acknowledged, with_taken, arrived, delivered_packet, delivered, happens, after}
-use Rattle.pv_network.specs.Sound.{IsKept, receipt, receipts_from, IsGenuine, IsSoundCentre, IsSound}
+use Rattle.pv_network.specs.Step.{is_packets_full, next_edit, with_edit, is_frames_full, seeded, next_number, with_packet, packed, sent_number, sent, arrival_of, with_acknowledgement, with_taken, arrived, delivered_packet, delivered, happens, after}
+use Rattle.pv_network.specs.OneList.{IsKept, receipt, receipts_from, OneList}
+use Rattle.pv_network.specs.Sound.{IsGenuine, IsSoundCentre, IsSound}
 use Rattle.pv_network.proofs.Counts.{none-frame_at, frame_count-push, last_number-run}
 use Rattle.pv_network.proofs.Lists.{all_push, all_set, all_at, all_get, all_weaken, get_front, get_push, get_last}
 
@@ -61,7 +62,7 @@ centre_longer edits more centre sound = record {
   acknowledged = sound.acknowledged;
 }
 
-run_push : (edits : List Record) (edit : Record) → IsRun edits → edit.editor ≡ OPERATOR → edit.number ≡ length edits + 1 → IsRun (edits ++ edit ∷ [])
+run_push : (edits : List Record) (edit : Record) → IsNumbered edits → edit.editor ≡ OPERATOR → edit.number ≡ length edits + 1 → IsNumbered (edits ++ edit ∷ [])
 run_push edits edit run editor number place found is =
     elim (get_push edits edit place found is) [
       | inl before ↦ run place found before
@@ -129,7 +130,7 @@ sound_sent w c sound = choice (is_packets_full w) _ _ (λ _. sound) (λ _. numbe
 
 -- ---- deliver
 
-pub sound_acknowledged : (w : World) (c : ℕ) → IsSound w → IsSound (acknowledged w c).0
+pub sound_acknowledged : (w : World) (c : ℕ) → IsSound w → IsSound (with_acknowledgement w c).0
 sound_acknowledged w c sound =
     let here = sound_at w c sound in
     choice (is_packets_full w) _ _ (λ _. sound) (λ _. sound_with w c _ sound (record {
@@ -190,3 +191,12 @@ sound_start centres frames records = record { run = λ place edit is. absurd cc;
     new_ones : (n : ℕ) → AllByRecursion (IsSoundCentre []) (replicate n new_centre)
     new_ones zero = tt
     new_ones (suc n) = (sound_new [], new_ones n)
+
+-- a sound world has one list
+pub one_list : (w : World) → IsSound w → OneList w
+one_list w sound = record {
+  numbered = sound.run;
+  kept = sound.acknowledged;
+  once = sound.once;
+  fronts = all_weaken (IsSoundCentre w.edits) (λ centre. centre.number ≤ length w.edits) (λ centre here. here.within) w.centres sound.centres;
+}

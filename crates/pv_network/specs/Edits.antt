@@ -7,12 +7,12 @@ use Rattle.pv_network.specs.declared.record.Record.{Record}
 use Rattle.pv_network.specs.declared.record.TheConstants.{OPERATOR}
 
 -- the two names are one
-abbrev pub is_name : Name → Name → Bool
-is_name a b = a.page == b.page && a.letter == b.letter
+abbrev pub same_name : Name → Name → Bool
+same_name a b = a.page == b.page && a.letter == b.letter
 
 -- the record puts a frame under this name
 abbrev pub puts : Name → Record → Bool
-puts name edit = is_name edit.name name
+puts name edit = same_name edit.name name
 
 -- the record is this editor's
 abbrev pub is_by : ℕ → Record → Bool
@@ -31,6 +31,6 @@ frame_count (edit ∷ later) = (if list_any (puts edit.name) later then 0 else 1
 abbrev pub last_number : List Record → ℕ → ℕ
 last_number edits editor = option_map_or (λ edit. edit.number) (find (is_by editor) (reverse edits)) 0
 
--- the records are the operator's, numbered 1, 2, 3 and so on
-abbrev pub IsRun : List Record → Type 0
-IsRun edits = (place : ℕ) (edit : Record) → slice_get edits place ≡ Some edit → (edit.editor ≡ OPERATOR) × (edit.number ≡ place + 1)
+-- the records are the operator's, numbered 1, 2, 3 and so on, in order
+abbrev pub IsNumbered : List Record → Type 0
+IsNumbered edits = (place : ℕ) (edit : Record) → slice_get edits place ≡ Some edit → (edit.editor ≡ OPERATOR) × (edit.number ≡ place + 1)

@@ -1,6 +1,7 @@
 pub mod Composed
 pub mod Counting
 pub mod Edits
+pub mod OneList
 pub mod Replies
 pub mod Sound
 pub mod Standing

@@ -43,12 +43,12 @@ seeded w name row = if is_frames_full w name then (w, Reply (frames_full_reply w
 -- ---- view
 
 -- what a centre shows of a name: the frame that the records it has taken give it
-abbrev pub shown : Name → Option (List ℕ) → Outcome
-shown name None = NotHeld
-shown name (Some row) = Shown (record { screen = Whole (composed name row); ended = None })
+abbrev pub view_answer : Name → Option (List ℕ) → Outcome
+view_answer name None = NotHeld
+view_answer name (Some row) = Shown (record { screen = Whole (composed name row); ended = None })
 
 abbrev pub viewed : World → ℕ → Name → World × Outcome
-viewed w c name = (w, shown name (frame_at (held w c) name))
+viewed w c name = (w, view_answer name (frame_at (held w c) name))
 
 -- ---- send
 
@@ -81,9 +81,10 @@ abbrev pub arrival_of : ℕ → ℕ → ℕ → Arrival
 arrival_of taken limit number = if number == taken then (if nat_le limit taken then arrivals.Full else arrivals.Taken)
     else (if nat_lt number taken then arrivals.Old else arrivals.Early)
 
--- the centre's count goes up as an acknowledgement, unless no packet can be made: the world, and the acknowledgement's place
-abbrev pub acknowledged : World → ℕ → World × Option ℕ
-acknowledged w c = if is_packets_full w then (w, None)
+-- The centre sends its count up in an acknowledgement, unless no packet can be made: the world, and the
+-- acknowledgement's place.
+abbrev pub with_acknowledgement : World → ℕ → World × Option ℕ
+with_acknowledgement w c = if is_packets_full w then (w, None)
     else (with_centre w c (record (centre_at w c) { up = (centre_at w c).up ++ (centre_at w c).number ∷ [] }), Some (length (centre_at w c).up))
 
 -- the world with the next record taken
@@ -91,9 +92,9 @@ abbrev pub with_taken : World → ℕ → World
 with_taken w c = with_centre w c (record (centre_at w c) { number = (centre_at w c).number + 1 })
 
 abbrev pub arrived : World → ℕ → ℕ → Arrival → World × Outcome
-arrived w c number arrivals.Taken = let a = acknowledged (with_taken w c) c in (a.0, Taken number a.1)
-arrived w c number arrivals.Old = let a = acknowledged w c in (a.0, Old number a.1)
-arrived w c number arrivals.Early = let a = acknowledged w c in (a.0, Early number a.1)
+arrived w c number arrivals.Taken = let a = with_acknowledgement (with_taken w c) c in (a.0, Taken number a.1)
+arrived w c number arrivals.Old = let a = with_acknowledgement w c in (a.0, Old number a.1)
+arrived w c number arrivals.Early = let a = with_acknowledgement w c in (a.0, Early number a.1)
 arrived w c number arrivals.Full = (w, Full (centre_at w c).number)
 
 -- a packet that was made arrives

@@ -4,6 +4,7 @@ ghost use Rattle.std.specs.Prelude.{ℕ, List};
 ghost use Rattle.pv_network.specs.declared.event.Event.{Event};
 ghost use Rattle.pv_network.specs.World.{start};
 ghost use Rattle.pv_network.specs.Step.{after};
+ghost use Rattle.pv_network.specs.OneList.{OneList};
 ghost use Rattle.pv_network.specs.Sound.{IsSound};
 
 /// Whatever happens, in whatever order, the world is sound: the edit list is a run from nothing with the
@@ -11,5 +12,6 @@ ghost use Rattle.pv_network.specs.Sound.{IsSound};
 /// acknowledged once and in order, each packet carries the list's record of its number, and each centre
 /// has a front of the list.
 pub fn every_reachable_world_is_sound()
-    ensures { (centres frames records : ℕ) (events : List Event) → IsSound (after (start centres frames records) events) }
+    ensures one_list { (centres frames records : ℕ) (events : List Event) → OneList (after (start centres frames records) events) }
+    ensures sound { (centres frames records : ℕ) (events : List Event) → IsSound (after (start centres frames records) events) }
 {}

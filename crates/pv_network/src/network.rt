@@ -3,7 +3,7 @@ ghost use Rattle.pv_screen.specs.Grid.{IsRow};
 ghost use Rattle.pv_network.specs.declared.packet.TheConstants.{MAX_PACKETS};
 ghost use Rattle.pv_network.specs.Edits.{frame_at};
 ghost use Rattle.pv_network.specs.World.{start};
-ghost use Rattle.pv_network.specs.Step.{seeded, sent, delivered, viewed, acknowledged, happens};
+ghost use Rattle.pv_network.specs.Step.{seeded, sent, delivered, viewed, with_acknowledgement, happens};
 ghost use Rattle.pv_network.specs.Standing.{StandsFor, Performs, CanHappen, kept_at, with_down, with_held, with_up, with_record, refusal_of};
 
 use crate::centre::{Arrival, Centre, acknowledge_at, last_frame, open_centres, pack_at, take_at};
@@ -206,7 +206,7 @@ impl Network {
     /// index is answered.
     fn acknowledge(&mut self, centre: usize) -> Option<u64>
         requires { centre < length self.old.centres }
-        ensures performs { Performs self.old self.new result (λ w. acknowledged w centre) }
+        ensures performs { Performs self.old self.new result (λ w. with_acknowledgement w centre) }
         ensures centres { length self.new.centres ≡ length self.old.centres }
     {
         if self.packets >= MAX_PACKETS {

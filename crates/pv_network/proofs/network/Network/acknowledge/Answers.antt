@@ -4,7 +4,7 @@ use Rattle.std.specs.Vec.{with_items}
 use Rattle.std.proofs.lemmas.List.{with_items_is}
 use Rattle.pv_network.specs.declared.packet.TheConstants.{MAX_PACKETS}
 use Rattle.pv_network.specs.Standing.{Kept, State, Performs, packets_of}
-use Rattle.pv_network.specs.Step.{acknowledged}
+use Rattle.pv_network.specs.Step.{with_acknowledgement}
 use Rattle.pv_network.proofs.Performing.{acknowledges}
 use Rattle.pv_network.proofs.network.Network.acknowledge.Goals as goal
 
@@ -19,5 +19,5 @@ returns-clause-performs c =
     let there = rw (← c.self.view_is) at c.requires in
     let room : sum_by packets_of vec.items < MAX_PACKETS = omega (arith, c.self.invariant.packets) in
     let state : State = record { edits = c.self.inside.edits.items; frame_limit = c.self.inside.limits.frames; record_limit = c.self.inside.limits.records; centres = vec.items } in
-    subst (λ (s : State). Performs s (record state { centres = new }) (Some c.acknowledge_at-index.result) (λ w. acknowledged w c.args.centre)) c.self.view_is
+    subst (λ (s : State). Performs s (record state { centres = new }) (Some c.acknowledge_at-index.result) (λ w. with_acknowledgement w c.args.centre)) c.self.view_is
     (acknowledges state c.args.centre there c.acknowledge_at-index.result new room index made)
