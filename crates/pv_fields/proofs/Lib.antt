@@ -1,0 +1,3 @@
+mod Appending
+pub mod CallerLemmas
+mod Facts

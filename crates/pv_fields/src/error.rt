@@ -1,0 +1,11 @@
+use thiserror::Error;
+
+/// The bytes do not fit into what is left of the slice; nothing was written.
+#[derive(Clone, Copy, Debug, PartialEq, Eq, Error)]
+#[error("no room is left for the bytes")]
+pub struct NoRoom;
+
+/// Fewer bytes are left than were asked for; nothing was taken.
+#[derive(Clone, Copy, Debug, PartialEq, Eq, Error)]
+#[error("fewer bytes are left than were asked for")]
+pub struct Short;

@@ -1,0 +1,92 @@
+ghost use Rattle.std.specs.Prelude.{◌≡◌, ◌<◌, ◌≤◌, ◌↔◌, [], ◌∷◌, length, IsErr, OnOk, OnErr};
+ghost use Rattle.std.specs.Int.{w16, w32, w64, to_be_bytes};
+
+use crate::error::NoRoom;
+
+/// Appends into a slice of the caller's, from its front on.
+///
+/// Each call that appends either does so whole or answers [`NoRoom`] and changes nothing.
+#[derive(Drop)]
+pub struct Out<'a> {
+    into: &'a mut [u8],
+    count: usize,
+    ghost within: { count ≤ length into.now },
+}
+
+impl<'a> Out<'a> {
+    ghost use Rattle.pv_fields.specs.Out.{written_of, rest_of, room_of, slice_of, Appends};
+
+    /// Begins at the front of the slice, with all of it as room.
+    pub fn new(into: &'a mut [u8]) -> Out<'a>
+        ensures empty { written_of result ≡ [] }
+        ensures rest { rest_of result ≡ into.old }
+        ensures slice { slice_of result ≡ into.entry.ghost_name }
+    {
+        Out { into, count: 0 }
+    }
+
+    /// The number of bytes appended so far.
+    pub fn written(&self) -> usize
+        ensures count { result ≡ length (written_of self.now) }
+    {
+        self.count
+    }
+
+    /// The number of bytes that still fit.
+    pub fn room(&self) -> usize
+        ensures room { result ≡ room_of self.now }
+    {
+        self.into.len() - self.count
+    }
+
+    /// Appends one byte.
+    pub fn u8(&mut self, v: u8) -> Result<(), NoRoom>
+        ensures ok { OnOk result (Appends self.old self.new (v ∷ [])) }
+        ensures refused { IsErr result ↔ (room_of self.old < 1) }
+        ensures err { OnErr result (self.new ≡ self.old) }
+    {
+        self.run(&[v])
+    }
+
+    /// Appends a number as two bytes, the higher one first.
+    pub fn u16(&mut self, v: u16) -> Result<(), NoRoom>
+        ensures ok { OnOk result (Appends self.old self.new (to_be_bytes w16 v)) }
+        ensures refused { IsErr result ↔ (room_of self.old < 2) }
+        ensures err { OnErr result (self.new ≡ self.old) }
+    {
+        self.run(&v.to_be_bytes())
+    }
+
+    /// Appends a number as four bytes, the highest first.
+    pub fn u32(&mut self, v: u32) -> Result<(), NoRoom>
+        ensures ok { OnOk result (Appends self.old self.new (to_be_bytes w32 v)) }
+        ensures refused { IsErr result ↔ (room_of self.old < 4) }
+        ensures err { OnErr result (self.new ≡ self.old) }
+    {
+        self.run(&v.to_be_bytes())
+    }
+
+    /// Appends a number as eight bytes, the highest first.
+    pub fn u64(&mut self, v: u64) -> Result<(), NoRoom>
+        ensures ok { OnOk result (Appends self.old self.new (to_be_bytes w64 v)) }
+        ensures refused { IsErr result ↔ (room_of self.old < 8) }
+        ensures err { OnErr result (self.new ≡ self.old) }
+    {
+        self.run(&v.to_be_bytes())
+    }
+
+    /// Appends these bytes.
+    pub fn run(&mut self, bytes: &[u8]) -> Result<(), NoRoom>
+        ensures ok { OnOk result (Appends self.old self.new bytes.now) }
+        ensures refused { IsErr result ↔ (room_of self.old < length bytes.now) }
+        ensures err { OnErr result (self.new ≡ self.old) }
+    {
+        if self.room() < bytes.len() {
+            return Err(NoRoom);
+        }
+        let end = self.count + bytes.len();
+        self.into[self.count..end].copy_from_slice(bytes);
+        self.count = end;
+        Ok(())
+    }
+}

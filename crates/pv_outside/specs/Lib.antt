@@ -1,0 +1,4 @@
+pub mod Counts
+pub mod Sink
+pub mod Source
+pub mod Status

@@ -1,0 +1,16 @@
+-- What one read does to what a source tells of itself.
+use Rattle.std.specs.Prelude.{◌≡◌, ℕ, Bool, ◌||◌, ◌&&◌, ◌==◌, nat_lt, List, take, length, Option, Result, MatchResult}
+use Rattle.std.specs.Io.KnownBytes.{Appends, Consumes, Keeps}
+use Rattle.pv_outside.specs.declared.failed.Failed.{Failed}
+
+-- the end is met where a read that has room answers 0, and stays met
+abbrev pub Ends : Bool → Bool → Result ℕ Failed → ℕ → Type 0
+Ends before now answer room = MatchResult answer (λ n. now ≡ (before || (n == 0 && nat_lt 0 room))) (λ _. now ≡ before)
+
+-- the bytes that were given join those read so far; a fault reads nothing
+abbrev pub Takes : Option (List ℕ) → Option (List ℕ) → Result ℕ Failed → List ℕ → Type 0
+Takes before now answer into = MatchResult answer (λ n. Appends before now (take n into)) (λ _. Keeps before now)
+
+-- the bytes that were given are gone from those that are left; a fault leaves all
+abbrev pub Leaves : Option (List ℕ) → Option (List ℕ) → Result ℕ Failed → List ℕ → Type 0
+Leaves before now answer into = MatchResult answer (λ n. Consumes before now (take n into)) (λ _. Keeps before now)

@@ -1,0 +1,22 @@
+ghost use Rattle.std.specs.Prelude.{ℕ, ◌≤◌, List, Option, IsErr};
+ghost use Rattle.pv_outside.specs.Counts.{Rose};
+ghost use Rattle.pv_outside.specs.Sink.{Writes};
+
+use crate::failed::Failed;
+
+/// Where bytes go to: memory, a terminal, a line.
+pub trait Sink {
+    /// How often a write has failed.
+    ghost write_faults: { Self → ℕ };
+
+    /// The bytes that were written so far, where the sink can tell them.
+    ghost written: { Self → Option (List ℕ) };
+
+    /// Appends the bytes. After a fault a front of them was appended, perhaps none or all.
+    fn write_all(&mut self, bytes: &[u8]) -> Result<(), Failed>
+        ensures written { Writes (written self.old) (written self.new) result bytes.now }
+
+        // The count of faults never falls, and a fault is told only where it rose.
+        ensures counted { write_faults self.old ≤ write_faults self.new }
+        ensures failed { IsErr result → Rose (write_faults self.old) (write_faults self.new) };
+}

@@ -1,0 +1,54 @@
+ghost use Rattle.std.specs.Prelude.{◌≡◌};
+ghost use Rattle.pv_outside.specs.Status.{number_of};
+
+use std::fmt;
+
+/// How a program ends.
+#[derive(Clone, Copy, Debug, PartialEq, Eq)]
+pub enum Status {
+    /// All was done.
+    Done,
+    /// The words of the command line are none of the program's.
+    Usage,
+    /// The line of this number, counted from 1, is none of the script's forms.
+    BadLine { line: u32 },
+    /// The input could not be read.
+    ReadFault,
+    /// The output could not be written.
+    WriteFault,
+    /// Memory ran out.
+    Memory,
+    /// The script has more bytes than a script may have.
+    TooLong,
+}
+
+impl Status {
+    /// The number that the process ends with.
+    pub fn number(self) -> u8
+        ensures { result ≡ number_of self }
+    {
+        match self {
+            Status::Done => 0,
+            Status::Usage => 2,
+            Status::BadLine { .. } => 3,
+            Status::ReadFault => 4,
+            Status::WriteFault => 5,
+            Status::Memory => 6,
+            Status::TooLong => 7,
+        }
+    }
+}
+
+impl fmt::Display for Status {
+    fn fmt<W: fmt::Write>(&self, f: &mut fmt::Formatter<W>) -> fmt::Result {
+        match self {
+            Status::Done => write!(f, "done"),
+            Status::Usage => write!(f, "usage: prestel play 1 < SCRIPT"),
+            Status::BadLine { line } => write!(f, "line {line} is none of the script's forms"),
+            Status::ReadFault => write!(f, "the input could not be read"),
+            Status::WriteFault => write!(f, "the output could not be written"),
+            Status::Memory => write!(f, "memory ran out"),
+            Status::TooLong => write!(f, "the script is longer than 1048576 bytes"),
+        }
+    }
+}
