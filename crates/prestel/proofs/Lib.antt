@@ -1,0 +1,6 @@
+pub mod Ending
+pub mod Forms
+pub mod Lines
+pub mod Reading
+pub mod Running
+pub mod Words

@@ -1,0 +1,67 @@
+-- What is read of a source, piece by piece.
+use Rattle.std.proofs.Common.{◌≡◌, ℕ, ◌+◌, ◌-◌, ◌≤◌, List, [], ◌∷◌, ◌++◌, length, take, drop, Option, Some, None, Result, Ok, Err, refl, sym, ap, ◌∙◌, append_assoc, arith}
+use Rattle.std.specs.Prelude.{IfOk}
+use Rattle.std.specs.Io.KnownBytes.{Appends, Consumes, Keeps}
+use Rattle.std.proofs.lemmas.List.{append-nil, length-take-le, take-append-le}
+use Rattle.std.proofs.Math.Seq.{take-append-add}
+use borrow.Rule.Slice.PartMut.{put_mid, post_of}
+use Rattle.pv_outside.specs.Source.{Takes, Leaves}
+use Rattle.pv_outside.specs.declared.failed.Failed.{Failed}
+use Rattle.prestel.specs.Play.{HasRead}
+
+-- ---- what is known of bytes
+
+pub Appends-none : (a : Option (List ℕ)) → Appends a a []
+Appends-none None = tt
+Appends-none (Some xs) = sym (append-nil xs)
+
+pub Appends-more : (a b c : Option (List ℕ)) (x y : List ℕ) → Appends a b x → Appends b c y → Appends a c (x ++ y)
+Appends-more None b c x y p q = tt
+Appends-more (Some xs) None c x y p q = absurd p
+Appends-more (Some xs) (Some ys) None x y p q = absurd q
+Appends-more (Some xs) (Some ys) (Some zs) x y p q = q ∙ ap (λ (l : List ℕ). l ++ y) p ∙ append_assoc xs x y
+
+Consumes-none : (a : Option (List ℕ)) → Consumes a a []
+Consumes-none None = tt
+Consumes-none (Some xs) = refl
+
+Consumes-more : (a b c : Option (List ℕ)) (x y : List ℕ) → Consumes a b x → Consumes b c y → Consumes a c (x ++ y)
+Consumes-more None b c x y p q = tt
+Consumes-more (Some xs) None c x y p q = absurd p
+Consumes-more (Some xs) (Some ys) None x y p q = absurd q
+Consumes-more (Some xs) (Some ys) (Some zs) x y p q = p ∙ ap (λ (l : List ℕ). x ++ l) q ∙ sym (append_assoc x y zs)
+
+Keeps-appends : (a b : Option (List ℕ)) → Keeps a b → Appends a b []
+Keeps-appends None b p = tt
+Keeps-appends (Some xs) None p = absurd p
+Keeps-appends (Some xs) (Some ys) p = p ∙ sym (append-nil xs)
+
+Keeps-consumes : (a b : Option (List ℕ)) → Keeps a b → Consumes a b []
+Keeps-consumes None b p = tt
+Keeps-consumes (Some xs) None p = absurd p
+Keeps-consumes (Some xs) (Some ys) p = sym p
+
+-- ---- what is read
+
+pub nothing_read : (t l : Option (List ℕ)) → HasRead t t l l []
+nothing_read t l = record { taken = Appends-none t; left = Consumes-none l }
+
+pub read_more : (a b c d e f : Option (List ℕ)) (x y : List ℕ) → HasRead a b d e x → HasRead b c e f y → HasRead a c d f (x ++ y)
+read_more a b c d e f x y p q = record { taken = Appends-more a b c x y p.taken q.taken; left = Consumes-more d e f x y p.left q.left }
+
+-- a read that failed read nothing
+pub read_kept : (a b c d e f : Option (List ℕ)) (x : List ℕ) → HasRead a b d e x → Keeps b c → Keeps e f → HasRead a c d f x
+read_kept a b c d e f x p taken left =
+    let more = read_more a b c d e f x [] p (record { taken = Keeps-appends b c taken; left = Keeps-consumes e f left }) in
+    rw (append-nil x) at more
+
+-- a read into a slice from a place on gives bytes that stand there
+pub given_from : (r : Result ℕ Failed) (tb tn lb ln : Option (List ℕ)) (at : ℕ) (into part : List ℕ) → at ≤ length into → IfOk r (λ n. n ≤ length part) → Takes tb tn r part → Leaves lb ln r part
+    → IfOk r (λ count. (given : List ℕ) × HasRead tb tn lb ln given × (length given ≡ count) × (take (at + count) (put_mid at (length into - at) into part) ≡ take at into ++ given))
+given_from (Err e) tb tn lb ln at into part within fits takes leaves = tt
+given_from (Ok n) tb tn lb ln at into part within fits takes leaves =
+    let front : length (take at into) ≡ at = length-take-le at into within in
+    let rest = post_of at (length into - at) into in
+    (take n part, record { taken = takes; left = leaves }, length-take-le n part fits,
+     ap (λ (k : ℕ). take (k + n) (take at into ++ (part ++ rest))) (sym front) ∙ take-append-add (take at into) (part ++ rest) n
+     ∙ ap (λ (l : List ℕ). take at into ++ l) (take-append-le n part rest fits))

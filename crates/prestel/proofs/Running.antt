@@ -1,0 +1,89 @@
+-- What was run and written, line by line.
+use Rattle.std.proofs.Common.{◌≡◌, ℕ, ◌+◌, ◌<◌, ◌≤◌, List, [], ◌∷◌, ◌++◌, length, Option, refl, sym, ap, subst, ◌∙◌, append_assoc, arith}
+use Rattle.std.specs.List.{AllZip}
+use Rattle.std.specs.Io.KnownBytes.{Appends}
+use Rattle.std.proofs.lemmas.List.{append-nil, length-append}
+use Rattle.pv_network.specs.declared.event.Event.{Event}
+use Rattle.pv_network.specs.World.{World}
+use Rattle.pv_network.specs.Step.{happens, after}
+use Rattle.pv_network.specs.Standing.{State, StandsFor}
+use Rattle.prestel.specs.declared.grammar.Command.{Command}
+use Rattle.prestel.specs.declared.grammar.Command.TheVariants.{Nothing, Do}
+use Rattle.prestel.specs.declared.play.TheConstants.{CENTRES}
+use Rattle.prestel.specs.Grammar.{lines_of, Reads, AreCommands, events_of}
+use Rattle.prestel.specs.Transcript.{answer_text, answers}
+use Rattle.prestel.specs.Play.{first_world, IsBadLine, IsPlayed, IsCutShort, HasRun}
+use Rattle.prestel.proofs.Reading.{Appends-none, Appends-more}
+
+-- ---- events, one list after another
+
+events_of-append : (cs ds : List Command) → events_of (cs ++ ds) ≡ events_of cs ++ events_of ds
+events_of-append [] ds = refl
+events_of-append (Nothing ∷ cs) ds = events_of-append cs ds
+events_of-append (Do event ∷ cs) ds = ap (λ (l : List Event). event ∷ l) (events_of-append cs ds)
+
+after-append : (w : World) (es fs : List Event) → after w (es ++ fs) ≡ after (after w es) fs
+after-append w [] fs = refl
+after-append w (e ∷ es) fs = after-append (happens w e).0 es fs
+
+answers-append : (w : World) (es fs : List Event) → answers w (es ++ fs) ≡ answers w es ++ answers (after w es) fs
+answers-append w [] fs = refl
+answers-append w (e ∷ es) fs =
+    ap (λ (l : List ℕ). answer_text (happens w e).1 ++ l) (answers-append (happens w e).0 es fs)
+    ∙ sym (append_assoc (answer_text (happens w e).1) (answers (happens w e).0 es) (answers (after (happens w e).0 es) fs))
+
+-- one line more reads as one command more
+commands-push : (lines : List (List ℕ)) (commands : List Command) (line : List ℕ) (command : Command) → AreCommands CENTRES lines commands → Reads CENTRES line command → AreCommands CENTRES (lines ++ line ∷ []) (commands ++ command ∷ [])
+commands-push [] [] line command read reads = (reads, tt)
+commands-push [] (c ∷ cs) line command read reads = absurd read
+commands-push (l ∷ ls) [] line command read reads = absurd read
+commands-push (l ∷ ls) (c ∷ cs) line command read reads = (read.0, commands-push ls cs line command read.1 reads)
+
+-- ---- the run so far
+
+-- the lines before the rest were read as commands, the network stands for the world after them, and their answers were written
+pub record Progress (text rest : List ℕ) (number : ℕ) (network : State) (before now : Option (List ℕ)) : Type 0 where
+  pub done : List (List ℕ)
+  pub commands : List Command
+  pub lines : lines_of text ≡ done ++ lines_of rest
+  pub count : length done ≡ number
+  pub read : AreCommands CENTRES done commands
+  pub stands : StandsFor network (after first_world (events_of commands))
+  pub written : Appends before now (answers first_world (events_of commands))
+
+pub begins : (text : List ℕ) (network : State) (before : Option (List ℕ)) → StandsFor network first_world → Progress text text 0 network before before
+begins text network before stands = record { done = []; commands = []; lines = refl; count = refl; read = tt; stands = stands; written = Appends-none before }
+
+-- one line more was run
+pub goes_on : (text rest line behind : List ℕ) (number : ℕ) (old new : State) (before mid now : Option (List ℕ)) → Progress text rest number old before mid → lines_of rest ≡ line ∷ lines_of behind → HasRun line old new mid now → Progress text behind (number + 1) new before now
+goes_on text rest line behind number old new before mid now p is run =
+    let command = run.0 in
+    let step = run.2 (after first_world (events_of p.commands)) p.stands in
+    let events = events_of-append p.commands (command ∷ []) in
+    record {
+      done = p.done ++ line ∷ [];
+      commands = p.commands ++ command ∷ [];
+      lines = p.lines ∙ ap (λ (l : List (List ℕ)). p.done ++ l) is ∙ sym (append_assoc p.done (line ∷ []) (lines_of behind));
+      count = omega (arith, length-append p.done (line ∷ []), p.count);
+      read = commands-push p.done p.commands line command p.read run.1;
+      stands = subst (λ (w : World). StandsFor new w) (sym (ap (after first_world) events ∙ after-append first_world (events_of p.commands) (events_of (command ∷ [])))) step.0;
+      written = subst (λ (l : List ℕ). Appends before now l) (sym (ap (answers first_world) events ∙ answers-append first_world (events_of p.commands) (events_of (command ∷ []))))
+          (Appends-more before mid now (answers first_world (events_of p.commands)) (answers (after first_world (events_of p.commands)) (events_of (command ∷ []))) p.written step.1);
+    }
+
+-- nothing is left
+pub ends : (text : List ℕ) (number : ℕ) (network : State) (before now : Option (List ℕ)) (rest : List ℕ) → Progress text rest number network before now → rest ≡ [] → IsPlayed text network before now
+ends text number network before now rest p none = record {
+  commands = p.commands;
+  read = subst (λ (l : List (List ℕ)). AreCommands CENTRES l p.commands) (sym (p.lines ∙ ap (λ (r : List ℕ). p.done ++ lines_of r) none ∙ append-nil p.done)) p.read;
+  stands = p.stands;
+  written = p.written;
+  }
+
+-- the next line is none of the forms
+pub cut_short : (text rest line behind : List ℕ) (number : ℕ) (network : State) (before now : Option (List ℕ)) → Progress text rest number network before now → lines_of rest ≡ line ∷ lines_of behind → ((command : Command) → Reads CENTRES line command → ⊥) → IsCutShort text (number + 1) before now
+cut_short text rest line behind number network before now p is none = record {
+  commands = p.commands;
+  line = record { before = p.done; bad = line; behind = lines_of behind; lines = p.lines ∙ ap (λ (l : List (List ℕ)). p.done ++ l) is; number = omega (arith, p.count); read = p.read; none = none };
+  written = p.written;
+  }

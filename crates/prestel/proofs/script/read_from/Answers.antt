@@ -1,0 +1,13 @@
+use Rattle.std.proofs.Common.{◌≡◌, ◌-◌, ◌≤◌, length, List, ℕ, sym, subst, arith}
+use Rattle.std.specs.Prelude.{IfOk}
+use Rattle.prestel.proofs.Reading.{given_from}
+use Rattle.prestel.proofs.script.read_from.Goals as goal
+
+-- what was read stands behind what stood there
+pub returns-clause-read : goal.returns-clause-read
+returns-clause-read g c =
+    let e = c.read.ensures in
+    let at = c.args.at in
+    let into = c.args.into.now in
+    let fits : IfOk c.read.result (λ n. n ≤ length c.read.new.into) = subst (λ (k : ℕ). IfOk c.read.result (λ n. n ≤ k)) (sym c.read.auto.into) e.within in
+    given_from c.read.result _ _ _ _ at into c.read.new.into (omega arith) fits e.taken e.left

@@ -1,0 +1,114 @@
+-- How a play may end, and what then was read and written.
+use Rattle.std.specs.Prelude.{◌≡◌, ℕ, ◌+◌, ◌≤◌, ◌↔◌, Bool, IsTrue, List, [], ◌∷◌, ◌++◌, length, Option, IsSomeAnd, codes}
+use Rattle.std.specs.Io.KnownBytes.{Appends, Consumes}
+use Rattle.pv_outside.specs.Counts.{Rose}
+use Rattle.pv_outside.specs.declared.status.Status.{Status}
+use Rattle.pv_outside.specs.declared.status.Status.TheVariants.{Done, Usage, BadLine, ReadFault, WriteFault, Memory, TooLong}
+use Rattle.pv_network.specs.World.{World, start}
+use Rattle.pv_network.specs.Step.{after}
+use Rattle.pv_network.specs.Standing.{State, StandsFor}
+use Rattle.prestel.specs.declared.grammar.Command.{Command}
+use Rattle.prestel.specs.declared.play.TheConstants.{CENTRES, FRAMES, RECORDS}
+use Rattle.prestel.specs.declared.script.TheConstants.{LONGEST_SCRIPT}
+use Rattle.prestel.specs.Grammar.{lines_of, AreCommands, Reads, events_of}
+use Rattle.prestel.specs.Transcript.{answers}
+
+-- the words that ask for a play of one centre
+abbrev pub play_words : List (List ℕ)
+play_words = codes "play" ∷ codes "1" ∷ []
+
+-- the world in which a play begins
+abbrev pub first_world : World
+first_world = start CENTRES FRAMES RECORDS
+
+-- the bytes were read, and nothing else
+pub record HasRead (taken_before taken_now left_before left_now : Option (List ℕ)) (text : List ℕ) : Type 0 where
+  pub taken : Appends taken_before taken_now text
+  pub left : Consumes left_before left_now text
+
+-- the line of this number is the first of the text that is none of the forms: those before it read as these commands
+pub record IsBadLine (text : List ℕ) (line : ℕ) (commands : List Command) : Type 0 where
+  pub before : List (List ℕ)
+  pub bad : List ℕ
+  pub behind : List (List ℕ)
+  pub lines : lines_of text ≡ before ++ bad ∷ behind
+  pub number : length before + 1 ≡ line
+  pub read : AreCommands CENTRES before commands
+  pub none : (command : Command) → Reads CENTRES bad command → ⊥
+
+-- every line of the text was read and run, and what was written is the answers
+pub record IsPlayed (text : List ℕ) (network : State) (written_before written_now : Option (List ℕ)) : Type 0 where
+  pub commands : List Command
+  pub read : AreCommands CENTRES (lines_of text) commands
+  pub stands : StandsFor network (after first_world (events_of commands))
+  pub written : Appends written_before written_now (answers first_world (events_of commands))
+
+-- the lines before the first that is none of the forms were read and run, and what was written is their answers
+pub record IsCutShort (text : List ℕ) (number : ℕ) (written_before written_now : Option (List ℕ)) : Type 0 where
+  pub commands : List Command
+  pub line : IsBadLine text number commands
+  pub written : Appends written_before written_now (answers first_world (events_of commands))
+
+-- What a play made of the text that it read: too long is exactly a text of one byte more than a script may have, done
+-- says that the end was met and all was run, and a bad line is the first that is none of the forms.
+pub record IsPlayOf (text : List ℕ) (status : Status) (network : Option State) (ended : Bool) (written_before written_now : Option (List ℕ)) : Type 0 where
+  pub within : length text ≤ LONGEST_SCRIPT + 1
+  pub too_long : (status ≡ TooLong) ↔ (length text ≡ LONGEST_SCRIPT + 1)
+  pub done : status ≡ Done → IsTrue ended × IsSomeAnd network (λ n. IsPlayed text n written_before written_now)
+  pub bad_line : (number : ℕ) → status ≡ BadLine number → IsTrue ended × IsCutShort text number written_before written_now
+
+-- nothing was run
+abbrev pub IsNotRun : Status → Type 0
+IsNotRun Usage = Unit {0}
+IsNotRun ReadFault = Unit {0}
+IsNotRun TooLong = Unit {0}
+IsNotRun Done = ⊥
+IsNotRun (BadLine number) = ⊥
+IsNotRun WriteFault = ⊥
+IsNotRun Memory = ⊥
+
+-- why a text was not read to its end
+abbrev pub IsReadEnd : List ℕ → ℕ → ℕ → Status → Type 0
+IsReadEnd text faults_before faults_now TooLong = length text ≡ LONGEST_SCRIPT + 1
+IsReadEnd text faults_before faults_now ReadFault = (length text ≤ LONGEST_SCRIPT) × Rose faults_before faults_now
+IsReadEnd text faults_before faults_now Memory = text ≡ []
+IsReadEnd text faults_before faults_now Done = ⊥
+IsReadEnd text faults_before faults_now Usage = ⊥
+IsReadEnd text faults_before faults_now (BadLine number) = ⊥
+IsReadEnd text faults_before faults_now WriteFault = ⊥
+
+-- why a text's lines were not all run
+abbrev pub IsRunEnd : List ℕ → Option (List ℕ) → Option (List ℕ) → ℕ → ℕ → Status → Type 0
+IsRunEnd text before now faults_before faults_now (BadLine number) = IsCutShort text number before now
+IsRunEnd text before now faults_before faults_now WriteFault = Rose faults_before faults_now
+IsRunEnd text before now faults_before faults_now Memory = Unit {0}
+IsRunEnd text before now faults_before faults_now Done = ⊥
+IsRunEnd text before now faults_before faults_now Usage = ⊥
+IsRunEnd text before now faults_before faults_now ReadFault = ⊥
+IsRunEnd text before now faults_before faults_now TooLong = ⊥
+
+-- why a line was not run
+abbrev pub IsLineEnd : List ℕ → ℕ → Option (List ℕ) → Option (List ℕ) → ℕ → ℕ → Status → Type 0
+IsLineEnd line number before now faults_before faults_now (BadLine bad) = (bad ≡ number) × ((command : Command) → Reads CENTRES line command → ⊥) × (now ≡ before)
+IsLineEnd line number before now faults_before faults_now WriteFault = Rose faults_before faults_now
+IsLineEnd line number before now faults_before faults_now Memory = Unit {0}
+IsLineEnd line number before now faults_before faults_now Done = ⊥
+IsLineEnd line number before now faults_before faults_now Usage = ⊥
+IsLineEnd line number before now faults_before faults_now ReadFault = ⊥
+IsLineEnd line number before now faults_before faults_now TooLong = ⊥
+
+-- why an event's answer was not written
+abbrev pub IsEventEnd : ℕ → ℕ → Status → Type 0
+IsEventEnd faults_before faults_now WriteFault = Rose faults_before faults_now
+IsEventEnd faults_before faults_now Memory = Unit {0}
+IsEventEnd faults_before faults_now (BadLine number) = ⊥
+IsEventEnd faults_before faults_now Done = ⊥
+IsEventEnd faults_before faults_now Usage = ⊥
+IsEventEnd faults_before faults_now ReadFault = ⊥
+IsEventEnd faults_before faults_now TooLong = ⊥
+
+-- a line was run: it reads as a command, and for each world that the network stood for it stands for the next, and
+-- the command's answer was written
+abbrev pub HasRun : List ℕ → State → State → Option (List ℕ) → Option (List ℕ) → Type 0
+HasRun line old new before now = (command : Command) × Reads CENTRES line command
+    × ((w : World) → StandsFor old w → StandsFor new (after w (events_of (command ∷ []))) × Appends before now (answers w (events_of (command ∷ []))))

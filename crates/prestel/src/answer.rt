@@ -1,0 +1,89 @@
+ghost use Rattle.std.specs.Prelude.{◌≡◌, ◌++◌, OnOk, decimal};
+ghost use Rattle.prestel.specs.Transcript.{answer_text, ack_text, end_text, newline};
+
+use crate::notation::push_notation;
+use itoa::Buffer;
+use pv_network::{Outcome, Turn, Why};
+use pv_screen::BUFFER;
+use std::alloc::AllocError;
+
+/// Appends the line or lines that tell an outcome.
+pub fn push_answer(text: &mut Vec<u8>, outcome: &Outcome) -> Result<(), AllocError>
+    ensures { OnOk result (text.new.items ≡ text.old.items ++ answer_text outcome.now) }
+{
+    match outcome {
+        Outcome::Reply(reply) => {
+            text.extend_from_slice(reply.bytes())?;
+            push_words(text, b"\n")
+        }
+        Outcome::Shown(turn) => push_turn(text, turn),
+        Outcome::Idle => push_words(text, b"idle\n"),
+        Outcome::PacketsFull => push_words(text, b"packets full\n"),
+        Outcome::NoPacket => push_words(text, b"no packet\n"),
+        Outcome::SentRecord { index, number } => {
+            push_number(text, b"sent ", *index)?;
+            push_number(text, b" record ", *number)?;
+            push_words(text, b"\n")
+        }
+        Outcome::Taken { number, ack } => push_arrival(text, b"taken ", *number, *ack),
+        Outcome::Old { number, ack } => push_arrival(text, b"old ", *number, *ack),
+        Outcome::Early { number, ack } => push_arrival(text, b"early ", *number, *ack),
+        Outcome::Full { count } => {
+            push_number(text, b"full ", *count)?;
+            push_words(text, b"\n")
+        }
+        Outcome::NotHeld => push_words(text, b"-\n"),
+    }
+}
+
+/// Appends words.
+fn push_words(text: &mut Vec<u8>, words: &[u8]) -> Result<(), AllocError>
+    ensures { OnOk result (text.new.items ≡ text.old.items ++ words.now) }
+{
+    text.extend_from_slice(words)
+}
+
+/// Appends words and then a number in decimal.
+fn push_number(text: &mut Vec<u8>, words: &[u8], number: u64) -> Result<(), AllocError>
+    ensures { OnOk result (text.new.items ≡ text.old.items ++ (words.now ++ decimal number)) }
+{
+    text.extend_from_slice(words)?;
+    text.extend_from_slice(Buffer::new().format(number).as_bytes())
+}
+
+/// Appends what became of a record that arrived, and its acknowledgement.
+fn push_arrival(text: &mut Vec<u8>, words: &[u8], number: u64, ack: Option<u64>) -> Result<(), AllocError>
+    ensures { OnOk result (text.new.items ≡ text.old.items ++ (words.now ++ decimal number ++ ack_text ack ++ newline)) }
+{
+    push_number(text, words, number)?;
+    match ack {
+        Some(index) => push_number(text, b" ack ", index)?,
+        None => push_words(text, b" ack -")?,
+    }
+    push_words(text, b"\n")
+}
+
+/// Appends a screen, and the end of the call where it ended.
+fn push_turn(text: &mut Vec<u8>, turn: &Turn) -> Result<(), AllocError>
+    ensures { OnOk result (text.new.items ≡ text.old.items ++ answer_text (Outcome.Shown turn.now)) }
+{
+    let mut bytes = [0; BUFFER];
+    let count = turn.screen.bytes(&mut bytes);
+    push_words(text, b"screen ")?;
+    push_notation(text, &bytes[..count])?;
+    push_words(text, b"\n")?;
+    push_end(text, turn.ended)
+}
+
+/// Appends why a call ended, where it did.
+fn push_end(text: &mut Vec<u8>, ended: Option<Why>) -> Result<(), AllocError>
+    ensures { OnOk result (text.new.items ≡ text.old.items ++ end_text ended) }
+{
+    match ended {
+        None => Ok(()),
+        Some(Why::Finished) => push_words(text, b"ended finished\n"),
+        Some(Why::Refused) => push_words(text, b"ended refused\n"),
+        Some(Why::Spent) => push_words(text, b"ended spent\n"),
+        Some(Why::Full) => push_words(text, b"ended full\n"),
+    }
+}

@@ -1,0 +1,64 @@
+//! The program: `prestel play 1` runs a script on a viewdata network of one retrieval centre.
+//!
+//! The script comes in by standard input and the transcript goes out by standard output; a fault is one
+//! line on standard error, and the exit status says which. All that the program does is [`play::play`],
+//! over whatever source and sink it is handed; `main` makes the real ones.
+#![tactic(auto)]
+
+mod answer;
+mod cut;
+mod grammar;
+mod notation;
+mod play;
+mod script;
+mod streams;
+
+use crate::play::play;
+use crate::streams::{StandardInput, StandardOutput};
+use pv_outside::Status;
+use std::env;
+use std::io::{self, BufWriter, ErrorKind};
+use std::process::ExitCode;
+use std::rt::Env;
+
+/// How many bytes of the transcript are kept until they are written at once.
+const OUTPUT_BUFFER: usize = 65_536;
+
+fn main(rt: HostRuntime) -> ExitCode {
+    let status = run(&rt);
+    if status != Status::Done {
+        let _ = eprintln!(rt; "prestel: {status}");
+    }
+    ExitCode::from(status.number())
+}
+
+/// Plays what the command line and standard input say, and writes out what a buffer still holds.
+fn run<R: AllocGlobal + Env + Input + Print>(rt: &R) -> Status {
+    let alloc = rt.alloc();
+    let words = match words_of(rt) {
+        Ok(words) => words,
+        Err(status) => return status,
+    };
+    let Ok(writer) = BufWriter::with_capacity(alloc, OUTPUT_BUFFER, io::writer(rt)) else {
+        return Status::Memory;
+    };
+    let mut script = StandardInput::new(rt.reader());
+    let mut out = StandardOutput::new(writer);
+    let status = play(alloc, &words, &mut script, &mut out).status;
+    if out.flush().is_err() {
+        return Status::WriteFault;
+    }
+    status
+}
+
+/// The words behind the program's name. Words that are no text are none of the program's.
+fn words_of<R: AllocGlobal + Env>(rt: &R) -> Result<Vec<String>, Status> {
+    match env::args(rt) {
+        Ok(args) => args
+            .skip(1)
+            .collect(rt.alloc())
+            .map_err(|_| Status::Memory),
+        Err(error) if error.kind() == ErrorKind::OutOfMemory => Err(Status::Memory),
+        Err(_) => Err(Status::Usage),
+    }
+}

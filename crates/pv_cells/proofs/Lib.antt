@@ -1,0 +1,3 @@
+mod OneOutcome
+mod Pieces
+mod Rows

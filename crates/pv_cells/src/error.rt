@@ -1,0 +1,16 @@
+use thiserror::Error;
+
+/// Why a text is no row in notation: its first fault from the left. Places count the text's bytes
+/// from 0.
+#[derive(Clone, Copy, Debug, PartialEq, Eq, Error)]
+pub enum NotationError {
+    /// More text follows where the row is full.
+    #[error("the text has more cells than the row")]
+    TooLong,
+    /// At this place stands a backslash that is not followed by the two hexadecimal digits of a cell.
+    #[error("no cell follows the backslash at {at}")]
+    BadEscape { at: usize },
+    /// At this place stands a byte outside 0x20 to 0x7E.
+    #[error("the byte at {at} cannot stand in a text")]
+    BadByte { at: usize },
+}

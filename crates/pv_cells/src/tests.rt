@@ -1,0 +1,66 @@
+use crate::{NotationError, cells_of, notation, row_of};
+use pv_fields::{NoRoom, Out};
+use std::test::Fail;
+
+#[test]
+fn a_row_is_read_and_filled(rt: HostRuntime) -> Result<(), Fail> {
+    let mut wanted = [32; 40];
+    assert_eq!(rt; row_of(b"")?, wanted);
+    wanted[0] = b'A';
+    wanted[1] = 3;
+    assert_eq!(rt; row_of(b"A\\03")?, wanted);
+    wanted[1] = 0x7f;
+    wanted[2] = b'\\';
+    wanted[3] = 0x1f;
+    assert_eq!(rt; row_of(b"A\\7f\\5c\\1F")?, wanted);
+    assert_eq!(rt; row_of(b"\\41\\7F\\5C\\1f  ")?, wanted);
+    assert_eq!(rt; row_of(&[b'A'; 40])?, [b'A'; 40]);
+    assert_eq!(rt; cells_of::<3>(b"\\00~")?, [0, b'~', b' ']);
+    Ok(())
+}
+
+#[test]
+fn the_first_fault_is_told_by_its_place(rt: HostRuntime) {
+    let faults: [(&[u8], NotationError); 14] = [
+        (b"A\\8", NotationError::BadEscape { at: 1 }),
+        (b"\\", NotationError::BadEscape { at: 0 }),
+        (b"AB\\g0", NotationError::BadEscape { at: 2 }),
+        (b"AB\\0g", NotationError::BadEscape { at: 2 }),
+        (b"\\80", NotationError::BadEscape { at: 0 }),
+        (b"\\FF", NotationError::BadEscape { at: 0 }),
+        (b"\\\\5c", NotationError::BadEscape { at: 0 }),
+        (b"A\x7f", NotationError::BadByte { at: 1 }),
+        (b"\x1fA", NotationError::BadByte { at: 0 }),
+        (b"\\41\x80\\80", NotationError::BadByte { at: 3 }),
+        (b"\\41\\80\x80", NotationError::BadEscape { at: 3 }),
+        (
+            b"0123456789012345678901234567890123456789A",
+            NotationError::TooLong,
+        ),
+        (
+            b"0123456789012345678901234567890123456789\x80",
+            NotationError::TooLong,
+        ),
+        (
+            b"012345678901234567890123456789012345678\x80A",
+            NotationError::BadByte { at: 39 },
+        ),
+    ];
+    for (text, fault) in faults {
+        assert_eq!(rt; row_of(text), Err(fault));
+    }
+}
+
+#[test]
+fn notation_is_canonical(rt: HostRuntime) -> Result<(), Fail> {
+    let mut into = [0; 24];
+    let mut out = Out::new(&mut into);
+    notation(&[b'A', 0x03, b'\\', b' ', b'~', 0x7f, 0xff, 0x1b], &mut out)?;
+    assert_eq!(rt; out.written(), 18);
+    assert_eq!(rt; notation(&[1, 1, b'A'], &mut out), Err(NoRoom));
+    assert_eq!(rt; notation(b"ABCDEFG", &mut out), Err(NoRoom));
+    assert_eq!(rt; out.written(), 18);
+    notation(&[1, b'A', b'B', b'C'], &mut out)?;
+    assert_eq!(rt; &into, b"A\\03\\5c ~\\7f\\ff\\1b\\01ABC");
+    Ok(())
+}

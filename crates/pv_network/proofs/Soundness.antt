@@ -1,0 +1,181 @@
+-- What an event makes of a sound world is sound.
+use Rattle.std.proofs.Common.{◌≡◌, ℕ, zero, suc, ◌+◌, ◌<◌, ◌≤◌, Bool, true, false, cond, not, ◌&&◌, ltb, leb, eqb, List, [], ◌∷◌, ◌++◌, length, Option, Some, None, refl, sym, ap, subst, ◌∙◌, arith, inl, inr}
+use Rattle.std.specs.Prelude.{is_none, slice_get, replicate}
+use Rattle.std.specs.List.{AllByRecursion, list_any}
+use Rattle.std.proofs.lemmas.Bool.{leb-true, leb-false, eqb-true}
+use Rattle.std.proofs.lemmas.List.{length-append, get_or-set_same}
+use Rattle.std.proofs.lemmas.Option.{slice_get_within}
+use Rattle.pv_page.specs.Names.{Name}
+use Rattle.pv_network.specs.declared.centre.Arrival.{Arrival}
+use Rattle.pv_network.specs.declared.centre.Arrival.TheVariants as arrivals
+use Rattle.pv_network.specs.declared.event.Event.{Event}
+use Rattle.pv_network.specs.declared.event.Event.TheVariants.{Seed, Send, Deliver, View}
+use Rattle.pv_network.specs.declared.packet.Packet.{Packet}
+use Rattle.pv_network.specs.declared.record.Record.{Record}
+use Rattle.pv_network.specs.declared.record.TheConstants.{OPERATOR}
+use Rattle.pv_network.specs.declared.outcome.Outcome.{Outcome}
+use Rattle.pv_network.specs.Edits.{puts, frame_at, frame_count, last_number, IsRun}
+use Rattle.pv_network.specs.World.{World, Centre, Acknowledged, new_centre, start, centre_at, with_centre}
+use Rattle.pv_network.specs.Step.{is_packets_full, next_edit, with_edit, is_frames_full, seeded, next_number, with_packet, packed, sent_number, sent, arrival_of, acknowledged, with_taken, arrived, delivered_packet, delivered, happens, after}
+use Rattle.pv_network.specs.Sound.{IsKept, IsGenuine, IsSoundCentre, IsSound}
+use Rattle.pv_network.proofs.Counts.{none-frame_at, frame_count-push, last_number-run}
+use Rattle.pv_network.proofs.Lists.{all_push, all_set, all_at, all_get, all_weaken, get_front, get_push, get_last}
+
+-- what a test chooses is sound where each side is
+choice : {A : Type 0} (b : Bool) (x y : World × A) → (b ≡ true → IsSound x.0) → (b ≡ false → IsSound y.0) → IsSound (cond b x y).0
+choice true x y here there = here refl
+choice false x y here there = there refl
+
+-- ---- a centre
+
+sound_new : (edits : List Record) → IsSoundCentre edits new_centre
+sound_new edits = record { within = omega arith; packets = tt; acknowledged = tt }
+
+pub sound_at : (w : World) (c : ℕ) → IsSound w → IsSoundCentre w.edits (centre_at w c)
+sound_at w c sound = all_at (IsSoundCentre w.edits) w.centres c new_centre sound.centres (sound_new w.edits)
+
+-- another sound centre in the place of one
+sound_with : (w : World) (c : ℕ) (centre : Centre) → IsSound w → IsSoundCentre w.edits centre → IsSound (with_centre w c centre)
+sound_with w c centre sound here = record {
+  run = sound.run;
+  records = sound.records;
+  frames = sound.frames;
+  acknowledged = sound.acknowledged;
+  centres = all_set (IsSoundCentre w.edits) w.centres c centre sound.centres here;
+}
+
+-- ---- seed
+
+-- a longer list has what the shorter one had
+kept_longer : (edits more : List Record) (a : Acknowledged) → IsKept edits a → IsKept (edits ++ more) a
+kept_longer edits more a kept = (kept.0, get_front edits more a.place kept.0 kept.1, kept.2, kept.3)
+
+genuine_longer : (edits more : List Record) (packet : Packet) → IsGenuine edits packet → IsGenuine (edits ++ more) packet
+genuine_longer edits more packet is = get_front edits more packet.number packet.edit is
+
+centre_longer : (edits more : List Record) (centre : Centre) → IsSoundCentre edits centre → IsSoundCentre (edits ++ more) centre
+centre_longer edits more centre sound = record {
+  within = omega (arith, sound.within, length-append edits more);
+  packets = all_weaken (IsGenuine edits) (IsGenuine (edits ++ more)) (genuine_longer edits more) centre.down sound.packets;
+  acknowledged = sound.acknowledged;
+}
+
+run_push : (edits : List Record) (edit : Record) → IsRun edits → edit.editor ≡ OPERATOR → edit.number ≡ length edits + 1 → IsRun (edits ++ edit ∷ [])
+run_push edits edit run editor number place found is =
+    elim (get_push edits edit place found is) [
+      | inl before ↦ run place found before
+      | inr here ↦ (ap (λ (e : Record). e.editor) (sym here.1) ∙ editor, ap (λ (e : Record). e.number) (sym here.1) ∙ number ∙ ap (λ (n : ℕ). n + 1) (sym here.0))
+    ]
+
+-- a new name may have a frame where there are fewer than may
+frames_push : (edits : List Record) (edit : Record) (limit : ℕ) → frame_count edits ≤ limit → (is_none (frame_at edits edit.name) && leb limit (frame_count edits)) ≡ false → frame_count (edits ++ edit ∷ []) ≤ limit
+frames_push edits edit limit within room =
+    go (list_any (puts edit.name) edits) (leb limit (frame_count edits)) (ap (λ (t : Bool). t && leb limit (frame_count edits)) (sym (none-frame_at edits edit.name)) ∙ room) (frame_count-push edits edit) (leb-false limit (frame_count edits))
+  where
+    go : (named full : Bool) → (not named && full) ≡ false → frame_count (edits ++ edit ∷ []) ≡ frame_count edits + cond named 0 1 → (full ≡ false → frame_count edits < limit) → frame_count (edits ++ edit ∷ []) ≤ limit
+    go true full fits count less = omega (arith, count, within)
+    go false false fits count less = omega (arith, count, less refl)
+    go false true fits count less = absurd cc
+
+sound_edit : (w : World) (name : Name) (row : List ℕ) → IsSound w → is_frames_full w name ≡ false → leb w.record_limit (length w.edits) ≡ false → IsSound (with_edit w (next_edit w name row))
+sound_edit w name row sound frames records =
+    let edit = next_edit w name row in
+    let number : edit.number ≡ length w.edits + 1 = ap (λ (n : ℕ). n + 1) (last_number-run w.edits sound.run) in
+    record {
+      run = run_push w.edits edit sound.run refl number;
+      records = omega (arith, leb-false w.record_limit (length w.edits) records, length-append w.edits (edit ∷ []));
+      frames = frames_push w.edits edit w.frame_limit sound.frames frames;
+      acknowledged = all_push (IsKept (w.edits ++ edit ∷ [])) w.acknowledged (record { editor = edit.editor; number = edit.number; place = length w.edits })
+          (all_weaken (IsKept w.edits) (IsKept (w.edits ++ edit ∷ [])) (kept_longer w.edits (edit ∷ [])) w.acknowledged sound.acknowledged)
+          (edit, get_last w.edits edit, refl, refl);
+      centres = all_weaken (IsSoundCentre w.edits) (IsSoundCentre (w.edits ++ edit ∷ [])) (centre_longer w.edits (edit ∷ [])) w.centres sound.centres;
+    }
+
+pub sound_seeded : (w : World) (name : Name) (row : List ℕ) → IsSound w → IsSound (seeded w name row).0
+sound_seeded w name row sound =
+    choice (is_frames_full w name) _ _ (λ _. sound) (λ frames.
+        choice (leb w.record_limit (length w.edits)) _ _ (λ _. sound) (λ records. sound_edit w name row sound frames records))
+
+-- ---- send
+
+sound_packet : (w : World) (c number : ℕ) (edit : Record) → IsSound w → slice_get w.edits number ≡ Some edit → IsSound (with_centre w c (with_packet (centre_at w c) number edit))
+sound_packet w c number edit sound is =
+    let here = sound_at w c sound in
+    sound_with w c (with_packet (centre_at w c) number edit) sound (record {
+      within = here.within;
+      packets = all_push (IsGenuine w.edits) (centre_at w c).down (record { number = number; edit = edit }) here.packets is;
+      acknowledged = here.acknowledged;
+    })
+
+pub sound_sent : (w : World) (c : ℕ) → IsSound w → IsSound (sent w c).0
+sound_sent w c sound = choice (is_packets_full w) _ _ (λ _. sound) (λ _. numbered (next_number (centre_at w c).sending (length w.edits)))
+  where
+    pack : (number : ℕ) (found : Option Record) → slice_get w.edits number ≡ found → IsSound (packed w c number found).0
+    pack number None is = sound
+    pack number (Some edit) is = sound_packet w c number edit sound is
+    numbered : (number : Option ℕ) → IsSound (sent_number w c number).0
+    numbered None = sound
+    numbered (Some number) = pack number (slice_get w.edits number) refl
+
+-- ---- deliver
+
+pub sound_acknowledged : (w : World) (c : ℕ) → IsSound w → IsSound (acknowledged w c).0
+sound_acknowledged w c sound =
+    let here = sound_at w c sound in
+    choice (is_packets_full w) _ _ (λ _. sound) (λ _. sound_with w c _ sound (record {
+      within = here.within;
+      packets = here.packets;
+      acknowledged = all_push (λ n. n ≤ (centre_at w c).number) (centre_at w c).up (centre_at w c).number here.acknowledged (omega arith);
+    }))
+
+-- the record that comes next is one of the list's
+pub sound_taken : (w : World) (c : ℕ) (packet : Packet) → IsSound w → IsGenuine w.edits packet → packet.number ≡ (centre_at w c).number → IsSound (with_taken w c)
+sound_taken w c packet sound is next =
+    let here = sound_at w c sound in
+    sound_with w c _ sound (record {
+      within = omega (arith, slice_get_within w.edits packet.number packet.edit is, next);
+      packets = here.packets;
+      acknowledged = all_weaken (λ n. n ≤ (centre_at w c).number) (λ n. n ≤ (centre_at w c).number + 1) (λ n le. omega arith) (centre_at w c).up here.acknowledged;
+    })
+
+-- what is taken is the next one, and there is room for it
+pub taken_is_next : (taken limit number : ℕ) → arrival_of taken limit number ≡ arrivals.Taken → (number ≡ taken) × (taken < limit)
+taken_is_next taken limit number is = next (eqb number taken) (leb limit taken) (ltb number taken) (eqb-true number taken) (leb-false limit taken) is
+  where
+    next : (same full less : Bool) → (same ≡ true → number ≡ taken) → (full ≡ false → taken < limit) → cond same (cond full arrivals.Full arrivals.Taken) (cond less arrivals.Old arrivals.Early) ≡ arrivals.Taken → (number ≡ taken) × (taken < limit)
+    next true true less equal room is = absurd cc
+    next true false less equal room is = (equal refl, room refl)
+    next false full true equal room is = absurd cc
+    next false full false equal room is = absurd cc
+
+pub sound_delivered : (w : World) (c index : ℕ) → IsSound w → IsSound (delivered w c index).0
+sound_delivered w c index sound = arrives (slice_get (centre_at w c).down index) refl
+  where
+    by : (packet : Packet) (arrival : Arrival) → IsGenuine w.edits packet → arrival_of (centre_at w c).number w.record_limit packet.number ≡ arrival → IsSound (arrived w c packet.number arrival).0
+    by packet arrivals.Taken is how = sound_acknowledged (with_taken w c) c (sound_taken w c packet sound is (taken_is_next (centre_at w c).number w.record_limit packet.number how).0)
+    by packet arrivals.Old is how = sound_acknowledged w c sound
+    by packet arrivals.Early is how = sound_acknowledged w c sound
+    by packet arrivals.Full is how = sound
+    arrives : (found : Option Packet) → slice_get (centre_at w c).down index ≡ found → IsSound (delivered_packet w c found).0
+    arrives None is = sound
+    arrives (Some packet) is = by packet _ (all_get (IsGenuine w.edits) (centre_at w c).down index packet (sound_at w c sound).packets is) refl
+
+-- ---- all
+
+pub sound_happens : (w : World) (event : Event) → IsSound w → IsSound (happens w event).0
+sound_happens w (Seed name row) sound = sound_seeded w name row sound
+sound_happens w (Send centre) sound = sound_sent w centre sound
+sound_happens w (Deliver centre index) sound = sound_delivered w centre index sound
+sound_happens w (View centre name) sound = sound
+
+pub sound_after : (w : World) (events : List Event) → IsSound w → IsSound (after w events)
+sound_after w [] sound = sound
+sound_after w (event ∷ events) sound = sound_after (happens w event).0 events (sound_happens w event sound)
+
+-- the start is sound
+pub sound_start : (centres frames records : ℕ) → IsSound (start centres frames records)
+sound_start centres frames records = record { run = λ place edit is. absurd cc; records = omega arith; frames = omega arith; acknowledged = tt; centres = new_ones centres }
+  where
+    new_ones : (n : ℕ) → AllByRecursion (IsSoundCentre []) (replicate n new_centre)
+    new_ones zero = tt
+    new_ones (suc n) = (sound_new [], new_ones n)

@@ -1,0 +1,36 @@
+-- The edit list: what the Update Centre has stored, oldest first, and what is found in it from its end.
+use Rattle.std.specs.Prelude.{◌≡◌, ℕ, ◌+◌, ◌==◌, Bool, ◌&&◌, List, [], ◌∷◌, reverse, Option, Some, slice_get, find, if◌then◌else◌}
+use Rattle.std.specs.List.{list_any}
+use Rattle.std.specs.Option.{option_map, option_map_or}
+use Rattle.pv_page.specs.Names.{Name}
+use Rattle.pv_network.specs.declared.record.Record.{Record}
+use Rattle.pv_network.specs.declared.record.TheConstants.{OPERATOR}
+
+-- the two names are one
+abbrev pub is_name : Name → Name → Bool
+is_name a b = a.page == b.page && a.letter == b.letter
+
+-- the record puts a frame under this name
+abbrev pub puts : Name → Record → Bool
+puts name edit = is_name edit.name name
+
+-- the record is this editor's
+abbrev pub is_by : ℕ → Record → Bool
+is_by editor edit = edit.editor == editor
+
+-- the frame, which is a row, that the edits give a name: that of the last record of the name
+abbrev pub frame_at : List Record → Name → Option (List ℕ)
+frame_at edits name = option_map (λ edit. edit.row) (find (puts name) (reverse edits))
+
+-- how many names have a frame: a record counts where no later one is of its name
+abbrev pub frame_count : List Record → ℕ
+frame_count [] = 0
+frame_count (edit ∷ later) = (if list_any (puts edit.name) later then 0 else 1) + frame_count later
+
+-- the number of an editor's last record, 0 where he has none
+abbrev pub last_number : List Record → ℕ → ℕ
+last_number edits editor = option_map_or (λ edit. edit.number) (find (is_by editor) (reverse edits)) 0
+
+-- the records are the operator's, numbered 1, 2, 3 and so on
+abbrev pub IsRun : List Record → Type 0
+IsRun edits = (place : ℕ) (edit : Record) → slice_get edits place ≡ Some edit → (edit.editor ≡ OPERATOR) × (edit.number ≡ place + 1)

@@ -1,0 +1,9 @@
+pub mod Composed
+pub mod Counting
+pub mod Edits
+pub mod Replies
+pub mod Sound
+pub mod Standing
+pub mod Step
+pub mod Texts
+pub mod World

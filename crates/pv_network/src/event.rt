@@ -1,0 +1,14 @@
+use pv_page::FrameName;
+
+/// What can happen to a network. Centres and packets are counted from 0.
+#[derive(Clone, Copy, Debug, PartialEq, Eq)]
+pub enum Event {
+    /// The operator's next number puts a frame that is blank but for row 2 under a name.
+    Seed { name: FrameName, row: [u8; 40] },
+    /// The Update Centre packs the next record for a centre.
+    Send { centre: u8 },
+    /// The packet of this index, of those that were made for a centre, arrives there.
+    Deliver { centre: u8, index: u64 },
+    /// Somebody looks at a frame as a centre holds it.
+    View { centre: u8, name: FrameName },
+}

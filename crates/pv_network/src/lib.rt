@@ -1,0 +1,41 @@
+//! All nodes of the viewdata network as one machine that goes by events.
+//!
+//! A [`Network`] has one Update Centre, which keeps the list of all edits, and one to four retrieval
+//! centres, each of which has taken the first so many of them. An [`Event`] happens to it, one at a
+//! time, and an [`Outcome`] says what came of it. Packets are numbered in the order in which they were
+//! made; any of them may be delivered at any time, never, or again.
+//!
+//! ```text
+//! let mut network = Network::open(alloc, 1, limits)?;
+//! network.step(&Event::Seed { name, row })?;           // OK 0
+//! network.step(&Event::Send { centre: 0 })?;           // sent 0 record 0
+//! network.step(&Event::Deliver { centre: 0, index: 0 })?;   // taken 0 ack 0
+//! network.step(&Event::View { centre: 0, name })?;     // the screen of that frame
+//! ```
+//!
+//! What happens is said by `specs/Step.antt`, over the worlds of `specs/World.antt`; a network stands
+//! for worlds by `specs/Standing.antt`, and [`Network::step`] keeps it standing. What every world keeps
+//! that can be reached at all is the law [`every_reachable_world_is_sound`].
+#![tactic(auto)]
+
+mod centre;
+mod composing;
+mod event;
+
+mod laws;
+mod network;
+mod outcome;
+mod packet;
+mod record;
+mod text;
+
+pub use event::Event;
+
+pub use laws::every_reachable_world_is_sound;
+pub use network::Network;
+pub use outcome::{Outcome, Turn, Why};
+pub use record::OPERATOR;
+pub use text::Text;
+
+#[cfg(test)]
+mod tests;

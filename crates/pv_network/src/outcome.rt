@@ -1,0 +1,50 @@
+use crate::text::Text;
+use pv_screen::Screen;
+
+/// Why a call ended.
+#[derive(Clone, Copy, Debug, PartialEq, Eq)]
+pub enum Why {
+    /// The caller ended it.
+    Finished,
+    /// He was not let in.
+    Refused,
+    /// He had as many keys or entries as a call may have.
+    Spent,
+    /// The centre was full.
+    Full,
+}
+
+/// A screen that is shown, and whether the call ended with it.
+#[derive(Clone, Copy, Debug, PartialEq, Eq)]
+pub struct Turn {
+    pub screen: Screen,
+    pub ended: Option<Why>,
+}
+
+/// What came of an event.
+#[derive(Clone, Copy, Debug, PartialEq, Eq)]
+pub enum Outcome {
+    /// An editor is told this.
+    Reply(Text),
+    /// A screen is shown.
+    Shown(Turn),
+    /// There was nothing to send.
+    Idle,
+    /// As many packets were made as may be.
+    PacketsFull,
+    /// No such packet was made.
+    NoPacket,
+    /// The packet of this index was made, with the record of this number.
+    SentRecord { index: u64, number: u64 },
+    /// The record of this number was taken. Its acknowledgement is the packet of the index `ack`, or
+    /// none where no packet could be made; so it is below.
+    Taken { number: u64, ack: Option<u64> },
+    /// The record of this number had been taken before.
+    Old { number: u64, ack: Option<u64> },
+    /// A record before the one of this number has not been taken.
+    Early { number: u64, ack: Option<u64> },
+    /// The centre has this many records, which is its limit, and took none.
+    Full { count: u64 },
+    /// The centre has no such frame.
+    NotHeld,
+}

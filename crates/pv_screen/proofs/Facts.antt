@@ -1,0 +1,60 @@
+-- Worked rows, screens and cursors, computed from the definitions.
+use Rattle.std.proofs.Common.{◌≡◌, [], ◌∷◌, ◌++◌, List, ℕ, zero, suc, replicate, refl}
+use Rattle.std.specs.Prelude.{codes}
+use Rattle.pv_screen.specs.declared.codes.TheConstants.{CURSOR_ON, CURSOR_OFF}
+use Rattle.pv_screen.specs.Terminal.{new_display, terminal_after}
+use Rattle.pv_screen.specs.Painting.{line_bytes, painted, message_text}
+
+-- so many line ends
+abbrev line_ends : ℕ → List ℕ
+line_ends zero = []
+line_ends (suc n) = 13 ∷ 10 ∷ line_ends n
+
+-- an attribute in the last column fills the row, and no line end follows
+pub full_row : line_bytes (replicate 39 65 ++ 3 ∷ []) ≡ replicate 39 65 ++ codes "\u{1b}C"
+full_row = refl
+
+-- an attribute is shown, and the spaces behind it are not
+pub short_row : line_bytes (65 ∷ 3 ∷ replicate 38 32) ≡ codes "A\u{1b}C\r\n"
+short_row = refl
+
+-- a space before another cell is sent
+pub indented_row : line_bytes (32 ∷ 66 ∷ replicate 38 32) ≡ codes " B\r\n"
+indented_row = refl
+
+-- a blank screen is cleared, and has no line end behind row 24
+pub blank_screen : painted (replicate 24 (replicate 40 32)) ≡ 12 ∷ line_ends 23
+blank_screen = refl
+
+-- a title, a full row and a last row
+pub three_rows : painted ((codes "TITLE" ++ replicate 35 32) ∷ replicate 40 88 ∷ (replicate 21 (replicate 40 32) ++ (codes "END" ++ replicate 37 32) ∷ [])) ≡ codes "\u{c}TITLE\r\n" ++ replicate 40 88 ++ line_ends 21 ++ codes "END"
+three_rows = refl
+
+-- a message goes home and up, and sends all its cells
+pub blank_message : message_text (replicate 40 32) ≡ 30 ∷ 11 ∷ replicate 40 32
+blank_message = refl
+
+-- the cursor at the edges, and what stands there
+pub up_from_the_first_row : (terminal_after new_display (codes "\u{b}")).row ≡ 24
+up_from_the_first_row = refl
+
+pub down_from_the_last_row : (terminal_after new_display (codes "\u{b}\n")).row ≡ 1
+down_from_the_last_row = refl
+
+pub back_from_the_first_column : terminal_after new_display (codes "\u{8}") ≡ record new_display { row = 24; column = 39 }
+back_from_the_first_column = refl
+
+pub forward_from_the_last_column : terminal_after new_display (replicate 40 9) ≡ record new_display { row = 2; column = 0 }
+forward_from_the_last_column = refl
+
+-- the last cell of the screen is written without a scroll
+pub last_cell : (terminal_after new_display (codes "\u{8}Z")).cells ≡ replicate 23 (replicate 40 32) ++ (replicate 39 32 ++ 90 ∷ []) ∷ []
+last_cell = refl
+
+-- an escape, an escape and a letter: the second escape does nothing, and the letter is a letter
+pub escape_twice : terminal_after new_display (codes "\u{1b}\u{1b}A") ≡ terminal_after new_display (codes "A")
+escape_twice = refl
+
+-- the bytes of cursor on and cursor off change no cell
+pub cursor_codes : terminal_after new_display (CURSOR_ON ∷ CURSOR_OFF ∷ 0 ∷ 24 ∷ 128 ∷ 255 ∷ []) ≡ new_display
+cursor_codes = refl

@@ -1,0 +1,6 @@
+pub mod Grids
+pub mod Bytes
+pub mod Displays
+pub mod Shows
+pub mod Runs
+mod Facts

@@ -1,0 +1,5 @@
+pub mod Grid
+pub mod Overwriting
+pub mod Painting
+pub mod Showing
+pub mod Terminal

@@ -1,0 +1,44 @@
+-- The bytes that show a screen, row by row.
+use Rattle.std.specs.Prelude.{ℕ, ◌+◌, ◌-◌, List, [], ◌∷◌, ◌++◌, length, take, slice_index_or, nat_lt, ◌==◌, if◌then◌else◌}
+use Rattle.std.specs.List.{flat_map, suffix_len}
+use Rattle.pv_screen.specs.declared.screen.Screen.{Screen}
+use Rattle.pv_screen.specs.declared.screen.Screen.TheVariants.{Whole, Row}
+use Rattle.pv_screen.specs.declared.grid.TheConstants.{ROWS, COLUMNS}
+use Rattle.pv_screen.specs.declared.codes.TheConstants.{CLEAR, HOME, UP, RETURN, DOWN, ESCAPE, SPACE, ATTRIBUTES}
+
+-- an attribute is an escape and its value plus 64, and any other cell is its own byte
+abbrev pub cell_bytes : ℕ → List ℕ
+cell_bytes cell = if nat_lt cell SPACE then ESCAPE ∷ (cell + ATTRIBUTES) ∷ [] else cell ∷ []
+
+-- the bytes of cells, one after another
+abbrev pub cells_bytes : List ℕ → List ℕ
+cells_bytes cells = flat_map cell_bytes cells
+
+-- a row up to its last cell that is not a space
+abbrev pub shown : List ℕ → List ℕ
+shown row = take (length row - suffix_len (λ cell. cell == SPACE) row) row
+
+-- the bytes of a row, of which spaces at the end are not sent
+abbrev pub row_bytes : List ℕ → List ℕ
+row_bytes row = cells_bytes (shown row)
+
+-- a row that does not reach the last column ends with a carriage return and a line feed
+abbrev pub line_end : List ℕ → List ℕ
+line_end row = if nat_lt (length (shown row)) COLUMNS then RETURN ∷ DOWN ∷ [] else []
+
+-- a row with its end
+abbrev pub line_bytes : List ℕ → List ℕ
+line_bytes row = row_bytes row ++ line_end row
+
+-- the screen is cleared, the rows above the last one are lines, and the last one has no end
+abbrev pub painted : List (List ℕ) → List ℕ
+painted grid = CLEAR ∷ flat_map line_bytes (take (ROWS - 1) grid) ++ row_bytes (slice_index_or grid (ROWS - 1) [])
+
+-- the cursor goes home and up, which is to row 24, and all 40 cells are sent
+abbrev pub message_text : List ℕ → List ℕ
+message_text cells = HOME ∷ UP ∷ cells_bytes cells
+
+-- what is sent for a screen
+abbrev pub screen_bytes : Screen → List ℕ
+screen_bytes (Whole grid) = painted grid
+screen_bytes (Row cells) = message_text cells

@@ -1,0 +1,78 @@
+ghost use Rattle.std.specs.Prelude.{◌≡◌, ℕ, ◌-◌, ◌<◌, ◌≤◌, List, All, Some, slice_get, slice_set, replicate};
+
+use crate::codes::{LAST_CELL, SPACE};
+use std::marker::Model;
+
+/// How many rows a screen has.
+pub const ROWS: usize = 24;
+
+/// How many positions a row has.
+pub const COLUMNS: usize = 40;
+
+/// A whole screen: 24 rows of 40 cells, each of 0 to 127. Contracts see the list of its rows.
+#[derive(Clone, Copy, Debug, PartialEq, Eq)]
+pub struct Grid {
+    rows: [[u8; COLUMNS]; ROWS],
+}
+
+impl Model for Grid {
+    ghost use Rattle.std.specs.Prelude.{List, ℕ};
+    ghost use Rattle.pv_screen.specs.Grid.{IsGrid};
+
+    ghost Value = { List (List ℕ) };
+
+    ghost view = { λ grid. grid.rows };
+
+    ghost invariant = { λ grid. IsGrid grid.rows };
+
+    ghost inverse = { λ rows. record { rows = rows } };
+}
+
+impl Grid {
+    ghost use Rattle.pv_screen.specs.Grid.{IsGrid, IsRow};
+    ghost use Rattle.pv_screen.specs.Terminal.{with_cell};
+
+    /// A screen with every cell a space.
+    pub fn blank() -> Self
+        ensures value { result ≡ replicate ROWS (replicate COLUMNS SPACE) }
+        ensures cells { IsGrid result }
+    {
+        Grid {
+            rows: [[SPACE; COLUMNS]; ROWS],
+        }
+    }
+
+    /// The cells of a row, which is counted from 1 at the top.
+    pub fn row(&self, row: u8) -> &[u8; COLUMNS]
+        requires from { 1 ≤ row }
+        requires to { row ≤ ROWS }
+        ensures value { slice_get self.now (row - 1) ≡ Some result.now }
+        ensures cells { IsRow result.now }
+
+        // Every row is one of 40 cells of 0 to 127, and there are 24.
+        ensures all { IsGrid self.now }
+    {
+        &self.rows[row as usize - 1]
+    }
+
+    /// Puts cells of 0 to 127 in place of a row, which is counted from 1 at the top.
+    pub fn set_row(&mut self, row: u8, cells: &[u8; COLUMNS])
+        requires from { 1 ≤ row }
+        requires to { row ≤ ROWS }
+        requires cells { All (λ cell. cell ≤ LAST_CELL) cells.now }
+        ensures { self.new ≡ slice_set self.old (row - 1) cells.now }
+    {
+        self.rows[row as usize - 1] = *cells;
+    }
+    /// Puts a cell of 0 to 127 in a column, which is counted from 0 at the left, of a row, which is counted from 1.
+    pub(crate) fn set_cell(&mut self, row: u8, column: u8, cell: u8)
+        requires from { 1 ≤ row }
+        requires to { row ≤ ROWS }
+        requires column { column < COLUMNS }
+        requires cell { cell ≤ LAST_CELL }
+        ensures value { self.new ≡ with_cell self.old row column cell }
+        ensures cells { IsGrid self.new }
+    {
+        self.rows[row as usize - 1][column as usize] = cell;
+    }
+}
