@@ -1,13 +1,13 @@
 -- What is read of a source, piece by piece.
 use Rattle.std.proofs.Common.{◌≡◌, ℕ, ◌+◌, ◌-◌, ◌≤◌, List, [], ◌∷◌, ◌++◌, length, take, drop, Option, Some, None, Result, Ok, Err, refl, sym, ap, ◌∙◌, append_assoc, arith}
 use Rattle.std.specs.Prelude.{IfOk}
-use Rattle.std.specs.Io.KnownBytes.{Appends, Consumes, Keeps}
+use Rattle.std.specs.Io.KnownBytes.{Appends, Consumes, Keeps, IsAtEnd}
 use Rattle.std.proofs.lemmas.List.{append-nil, length-take-le, take-append-le}
 use Rattle.std.proofs.Math.Seq.{take-append-add}
 use borrow.Rule.Slice.PartMut.{put_mid, post_of}
 use Rattle.pv_outside.specs.Source.{Takes, Leaves}
 use Rattle.pv_outside.specs.declared.failed.Failed.{Failed}
-use Rattle.prestel.specs.Play.{HasRead}
+use Rattle.prestel.specs.Play.{HasRead, IsWhole}
 
 -- ---- what is known of bytes
 
@@ -61,7 +61,22 @@ pub given_from : (r : Result ℕ Failed) (tb tn lb ln : Option (List ℕ)) (at :
 given_from (Err e) tb tn lb ln at into part within fits takes leaves = tt
 given_from (Ok n) tb tn lb ln at into part within fits takes leaves =
     let front : length (take at into) ≡ at = length-take-le at into within in
-    let rest = post_of at (length into - at) into in
-    (take n part, record { taken = takes; left = leaves }, length-take-le n part fits,
-     ap (λ (k : ℕ). take (k + n) (take at into ++ (part ++ rest))) (sym front) ∙ take-append-add (take at into) (part ++ rest) n
-     ∙ ap (λ (l : List ℕ). take at into ++ l) (take-append-le n part rest fits))
+    let rest = post_of at (length into - at) into in (
+      take n part,
+      record { taken = takes; left = leaves },
+      length-take-le n part fits,
+      ap (λ (k : ℕ). take (k + n) (take at into ++ (part ++ rest))) (sym front) ∙ take-append-add (take at into) (part ++ rest) n
+          ∙ ap (λ (l : List ℕ). take at into ++ l) (take-append-le n part rest fits),
+    )
+
+-- ---- the whole
+
+-- what was taken of a source that then had nothing left is all that it had
+pub is_whole : (before now : Option (List ℕ)) (text : List ℕ) → Consumes before now text → IsAtEnd now → IsWhole before text
+is_whole None now text p q = tt
+is_whole (Some xs) None text p q = absurd p
+is_whole (Some xs) (Some ys) text p q = p ∙ ap (λ (l : List ℕ). text ++ l) q ∙ append-nil text
+
+pub end_of : (r : Result ℕ Failed) (left : Option (List ℕ)) → (r ≡ Ok 0 → IsAtEnd left) → IfOk r (λ n. n ≡ 0 → IsAtEnd left)
+end_of (Err e) left at_end = tt
+end_of (Ok n) left at_end = λ none. at_end (ap (λ (k : ℕ). Ok k) none)

@@ -12,7 +12,7 @@ use Rattle.prestel.specs.declared.grammar.Command.TheVariants.{Nothing, Do}
 use Rattle.prestel.specs.declared.play.TheConstants.{CENTRES}
 use Rattle.prestel.specs.Grammar.{lines_of, Reads, AreCommands, events_of}
 use Rattle.prestel.specs.Transcript.{answer_text, answers}
-use Rattle.prestel.specs.Play.{first_world, IsBadLine, IsPlayed, IsCutShort, HasRun}
+use Rattle.prestel.specs.Play.{first_world, IsBadLine, IsPlayed, IsCutShort, IsFront, HasRun}
 use Rattle.prestel.proofs.Reading.{Appends-none, Appends-more}
 
 -- ---- events, one list after another
@@ -78,7 +78,7 @@ ends text number network before now rest p none = record {
   read = subst (λ (l : List (List ℕ)). AreCommands CENTRES l p.commands) (sym (p.lines ∙ ap (λ (r : List ℕ). p.done ++ lines_of r) none ∙ append-nil p.done)) p.read;
   stands = p.stands;
   written = p.written;
-  }
+}
 
 -- the next line is none of the forms
 pub cut_short : (text rest line behind : List ℕ) (number : ℕ) (network : State) (before now : Option (List ℕ)) → Progress text rest number network before now → lines_of rest ≡ line ∷ lines_of behind → ((command : Command) → Reads CENTRES line command → ⊥) → IsCutShort text (number + 1) before now
@@ -86,4 +86,26 @@ cut_short text rest line behind number network before now p is none = record {
   commands = p.commands;
   line = record { before = p.done; bad = line; behind = lines_of behind; lines = p.lines ∙ ap (λ (l : List (List ℕ)). p.done ++ l) is; number = omega (arith, p.count); read = p.read; none = none };
   written = p.written;
-  }
+}
+
+-- nothing was run yet
+pub front_of_nothing : (text : List ℕ) (before now : Option (List ℕ)) → now ≡ before → IsFront text before now
+front_of_nothing text before now same = record {
+  run = [];
+  behind = lines_of text;
+  commands = [];
+  lines = refl;
+  read = tt;
+  written = subst (λ (k : Option (List ℕ)). Appends before k []) (sym same) (Appends-none before);
+}
+
+-- memory ran out at the next line
+pub front_so_far : (text rest : List ℕ) (number : ℕ) (network : State) (before mid now : Option (List ℕ)) → Progress text rest number network before mid → now ≡ mid → IsFront text before now
+front_so_far text rest number network before mid now p same = record {
+  run = p.done;
+  behind = lines_of rest;
+  commands = p.commands;
+  lines = p.lines;
+  read = p.read;
+  written = subst (λ (k : Option (List ℕ)). Appends before k (answers first_world (events_of p.commands))) (sym same) p.written;
+}

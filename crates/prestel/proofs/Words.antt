@@ -57,6 +57,7 @@ tested_word (c ∷ bytes) is =
     both : (a b : Bool) → (a && b) ≡ true → (a ≡ true) × (b ≡ true)
     both true b is = (refl, is)
     both false b is = absurd cc
+
     apart : (b : Bool) → b ≡ true → not b ≡ true → ⊥
     apart true same other = cc
     apart false same other = cc

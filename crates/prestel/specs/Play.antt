@@ -1,5 +1,5 @@
 -- How a play may end, and what then was read and written.
-use Rattle.std.specs.Prelude.{◌≡◌, ℕ, ◌+◌, ◌≤◌, ◌↔◌, Bool, IsTrue, List, [], ◌∷◌, ◌++◌, length, Option, IsSomeAnd, codes}
+use Rattle.std.specs.Prelude.{◌≡◌, ℕ, ◌+◌, ◌≤◌, ◌↔◌, Bool, IsTrue, List, [], ◌∷◌, ◌++◌, length, Option, Some, None, IsSomeAnd, codes}
 use Rattle.std.specs.Io.KnownBytes.{Appends, Consumes}
 use Rattle.pv_outside.specs.Counts.{Rose}
 use Rattle.pv_outside.specs.declared.status.Status.{Status}
@@ -8,8 +8,7 @@ use Rattle.pv_network.specs.World.{World, start}
 use Rattle.pv_network.specs.Step.{after}
 use Rattle.pv_network.specs.Standing.{State, StandsFor}
 use Rattle.prestel.specs.declared.grammar.Command.{Command}
-use Rattle.prestel.specs.declared.play.TheConstants.{CENTRES, FRAMES, RECORDS}
-use Rattle.prestel.specs.declared.script.TheConstants.{LONGEST_SCRIPT}
+use Rattle.prestel.specs.declared.play.TheConstants.{CENTRES}
 use Rattle.prestel.specs.Grammar.{lines_of, AreCommands, Reads, events_of}
 use Rattle.prestel.specs.Transcript.{answers}
 
@@ -17,14 +16,23 @@ use Rattle.prestel.specs.Transcript.{answers}
 abbrev pub play_words : List (List ℕ)
 play_words = codes "play" ∷ codes "1" ∷ []
 
--- the world in which a play begins
+-- the world in which a play begins: one centre, and at most 2,000 frames and 10,000 records
 abbrev pub first_world : World
-first_world = start CENTRES FRAMES RECORDS
+first_world = start 1 2000 10000
+
+-- how many bytes a script may have
+abbrev pub longest_script : ℕ
+longest_script = 1048576
 
 -- the bytes were read, and nothing else
 pub record HasRead (taken_before taken_now left_before left_now : Option (List ℕ)) (text : List ℕ) : Type 0 where
   pub taken : Appends taken_before taken_now text
   pub left : Consumes left_before left_now text
+
+-- the text is all that a source had left, where it tells what it has
+abbrev pub IsWhole : Option (List ℕ) → List ℕ → Type 0
+IsWhole None text = Unit {0}
+IsWhole (Some left) text = left ≡ text
 
 -- the line of this number is the first of the text that is none of the forms: those before it read as these commands
 pub record IsBadLine (text : List ℕ) (line : ℕ) (commands : List Command) : Type 0 where
@@ -49,13 +57,24 @@ pub record IsCutShort (text : List ℕ) (number : ℕ) (written_before written_n
   pub line : IsBadLine text number commands
   pub written : Appends written_before written_now (answers first_world (events_of commands))
 
+-- some lines at the front were read and run, and what was written is their answers
+pub record IsFront (text : List ℕ) (written_before written_now : Option (List ℕ)) : Type 0 where
+  pub run : List (List ℕ)
+  pub behind : List (List ℕ)
+  pub commands : List Command
+  pub lines : lines_of text ≡ run ++ behind
+  pub read : AreCommands CENTRES run commands
+  pub written : Appends written_before written_now (answers first_world (events_of commands))
+
 -- What a play made of the text that it read: too long is exactly a text of one byte more than a script may have, done
--- says that the end was met and all was run, and a bad line is the first that is none of the forms.
-pub record IsPlayOf (text : List ℕ) (status : Status) (network : Option State) (ended : Bool) (written_before written_now : Option (List ℕ)) : Type 0 where
-  pub within : length text ≤ LONGEST_SCRIPT + 1
-  pub too_long : (status ≡ TooLong) ↔ (length text ≡ LONGEST_SCRIPT + 1)
-  pub done : status ≡ Done → IsTrue ended × IsSomeAnd network (λ n. IsPlayed text n written_before written_now)
-  pub bad_line : (number : ℕ) → status ≡ BadLine number → IsTrue ended × IsCutShort text number written_before written_now
+-- says that all the source had was read and run, a bad line is the first that is none of the forms, and where memory
+-- ran out some lines at the front were run.
+pub record IsPlayOf (text : List ℕ) (status : Status) (network : Option State) (left : Option (List ℕ)) (ended : Bool) (written_before written_now : Option (List ℕ)) : Type 0 where
+  pub within : length text ≤ longest_script + 1
+  pub too_long : (status ≡ TooLong) ↔ (length text ≡ longest_script + 1)
+  pub done : status ≡ Done → IsTrue ended × IsWhole left text × IsSomeAnd network (λ n. IsPlayed text n written_before written_now)
+  pub bad_line : (number : ℕ) → status ≡ BadLine number → IsTrue ended × IsWhole left text × IsCutShort text number written_before written_now
+  pub memory : status ≡ Memory → IsFront text written_before written_now
 
 -- nothing was run
 abbrev pub IsNotRun : Status → Type 0
@@ -69,8 +88,8 @@ IsNotRun Memory = ⊥
 
 -- why a text was not read to its end
 abbrev pub IsReadEnd : List ℕ → ℕ → ℕ → Status → Type 0
-IsReadEnd text faults_before faults_now TooLong = length text ≡ LONGEST_SCRIPT + 1
-IsReadEnd text faults_before faults_now ReadFault = (length text ≤ LONGEST_SCRIPT) × Rose faults_before faults_now
+IsReadEnd text faults_before faults_now TooLong = length text ≡ longest_script + 1
+IsReadEnd text faults_before faults_now ReadFault = (length text ≤ longest_script) × Rose faults_before faults_now
 IsReadEnd text faults_before faults_now Memory = text ≡ []
 IsReadEnd text faults_before faults_now Done = ⊥
 IsReadEnd text faults_before faults_now Usage = ⊥
@@ -81,7 +100,7 @@ IsReadEnd text faults_before faults_now WriteFault = ⊥
 abbrev pub IsRunEnd : List ℕ → Option (List ℕ) → Option (List ℕ) → ℕ → ℕ → Status → Type 0
 IsRunEnd text before now faults_before faults_now (BadLine number) = IsCutShort text number before now
 IsRunEnd text before now faults_before faults_now WriteFault = Rose faults_before faults_now
-IsRunEnd text before now faults_before faults_now Memory = Unit {0}
+IsRunEnd text before now faults_before faults_now Memory = IsFront text before now
 IsRunEnd text before now faults_before faults_now Done = ⊥
 IsRunEnd text before now faults_before faults_now Usage = ⊥
 IsRunEnd text before now faults_before faults_now ReadFault = ⊥
@@ -91,21 +110,21 @@ IsRunEnd text before now faults_before faults_now TooLong = ⊥
 abbrev pub IsLineEnd : List ℕ → ℕ → Option (List ℕ) → Option (List ℕ) → ℕ → ℕ → Status → Type 0
 IsLineEnd line number before now faults_before faults_now (BadLine bad) = (bad ≡ number) × ((command : Command) → Reads CENTRES line command → ⊥) × (now ≡ before)
 IsLineEnd line number before now faults_before faults_now WriteFault = Rose faults_before faults_now
-IsLineEnd line number before now faults_before faults_now Memory = Unit {0}
+IsLineEnd line number before now faults_before faults_now Memory = now ≡ before
 IsLineEnd line number before now faults_before faults_now Done = ⊥
 IsLineEnd line number before now faults_before faults_now Usage = ⊥
 IsLineEnd line number before now faults_before faults_now ReadFault = ⊥
 IsLineEnd line number before now faults_before faults_now TooLong = ⊥
 
 -- why an event's answer was not written
-abbrev pub IsEventEnd : ℕ → ℕ → Status → Type 0
-IsEventEnd faults_before faults_now WriteFault = Rose faults_before faults_now
-IsEventEnd faults_before faults_now Memory = Unit {0}
-IsEventEnd faults_before faults_now (BadLine number) = ⊥
-IsEventEnd faults_before faults_now Done = ⊥
-IsEventEnd faults_before faults_now Usage = ⊥
-IsEventEnd faults_before faults_now ReadFault = ⊥
-IsEventEnd faults_before faults_now TooLong = ⊥
+abbrev pub IsEventEnd : Option (List ℕ) → Option (List ℕ) → ℕ → ℕ → Status → Type 0
+IsEventEnd before now faults_before faults_now WriteFault = Rose faults_before faults_now
+IsEventEnd before now faults_before faults_now Memory = now ≡ before
+IsEventEnd before now faults_before faults_now (BadLine number) = ⊥
+IsEventEnd before now faults_before faults_now Done = ⊥
+IsEventEnd before now faults_before faults_now Usage = ⊥
+IsEventEnd before now faults_before faults_now ReadFault = ⊥
+IsEventEnd before now faults_before faults_now TooLong = ⊥
 
 -- a line was run: it reads as a command, and for each world that the network stood for it stands for the next, and
 -- the command's answer was written

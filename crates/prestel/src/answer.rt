@@ -52,7 +52,12 @@ fn push_number(text: &mut Vec<u8>, words: &[u8], number: u64) -> Result<(), Allo
 }
 
 /// Appends what became of a record that arrived, and its acknowledgement.
-fn push_arrival(text: &mut Vec<u8>, words: &[u8], number: u64, ack: Option<u64>) -> Result<(), AllocError>
+fn push_arrival(
+    text: &mut Vec<u8>,
+    words: &[u8],
+    number: u64,
+    ack: Option<u64>,
+) -> Result<(), AllocError>
     ensures { OnOk result (text.new.items ≡ text.old.items ++ (words.now ++ decimal number ++ ack_text ack ++ newline)) }
 {
     push_number(text, words, number)?;

@@ -12,6 +12,8 @@ mod notation;
 mod play;
 mod script;
 mod streams;
+#[cfg(test)]
+mod tests;
 
 use crate::play::play;
 use crate::streams::{StandardInput, StandardOutput};
@@ -54,10 +56,7 @@ fn run<R: AllocGlobal + Env + Input + Print>(rt: &R) -> Status {
 /// The words behind the program's name. Words that are no text are none of the program's.
 fn words_of<R: AllocGlobal + Env>(rt: &R) -> Result<Vec<String>, Status> {
     match env::args(rt) {
-        Ok(args) => args
-            .skip(1)
-            .collect(rt.alloc())
-            .map_err(|_| Status::Memory),
+        Ok(args) => args.skip(1).collect(rt.alloc()).map_err(|_| Status::Memory),
         Err(error) if error.kind() == ErrorKind::OutOfMemory => Err(Status::Memory),
         Err(_) => Err(Status::Usage),
     }

@@ -40,7 +40,7 @@ pub fn play<S: Source, K: Sink>(
 ) -> Played
     // What was read is a text, and what was made of it is the play of that text.
     ensures plays { (text : List ℕ) × HasRead (S.taken script.old) (S.taken script.new) (S.left script.old) (S.left script.new) text
-        × IsPlayOf text result.status result.network (S.ended script.new) (K.written out.old) (K.written out.new) }
+        × IsPlayOf text result.status result.network (S.left script.old) (S.ended script.new) (K.written out.old) (K.written out.new) }
 
     // The words are refused exactly where they are others than `play 1`, and then nothing is read.
     ensures usage { (result.status ≡ Status.Usage) ↔ (map string_bytes words.now ≢ play_words) }
@@ -169,7 +169,7 @@ fn run_event<K: Sink>(
     requires { CanHappen network.old event.now }
     ensures ok { OnOk result ((w : World) → StandsFor network.old w →
         StandsFor network.new (happens w event.now).0 × Appends (K.written out.old) (K.written out.new) (answer_text (happens w event.now).1)) }
-    ensures err { IfErr result (IsEventEnd (K.write_faults out.old) (K.write_faults out.new)) }
+    ensures err { IfErr result (IsEventEnd (K.written out.old) (K.written out.new) (K.write_faults out.old) (K.write_faults out.new)) }
     ensures counted { K.write_faults out.old ≤ K.write_faults out.new }
     ensures centres { length network.new.centres ≡ length network.old.centres }
 {

@@ -1,8 +1,8 @@
 ghost use Rattle.std.specs.Prelude.{◌≡◌, ℕ, ◌+◌, ◌<◌, ◌≤◌, IsTrue, List, ◌∷◌, ◌++◌, length, take, MatchResult, IfOk, IfErr};
-ghost use Rattle.std.specs.Io.KnownBytes.{Appends, Consumes, Keeps};
+ghost use Rattle.std.specs.Io.KnownBytes.{Appends, Consumes, Keeps, IsAtEnd};
 ghost use Rattle.pv_outside.specs.Counts.{Rose};
 ghost use Rattle.prestel.specs.Grammar.{lines_of};
-ghost use Rattle.prestel.specs.Play.{HasRead, IsReadEnd};
+ghost use Rattle.prestel.specs.Play.{HasRead, IsWhole, IsReadEnd};
 
 use crate::cut::cut_at;
 use pv_outside::{Failed, Source, Status};
@@ -15,8 +15,8 @@ pub const LONGEST_SCRIPT: usize = 1_048_576;
 pub fn read_script<S: Source>(alloc: Global, source: &mut S) -> Result<Vec<u8>, Status>
     ensures read { (text : List ℕ) × HasRead (S.taken source.old) (S.taken source.new) (S.left source.old) (S.left source.new) text
         × MatchResult result
-            (λ script. (script.items ≡ text) × (length text ≤ LONGEST_SCRIPT) × IsTrue (S.ended source.new))
-            (IsReadEnd text (S.read_faults source.old) (S.read_faults source.new)) }
+        (λ script. (script.items ≡ text) × (length text ≤ LONGEST_SCRIPT) × IsWhole (S.left source.old) text × IsTrue (S.ended source.new))
+        (IsReadEnd text (S.read_faults source.old) (S.read_faults source.new)) }
     ensures counted { S.read_faults source.old ≤ S.read_faults source.new }
 {
     let Ok(mut script) = vec![in alloc; 0; LONGEST_SCRIPT + 1] else {
@@ -33,8 +33,8 @@ fn fill<S: Source>(source: &mut S, into: &mut [u8]) -> Result<usize, Status>
     requires { length into.old ≡ LONGEST_SCRIPT + 1 }
     ensures read { (text : List ℕ) × HasRead (S.taken source.old) (S.taken source.new) (S.left source.old) (S.left source.new) text
         × MatchResult result
-            (λ len. (take len into.new ≡ text) × (length text ≡ len) × (len ≤ LONGEST_SCRIPT) × IsTrue (S.ended source.new))
-            (IsReadEnd text (S.read_faults source.old) (S.read_faults source.new)) }
+        (λ len. (take len into.new ≡ text) × (length text ≡ len) × (len ≤ LONGEST_SCRIPT) × IsWhole (S.left source.old) text × IsTrue (S.ended source.new))
+        (IsReadEnd text (S.read_faults source.old) (S.read_faults source.new)) }
     ensures counted { S.read_faults source.old ≤ S.read_faults source.new }
 {
     let mut len = 0;
@@ -55,6 +55,7 @@ fn read_from<S: Source>(source: &mut S, into: &mut [u8], at: usize) -> Result<us
     ensures read { IfOk result (λ count. (given : List ℕ) × HasRead (S.taken source.old) (S.taken source.new) (S.left source.old) (S.left source.new) given
         × (length given ≡ count) × (take (at + count) into.new ≡ take at into.old ++ given)) }
     ensures end { IfOk result (λ count. count ≡ 0 → IsTrue (S.ended source.new)) }
+    ensures only_at_end { IfOk result (λ count. count ≡ 0 → IsAtEnd (S.left source.old)) }
     ensures unread { IfErr result (λ _. Keeps (S.taken source.old) (S.taken source.new) × Keeps (S.left source.old) (S.left source.new)) }
     ensures failed { IfErr result (λ _. Rose (S.read_faults source.old) (S.read_faults source.new)) }
     ensures counted { S.read_faults source.old ≤ S.read_faults source.new }

@@ -1,3 +1,6 @@
+mod Canonical
+mod Facts
 mod OneOutcome
 mod Pieces
 mod Rows
+mod Squares

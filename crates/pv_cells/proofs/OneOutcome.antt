@@ -1,10 +1,9 @@
 -- One outcome alone is told of a text that should be a row.
 use Rattle.std.proofs.Common.{◌≡◌, ℕ, ◌≤◌, ◌⊎◌, inl, inr, false, not, ◌&&◌, ◌==◌, IsTrue, List, [], ◌∷◌, ◌++◌, length, take, Result, Ok, Err, refl, sym, ap, ◌∙◌, subst, arith, append_assoc, length-append, get_or}
-use Rattle.std.specs.Int.{is_in_range}
 use Rattle.std.specs.List.{All}
 use Rattle.std.proofs.lemmas.Bool.{false≢true}
 use Rattle.std.proofs.lemmas.List.{get_or_at, append_cancel_right}
-use Rattle.pv_cells.specs.Notation.{is_plain, ReadsByte, ReadsAs}
+use Rattle.pv_cells.specs.Notation.{can_be_printed, is_plain, ReadsByte, ReadsAs}
 use Rattle.pv_cells.specs.Row.{IsCell, BeginsFault, Ends, TellsRow}
 use Rattle.pv_cells.specs.declared.error.NotationError.{NotationError}
 use Rattle.pv_cells.specs.declared.error.NotationError.TheVariants.{TooLong, BadEscape, BadByte}
@@ -79,14 +78,14 @@ ends_within width cells at rest (Err (BadEscape place)) ends = omega (arith, end
 ends_within width cells at rest (Err (BadByte place)) ends = omega (arith, ends.0)
 
 -- a byte that stands for itself can be printed
-plain_in_range : (byte : ℕ) → IsTrue (is_plain byte) → is_in_range 0x20 0x7e byte ≡ false → ⊥
+plain_in_range : (byte : ℕ) → IsTrue (is_plain byte) → can_be_printed byte ≡ false → ⊥
 plain_in_range byte is out =
-    let passes : IsTrue (is_in_range 0x20 0x7e byte && not (byte == BACKSLASH)) = is in
+    let passes : IsTrue (can_be_printed byte && not (byte == BACKSLASH)) = is in
     false≢true (rw out at passes)
 
 -- a backslash can be printed
-backslash_in_range : (byte : ℕ) → byte ≡ BACKSLASH → is_in_range 0x20 0x7e byte ≡ false → ⊥
-backslash_in_range byte is out = false≢true (sym out ∙ ap (λ b. is_in_range 0x20 0x7e b) is)
+backslash_in_range : (byte : ℕ) → byte ≡ BACKSLASH → can_be_printed byte ≡ false → ⊥
+backslash_in_range byte is out = false≢true (sym out ∙ ap (λ b. can_be_printed b) is)
 
 -- no cell is read where a fault begins
 fault_stops : (at : ℕ) (rest : List ℕ) (fault : NotationError) → BeginsFault at rest fault → (piece left : List ℕ) (cell : ℕ) → rest ≡ piece ++ left → Form piece cell → ReadsByte piece cell → IsCell cell → ⊥
@@ -98,11 +97,12 @@ fault_stops at (first ∷ rest) (BadEscape place) begins piece left cell whole (
     begins.2 cell is_cell (subst (λ text. ReadsByte (take 3 text) cell) (sym whole) reads)
 fault_stops at (first ∷ rest) (BadByte place) begins piece left cell whole (plain is) reads is_cell =
     let same : cell ≡ first = cc whole in
-    plain_in_range cell is (ap (λ b. is_in_range 0x20 0x7e b) same ∙ begins.1)
+    plain_in_range cell is (ap (λ b. can_be_printed b) same ∙ begins.1)
 fault_stops at (first ∷ rest) (BadByte place) begins piece left cell whole (escape backslash value) reads is_cell =
     backslash_in_range first (cc (whole, backslash)) begins.1
 
 module _ (width : ℕ) (cells rest others : List ℕ) (on : GoesOn cells rest others) (fits : length others ≤ width) (are_cells : All IsCell others) where
+  -- the further byte is a cell
   is_cell : IsCell on.cell
   is_cell =
       let at_its_place = get_or_at cells on.cell on.more 0 (length cells) refl in
@@ -156,6 +156,17 @@ ends_of width outcome cells cells' front front' rest rest' c f r ends =
     subst (λ x. Ends width cells' (length front') x outcome) r
     (subst (λ x. Ends width cells' (length x) rest outcome) f
     (subst (λ x. Ends width x (length front) rest outcome) c ends))
+
+-- a text is read in one way
+pub one_reading : (text one other : List ℕ) → ReadsAs text one → ReadsAs text other → one ≡ other
+one_reading text one other p q =
+    elim (compared one other text text [] [] p q refl) [
+      | inl both ↦ both.0
+      | inr further ↦ elim further [
+        | inl on ↦ absurd (omega (arith, ap length on.whole, length-append on.piece on.left, piece_has_bytes on.piece on.cell on.reads))
+        | inr on ↦ absurd (omega (arith, ap length on.whole, length-append on.piece on.left, piece_has_bytes on.piece on.cell on.reads))
+      ]
+    ]
 
 -- one outcome alone is told
 pub only_one : (width : ℕ) (text : List ℕ) (one other : Result (List ℕ) NotationError) → TellsRow width text one → TellsRow width text other → one ≡ other

@@ -9,6 +9,7 @@ pub data Form : List ℕ → ℕ → Type 0 where
   plain : {byte : ℕ} → IsTrue (is_plain byte) → Form (byte ∷ []) byte
   escape : {first high low byte : ℕ} → first ≡ BACKSLASH → byte ≡ 16 * digit_value high + digit_value low → Form (first ∷ high ∷ low ∷ []) byte
 
+-- what is read as a byte has one of the two forms
 pub form : (piece : List ℕ) (byte : ℕ) → ReadsByte piece byte → Form piece byte
 form [] byte reads = absurd reads
 form (first ∷ []) byte reads = subst (λ b. Form (first ∷ []) b) (sym reads.1) (plain reads.0)
@@ -20,6 +21,7 @@ form (first ∷ high ∷ low ∷ more ∷ rest) byte reads = absurd reads
 pub plain_is_no_backslash : (byte : ℕ) → IsTrue (is_plain byte) → byte ≡ BACKSLASH → ⊥
 plain_is_no_backslash byte is e = let never : IsTrue (is_plain BACKSLASH) = subst (λ b. IsTrue (is_plain b)) e is in cc
 
+-- two forms at the front of one text are the same
 same_form : {p q s t : List ℕ} {b c : ℕ} → Form p b → Form q c → p ++ s ≡ q ++ t → (p ≡ q) × (b ≡ c) × (s ≡ t)
 same_form (plain {byte} is) (plain is') e = (cc, cc, cc)
 same_form (plain {byte} is) (escape first value) e = absurd (plain_is_no_backslash byte is (cc))

@@ -2,7 +2,7 @@
 use Rattle.std.proofs.Common.{◌≡◌, ℕ, ◌+◌, ◌-◌, ◌<◌, ◌≤◌, List, [], ◌∷◌, ◌++◌, length, take, drop, set, replicate, Ok, Err, refl, sym, ap, ◌∙◌, subst, arith}
 use Rattle.std.specs.List.{All}
 use Rattle.std.proofs.lemmas.List.{append-nil, take-append-drop, length-take-le, length-replicate, length-set, take_more_set, take_all, drop-set-lt, drop-drop, drop-replicate, drop-take, take-take, length-drop}
-use Rattle.std.proofs.lemmas.List.Elements.{All-nil, All-push}
+use Rattle.std.proofs.lemmas.List.Elements.{All-nil, All-push, All-append, All-same, All-replicate}
 use Rattle.pv_cells.specs.Notation.{ReadsByte, ReadsAs}
 use Rattle.pv_cells.specs.Row.{IsCell, BeginsFault, Ends, TellsRow, filled}
 use Rattle.pv_cells.specs.declared.error.NotationError.{NotationError}
@@ -77,6 +77,13 @@ module _ {width : ℕ} {text row : List ℕ} {count at : ℕ} (so_far : RowSoFar
       sym (take-append-drop count row)
       ∙ ap (λ left. take count row ++ left) (so_far.blank ∙ ap (λ n. replicate (width - n) BLANK) (sym count_is))
 
+  -- a row holds cells
+  pub holds_cells : All IsCell row
+  holds_cells =
+      All-same IsCell row (filled width (take count row)) row_is
+      (All-append IsCell (take count row) (replicate (width - length (take count row)) BLANK) so_far.are_cells
+      (All-replicate IsCell (width - length (take count row)) BLANK (omega arith)))
+
   -- at the end of the text the row is told
   pub ended : length text ≤ at → TellsRow width text (Ok row)
   ended all = record {
@@ -101,6 +108,7 @@ module _ {width : ℕ} {text row : List ℕ} {count at : ℕ} (so_far : RowSoFar
     ends = (omega (arith, length-drop at text), count_is ∙ is_full);
   }
 
+  -- a fault that begins here is what is told here
   fault_ends : (told : NotationError) → BeginsFault at (drop at text) told → count < width → Ends width (take count row) at (drop at text) (Err told)
   fault_ends TooLong begins room = absurd (too_long_begins_nowhere at (drop at text) begins)
   fault_ends (BadEscape place) begins room = (omega (arith, count_is), begins)

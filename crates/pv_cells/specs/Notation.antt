@@ -5,9 +5,17 @@ use Rattle.std.specs.Int.{is_in_range}
 use Rattle.std.specs.List.{flat_map}
 use Rattle.pv_cells.specs.declared.writing.TheConstants.{BACKSLASH}
 
+-- a byte
+abbrev pub IsByte : ℕ → Type 0
+IsByte byte = byte < 256
+
+-- a byte that can be printed
+abbrev pub can_be_printed : ℕ → Bool
+can_be_printed byte = is_in_range 0x20 0x7e byte
+
 -- a byte that stands for itself: one that can be printed, but for the backslash
 abbrev pub is_plain : ℕ → Bool
-is_plain byte = is_in_range 0x20 0x7e byte && not (byte == BACKSLASH)
+is_plain byte = can_be_printed byte && not (byte == BACKSLASH)
 
 -- the canonical notation of a byte: itself, or a backslash and its two hexadecimal digits in lower case
 abbrev pub notation_of_byte : ℕ → List ℕ

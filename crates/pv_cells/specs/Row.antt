@@ -1,8 +1,7 @@
 -- Rows of cells, and what is told of a text that should be one.
 use Rattle.std.specs.Prelude.{◌≡◌, ℕ, ◌-◌, ◌<◌, ◌≤◌, false, List, [], ◌∷◌, ◌++◌, length, take, replicate, Result, Ok, Err}
-use Rattle.std.specs.Int.{is_in_range}
 use Rattle.std.specs.List.{All}
-use Rattle.pv_cells.specs.Notation.{ReadsByte, ReadsAs}
+use Rattle.pv_cells.specs.Notation.{can_be_printed, ReadsByte, ReadsAs}
 use Rattle.pv_cells.specs.declared.error.NotationError.{NotationError}
 use Rattle.pv_cells.specs.declared.error.NotationError.TheVariants.{TooLong, BadEscape, BadByte}
 use Rattle.pv_cells.specs.declared.writing.TheConstants.{BACKSLASH}
@@ -22,7 +21,7 @@ BeginsFault at [] fault = ⊥
 BeginsFault at (first ∷ rest) TooLong = ⊥
 BeginsFault at (first ∷ rest) (BadEscape place) =
     (place ≡ at) × (first ≡ BACKSLASH) × ((cell : ℕ) → IsCell cell → ¬ ReadsByte (take 3 (first ∷ rest)) cell)
-BeginsFault at (first ∷ rest) (BadByte place) = (place ≡ at) × (is_in_range 0x20 0x7e first ≡ false)
+BeginsFault at (first ∷ rest) (BadByte place) = (place ≡ at) × (can_be_printed first ≡ false)
 
 -- what is told of a row so wide, where a text is read as cells up to a place, and has this rest from there on:
 -- the row, if there is no rest; that it is too long, if the row is full; or the fault that the rest begins with
@@ -32,7 +31,8 @@ Ends width cells at rest (Err TooLong) = (0 < length rest) × (length cells ≡ 
 Ends width cells at rest (Err (BadEscape place)) = (length cells < width) × BeginsFault at rest (BadEscape place)
 Ends width cells at rest (Err (BadByte place)) = (length cells < width) × BeginsFault at rest (BadByte place)
 
--- what is told of a text that should be a row so wide: its row, or its first fault
+-- what is told of a text that should be a row so wide, its row or its first fault: the text has a front that is
+-- read as cells, and a rest at which that is told
 pub record TellsRow (width : ℕ) (text : List ℕ) (outcome : Result (List ℕ) NotationError) : Type 0 where
   pub front : List ℕ
   pub rest : List ℕ

@@ -1,5 +1,6 @@
 ghost use Rattle.std.specs.Prelude.{◌≡◌, ℕ, ◌<◌, ◌≤◌, List, Result, ◌∷◌, length, take, Some, IfSome, IfOk, IfErr};
 ghost use Rattle.std.specs.Char.{digit_value};
+ghost use Rattle.std.specs.List.{All};
 ghost use Rattle.std.specs.Option.{SomeIff};
 ghost use Rattle.pv_cells.specs.Notation.{ReadsByte};
 ghost use Rattle.pv_cells.specs.Row.{IsCell, BeginsFault, TellsRow};
@@ -20,15 +21,18 @@ pub const LAST_CELL: u8 = 0x7f;
 /// Reads a row of forty cells from its notation. A shorter row is filled with blank cells.
 ///
 /// A byte of 0x20 to 0x7E but the backslash is itself; a backslash and two hexadecimal digits of either
-/// case are the byte of that number. The errors are told by place: the first fault from the left is the
-/// answer. A text with more than forty cells is [`TooLong`](NotationError::TooLong) where the 41st
-/// begins, whatever stands there. A backslash that is not followed by two hexadecimal digits, or whose
-/// number is over 127, is [`BadEscape`](NotationError::BadEscape), and a byte outside 0x20 to 0x7E is
+/// case are the byte of that number.
+///
+/// The first fault from the left is the answer. A text with more than forty cells is
+/// [`TooLong`](NotationError::TooLong) where the 41st begins, whatever stands there. A backslash that is
+/// not followed by two hexadecimal digits, or whose number is over 127, is
+/// [`BadEscape`](NotationError::BadEscape), and a byte outside 0x20 to 0x7E is
 /// [`BadByte`](NotationError::BadByte).
 pub fn row_of(text: &[u8]) -> Result<[u8; ROW_LENGTH], NotationError>
     ensures tells { TellsRow ROW_LENGTH text.now result }
     ensures only { (outcome : Result (List ℕ) NotationError) → TellsRow ROW_LENGTH text.now outcome
         → outcome ≡ result }
+    ensures cells { IfOk result (λ row. All IsCell row) }
 {
     cells_of::<ROW_LENGTH>(text)
 }
@@ -38,6 +42,7 @@ pub fn cells_of<const N: usize>(text: &[u8]) -> Result<[u8; N], NotationError>
     ensures tells { TellsRow N text.now result }
     ensures only { (outcome : Result (List ℕ) NotationError) → TellsRow N text.now outcome
         → outcome ≡ result }
+    ensures cells { IfOk result (λ row. All IsCell row) }
 {
     let mut row = [BLANK; N];
     let mut count = 0;
@@ -75,7 +80,8 @@ fn first_cell(left: &[u8], at: usize) -> Result<(u8, usize), NotationError>
 // The cell whose two hexadecimal digits stand first.
 fn escaped(digits: &[u8]) -> Option<u8>
     ensures found { IfSome result (λ cell. IsCell cell × ReadsByte (BACKSLASH ∷ take 2 digits.now) cell) }
-    ensures only { (cell : ℕ) → IsCell cell → ReadsByte (BACKSLASH ∷ take 2 digits.now) cell → result ≡ Some cell }
+    ensures only { (cell : ℕ) → IsCell cell → ReadsByte (BACKSLASH ∷ take 2 digits.now) cell
+        → result ≡ Some cell }
     ensures within { IfSome result (λ _. 2 ≤ length digits.now) }
 {
     let [high, low, ..] = digits else {

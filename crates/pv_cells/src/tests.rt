@@ -1,4 +1,7 @@
-use crate::{NotationError, cells_of, notation, row_of};
+use crate::{
+    BOTTOM_LEFT, BOTTOM_RIGHT, MIDDLE_LEFT, MIDDLE_RIGHT, NotationError, TOP_LEFT, TOP_RIGHT,
+    cells_of, mosaic, notation, row_of, weights_of,
+};
 use pv_fields::{NoRoom, Out};
 use std::test::Fail;
 
@@ -63,4 +66,30 @@ fn notation_is_canonical(rt: HostRuntime) -> Result<(), Fail> {
     notation(&[1, b'A', b'B', b'C'], &mut out)?;
     assert_eq!(rt; &into, b"A\\03\\5c ~\\7f\\ff\\1b\\01ABC");
     Ok(())
+}
+
+#[test]
+fn mosaics_go_between_weights_and_codes(rt: HostRuntime) {
+    let pairs = [
+        (0, 0x20),
+        (1, 0x21),
+        (31, 0x3f),
+        (64, 0x60),
+        (65, 0x61),
+        (80, 0x70),
+        (95, 0x7f),
+    ];
+    for (weights, code) in pairs {
+        assert_eq!(rt; mosaic(weights), Some(code), "at {weights}");
+        assert_eq!(rt; weights_of(code), Some(weights), "at {code}");
+    }
+    for weights in [32, 33, 63, 96, 127, 128, 129, 255] {
+        assert_eq!(rt; mosaic(weights), None, "at {weights}");
+    }
+    for code in [0, 0x1f, 0x40, 0x41, 0x5f, 0x80, 0xff] {
+        assert_eq!(rt; weights_of(code), None, "at {code}");
+    }
+    let arrow = TOP_LEFT + MIDDLE_LEFT + MIDDLE_RIGHT + BOTTOM_LEFT;
+    assert_eq!(rt; mosaic(arrow), Some(0x3d));
+    assert_eq!(rt; mosaic(TOP_RIGHT + BOTTOM_RIGHT), Some(0x62));
 }

@@ -9,7 +9,8 @@ use pv_fields::{NoRoom, Out};
 pub const BACKSLASH: u8 = b'\\';
 
 /// Appends the canonical notation of the bytes: each byte of 0x20 to 0x7E but the backslash as itself,
-/// each other one as a backslash and its two hexadecimal digits in lower case.
+/// each other one as a backslash and its two hexadecimal digits in lower case. Answers [`NoRoom`]
+/// exactly where that does not fit, and then nothing was appended.
 pub fn notation(cells: &[u8], out: &mut Out) -> Result<(), NoRoom>
     ensures ok { OnOk result (Appends out.old out.new (notation_of cells.now)) }
     ensures refused { IsErr result ↔ (room_of out.old < length (notation_of cells.now)) }

@@ -87,10 +87,10 @@ pub frame_count-push : (edits : List Record) (edit : Record) → frame_count (ed
 frame_count-push [] edit = refl
 frame_count-push (x ∷ edits) edit =
     let later : list_any (puts x.name) (edits ++ edit ∷ []) ≡ (list_any (puts x.name) edits || is_name x.name edit.name) =
-        list_any-append (puts x.name) edits (edit ∷ [])
-        ∙ ap (λ (t : Bool). list_any (puts x.name) edits || t) (or-false (is_name edit.name x.name) ∙ is_name_comm edit.name x.name) in
+    list_any-append (puts x.name) edits (edit ∷ [])
+    ∙ ap (λ (t : Bool). list_any (puts x.name) edits || t) (or-false (is_name edit.name x.name) ∙ is_name_comm edit.name x.name) in
     let agree : is_name x.name edit.name ≡ true → list_any (puts x.name) edits ≡ list_any (puts edit.name) edits =
-        λ is. ap (λ (n : Name). list_any (puts n) edits) (same_name x.name edit.name is) in
+    λ is. ap (λ (n : Name). list_any (puts n) edits) (same_name x.name edit.name is) in
     ap (λ (t : Bool). cond t 0 1 + frame_count (edits ++ edit ∷ [])) later
     ∙ ap (λ (n : ℕ). cond (list_any (puts x.name) edits || is_name x.name edit.name) 0 1 + n) (frame_count-push edits edit)
     ∙ arranged (list_any (puts x.name) edits) (list_any (puts edit.name) edits) (is_name x.name edit.name) (frame_count edits) agree

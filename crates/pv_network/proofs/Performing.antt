@@ -52,10 +52,10 @@ acknowledged_kept : (w : World) (c : ℕ) → IsSound w → c < length (kept_of 
 acknowledged_kept w c sound there room =
     let centre = centre_at w c in
     let changed : kept_of (acknowledged w c).0 ≡ with_centres (kept_of w) (set (kept_of w).centres c (with_up (kept_at (kept_of w).centres c))) =
-        rw (room_for_packets w room) (kept_changed w c there (record centre { up = centre.up ++ centre.number ∷ [] }) with_up
-            (ap (λ (n : ℕ). record (kept_centre w.edits w.record_limit centre) { up = centre.up ++ n ∷ [] }) (sym (length_held w c sound)))) in
+    rw (room_for_packets w room) (kept_changed w c there (record centre { up = centre.up ++ centre.number ∷ [] }) with_up
+    (ap (λ (n : ℕ). record (kept_centre w.edits w.record_limit centre) { up = centre.up ++ n ∷ [] }) (sym (length_held w c sound)))) in
     let index : Some (length (kept_at (kept_of w).centres c).up) ≡ (acknowledged w c).1 =
-        rw (room_for_packets w room) (ap (λ (kept : Kept). Some (length kept.up)) (centre_kept w c there)) in
+    rw (room_for_packets w room) (ap (λ (kept : Kept). Some (length kept.up)) (centre_kept w c there)) in
     (record { sound = sound_acknowledged w c sound; same = sym changed }, index)
 
 module _ (s : State) (c : ℕ) (there : c < length s.centres) where
@@ -63,7 +63,7 @@ module _ (s : State) (c : ℕ) (there : c < length s.centres) where
   pub acknowledges : (index : ℕ) (centres : List Kept) → sum_by packets_of s.centres < MAX_PACKETS → index ≡ length (kept_at s.centres c).up → centres ≡ set s.centres c (with_up (kept_at s.centres c)) → Performs s (with_centres s centres) (Some index) (λ w. acknowledged w c)
   acknowledges index centres room index-is centres-is w stands =
       let Q : State → World → Type 0 = λ t v. c < length t.centres → sum_by packets_of t.centres < MAX_PACKETS
-              → StandsFor (with_centres t (set t.centres c (with_up (kept_at t.centres c)))) (acknowledged v c).0 × (Some (length (kept_at t.centres c).up) ≡ (acknowledged v c).1) in
+      → StandsFor (with_centres t (set t.centres c (with_up (kept_at t.centres c)))) (acknowledged v c).0 × (Some (length (kept_at t.centres c).up) ≡ (acknowledged v c).1) in
       rw (index-is, centres-is) (at_kept s Q (λ v sound. acknowledged_kept v c sound) w stands there room)
 
 -- ---- send
@@ -75,9 +75,9 @@ sent_kept w c number edit sound there room next found =
     let centre = centre_at w c in
     let turn : next_number centre.sending (length w.edits) ≡ Some number = ap (λ (kept : Kept). next_number kept.sending (length w.edits)) (sym (centre_kept w c there)) ∙ next in
     let steps : sent w c ≡ (with_centre w c (with_packet centre number edit), SentRecord (length centre.down) number) =
-        rw (room_for_packets w room, turn, found) refl in
+    rw (room_for_packets w room, turn, found) refl in
     let changed : kept_of (sent w c).0 ≡ with_centres (kept_of w) (set (kept_of w).centres c (with_down (kept_at (kept_of w).centres c) number edit)) =
-        ap (λ (r : World × Outcome). kept_of r.0) steps ∙ kept_changed w c there (with_packet centre number edit) (λ kept. with_down kept number edit) refl in
+    ap (λ (r : World × Outcome). kept_of r.0) steps ∙ kept_changed w c there (with_packet centre number edit) (λ kept. with_down kept number edit) refl in
     (record { sound = sound_sent w c sound; same = sym changed }, ap (λ (kept : Kept). SentRecord (length kept.down) number) (centre_kept w c there) ∙ ap (λ (r : World × Outcome). r.1) (sym steps))
 
 module _ (s : State) (c : ℕ) (there : c < length s.centres) where
@@ -86,8 +86,8 @@ module _ (s : State) (c : ℕ) (there : c < length s.centres) where
       → index ≡ length (kept_at s.centres c).down → centres ≡ set s.centres c (with_down (kept_at s.centres c) number edit) → Performs s (with_centres s centres) (SentRecord index number) (λ w. sent w c)
   sends number index edit centres room next found index-is centres-is w stands =
       let Q : State → World → Type 0 = λ t v. c < length t.centres → sum_by packets_of t.centres < MAX_PACKETS
-              → next_number (kept_at t.centres c).sending (length t.edits) ≡ Some number → slice_get t.edits number ≡ Some edit
-              → StandsFor (with_centres t (set t.centres c (with_down (kept_at t.centres c) number edit))) (sent v c).0 × (SentRecord (length (kept_at t.centres c).down) number ≡ (sent v c).1) in
+      → next_number (kept_at t.centres c).sending (length t.edits) ≡ Some number → slice_get t.edits number ≡ Some edit
+      → StandsFor (with_centres t (set t.centres c (with_down (kept_at t.centres c) number edit))) (sent v c).0 × (SentRecord (length (kept_at t.centres c).down) number ≡ (sent v c).1) in
       rw (index-is, centres-is) (at_kept s Q (λ v sound. sent_kept v c number edit sound) w stands there room next found)
 
 -- the number that is sent next is below the front
@@ -109,9 +109,10 @@ arrives_kept : (w : World) (c index : ℕ) (packet : Packet) (arrival : Arrival)
     → arrival_of (length (kept_at (kept_of w).centres c).held) (kept_at (kept_of w).centres c).room packet.number ≡ arrival
     → (slice_get (centre_at w c).down index ≡ Some packet) × (arrival_of (centre_at w c).number w.record_limit packet.number ≡ arrival)
 arrives_kept w c index packet arrival sound there found how =
-    let kept = centre_kept w c there in
-    (ap (λ (k : Kept). slice_get k.down index) (sym kept) ∙ found,
-     ap (λ (n : ℕ). arrival_of n w.record_limit packet.number) (sym (length_held w c sound)) ∙ ap (λ (k : Kept). arrival_of (length k.held) k.room packet.number) (sym kept) ∙ how)
+    let kept = centre_kept w c there in (
+      ap (λ (k : Kept). slice_get k.down index) (sym kept) ∙ found,
+      ap (λ (n : ℕ). arrival_of n w.record_limit packet.number) (sym (length_held w c sound)) ∙ ap (λ (k : Kept). arrival_of (length k.held) k.room packet.number) (sym kept) ∙ how,
+    )
 
 taken_kept : (w : World) (c index : ℕ) (packet : Packet) → IsSound w → c < length (kept_of w).centres → slice_get (kept_at (kept_of w).centres c).down index ≡ Some packet
     → arrival_of (length (kept_at (kept_of w).centres c).held) (kept_at (kept_of w).centres c).room packet.number ≡ arrivals.Taken
@@ -123,10 +124,10 @@ taken_kept w c index packet sound there found how =
     let next = (taken_is_next centre.number w.record_limit packet.number here.1).0 in
     let at : slice_get w.edits centre.number ≡ Some packet.edit = ap (slice_get w.edits) (sym next) ∙ genuine in
     let more : take (centre.number + 1) w.edits ≡ take centre.number w.edits ++ packet.edit ∷ [] =
-        take_more w.edits centre.number packet.edit (slice_get_within w.edits centre.number packet.edit at)
-        ∙ ap (λ (e : Record). take centre.number w.edits ++ e ∷ []) (get_or_from_slice_get w.edits centre.number packet.edit packet.edit at) in
+    take_more w.edits centre.number packet.edit (slice_get_within w.edits centre.number packet.edit at)
+    ∙ ap (λ (e : Record). take centre.number w.edits ++ e ∷ []) (get_or_from_slice_get w.edits centre.number packet.edit packet.edit at) in
     let changed = kept_changed w c there (record centre { number = centre.number + 1 }) (λ kept. with_held kept packet.edit)
-            (ap (λ (held : List Record). record (kept_centre w.edits w.record_limit centre) { held = held }) more) in
+    (ap (λ (held : List Record). record (kept_centre w.edits w.record_limit centre) { held = held }) more) in
     record { sound = sound_taken w c packet sound genuine next; same = sym changed }
 
 module _ (s : State) (c index : ℕ) (packet : Packet) (there : c < length s.centres) (found : slice_get (kept_at s.centres c).down index ≡ Some packet) where
@@ -134,8 +135,8 @@ module _ (s : State) (c index : ℕ) (packet : Packet) (there : c < length s.cen
   pub delivers : (arrival : Arrival) → arrival_of (length (kept_at s.centres c).held) (kept_at s.centres c).room packet.number ≡ arrival → (w : World) → StandsFor s w → delivered w c index ≡ arrived w c packet.number arrival
   delivers arrival how w stands =
       let Q : State → World → Type 0 = λ t v. c < length t.centres → slice_get (kept_at t.centres c).down index ≡ Some packet
-              → arrival_of (length (kept_at t.centres c).held) (kept_at t.centres c).room packet.number ≡ arrival
-              → (slice_get (centre_at v c).down index ≡ Some packet) × (arrival_of (centre_at v c).number v.record_limit packet.number ≡ arrival) in
+      → arrival_of (length (kept_at t.centres c).held) (kept_at t.centres c).room packet.number ≡ arrival
+      → (slice_get (centre_at v c).down index ≡ Some packet) × (arrival_of (centre_at v c).number v.record_limit packet.number ≡ arrival) in
       let here = at_kept s Q (λ v sound. arrives_kept v c index packet arrival sound) w stands there found how in
       rw (here.0, here.1) refl
 
@@ -143,8 +144,8 @@ module _ (s : State) (c index : ℕ) (packet : Packet) (there : c < length s.cen
   pub takes : arrival_of (length (kept_at s.centres c).held) (kept_at s.centres c).room packet.number ≡ arrivals.Taken → (w : World) → StandsFor s w → StandsFor (with_centres s (set s.centres c (with_held (kept_at s.centres c) packet.edit))) (with_taken w c)
   takes how w stands =
       let Q : State → World → Type 0 = λ t v. c < length t.centres → slice_get (kept_at t.centres c).down index ≡ Some packet
-              → arrival_of (length (kept_at t.centres c).held) (kept_at t.centres c).room packet.number ≡ arrivals.Taken
-              → StandsFor (with_centres t (set t.centres c (with_held (kept_at t.centres c) packet.edit))) (with_taken v c) in
+      → arrival_of (length (kept_at t.centres c).held) (kept_at t.centres c).room packet.number ≡ arrivals.Taken
+      → StandsFor (with_centres t (set t.centres c (with_held (kept_at t.centres c) packet.edit))) (with_taken v c) in
       at_kept s Q (λ v sound. taken_kept v c index packet sound) w stands there found how
 
 -- ---- what is read of a centre

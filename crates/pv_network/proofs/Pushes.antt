@@ -19,9 +19,9 @@ module _ (len k : ℕ) (bytes more : List ℕ) (zeroed : IsZeroed len bytes) (ma
   -- the rest are zeros
   zeros_behind : drop (len + k) (put_mid len k bytes more) ≡ replicate (ROOM - (len + k)) 0
   zeros_behind =
-    drop-put_mid len k bytes more (len + k) (omega arith) within (sym many)
-    ∙ sym (drop-drop k len bytes) ∙ ap (λ (rest : List ℕ). drop k rest) zeroed.zeros ∙ drop-replicate k (ROOM - len) 0
-    ∙ ap (λ (n : ℕ). replicate n 0) (let e : ROOM - len - k ≡ ROOM - (len + k) = omega arith in e)
+      drop-put_mid len k bytes more (len + k) (omega arith) within (sym many)
+      ∙ sym (drop-drop k len bytes) ∙ ap (λ (rest : List ℕ). drop k rest) zeroed.zeros ∙ drop-replicate k (ROOM - len) 0
+      ∙ ap (λ (n : ℕ). replicate n 0) (let e : ROOM - len - k ≡ ROOM - (len + k) = omega arith in e)
 
   -- the array is as long as it was
   same_length : length (put_mid len k bytes more) ≡ ROOM

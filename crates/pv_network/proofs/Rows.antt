@@ -15,13 +15,13 @@ module _ (column : ℕ) (cells : List ℕ) (fits : column + length cells ≤ COL
   -- the row is blank up to the cells and behind them
   pub put-padded : put_mid column (length cells) (replicate COLUMNS 32) cells ≡ padded (replicate column 32 ++ cells)
   put-padded =
-    let front = take-replicate column COLUMNS 32 (omega arith) in
-    let back : drop (length cells) (drop column (replicate COLUMNS 32)) ≡ replicate (COLUMNS - length (replicate column 32 ++ cells)) 32 =
-        ap (λ (l : List ℕ). drop (length cells) l) (drop-replicate column COLUMNS 32) ∙ drop-replicate (length cells) (COLUMNS - column) 32
-        ∙ ap (λ (n : ℕ). replicate n 32) (simp (length-append, length-replicate) (omega arith)) in
-    ap (λ (l : List ℕ). l ++ (cells ++ drop (length cells) (drop column (replicate COLUMNS 32)))) front
-    ∙ ap (λ (l : List ℕ). replicate column 32 ++ (cells ++ l)) back
-    ∙ sym (append_assoc (replicate column 32) cells (replicate (COLUMNS - length (replicate column 32 ++ cells)) 32))
+      let front = take-replicate column COLUMNS 32 (omega arith) in
+      let back : drop (length cells) (drop column (replicate COLUMNS 32)) ≡ replicate (COLUMNS - length (replicate column 32 ++ cells)) 32 =
+      ap (λ (l : List ℕ). drop (length cells) l) (drop-replicate column COLUMNS 32) ∙ drop-replicate (length cells) (COLUMNS - column) 32
+      ∙ ap (λ (n : ℕ). replicate n 32) (simp (length-append, length-replicate) (omega arith)) in
+      ap (λ (l : List ℕ). l ++ (cells ++ drop (length cells) (drop column (replicate COLUMNS 32)))) front
+      ∙ ap (λ (l : List ℕ). replicate column 32 ++ (cells ++ l)) back
+      ∙ sym (append_assoc (replicate column 32) cells (replicate (COLUMNS - length (replicate column 32 ++ cells)) 32))
 
   -- it is a row
   pub row_padded : All (λ cell. cell ≤ 127) cells → IsRow (padded (replicate column 32 ++ cells))

@@ -35,7 +35,7 @@ same_centres : (edits more : List Record) (limit : ℕ) (centres : List Centre) 
 same_centres edits more limit [] sound = refl
 same_centres edits more limit (centre ∷ centres) sound =
     let here : kept_centre edits limit centre ≡ kept_centre (edits ++ more) limit centre =
-        ap (λ (held : List Record). record (kept_centre edits limit centre) { held = held }) (sym (take-append-le centre.number edits more sound.0.within)) in
+    ap (λ (held : List Record). record (kept_centre edits limit centre) { held = held }) (sym (take-append-le centre.number edits more sound.0.within)) in
     ap (λ (k : Kept). k ∷ map (kept_centre edits limit) centres) here ∙ ap (λ (l : List Kept). kept_centre (edits ++ more) limit centre ∷ l) (same_centres edits more limit centres sound.1)
 
 seeded_kept : (w : World) (name : Name) (row : List ℕ) → IsSound w → refusal_of (kept_of w) (is_none (frame_at w.edits name)) ≡ None
@@ -45,9 +45,9 @@ seeded_kept w name row sound taken =
     let edit = next_edit w name row in
     let stores : seeded w name row ≡ (with_edit w edit, Reply (stored_reply (length w.edits))) = rw (tests.0, tests.1) refl in
     let counted : with_record (kept_of w) name row ≡ record (kept_of w) { edits = w.edits ++ edit ∷ [] } =
-        ap (λ (n : ℕ). record (kept_of w) { edits = w.edits ++ record { editor = OPERATOR; number = n + 1; name = name; row = row } ∷ [] }) (sym (last_number-run w.edits sound.run)) in
+    ap (λ (n : ℕ). record (kept_of w) { edits = w.edits ++ record { editor = OPERATOR; number = n + 1; name = name; row = row } ∷ [] }) (sym (last_number-run w.edits sound.run)) in
     let kept : with_record (kept_of w) name row ≡ kept_of (with_edit w edit) =
-        counted ∙ ap (λ (centres : List Kept). record (kept_of w) { edits = w.edits ++ edit ∷ []; centres = centres }) (same_centres w.edits (edit ∷ []) w.record_limit w.centres sound.centres) in
+    counted ∙ ap (λ (centres : List Kept). record (kept_of w) { edits = w.edits ++ edit ∷ []; centres = centres }) (same_centres w.edits (edit ∷ []) w.record_limit w.centres sound.centres) in
     (record { sound = sound_seeded w name row sound; same = kept ∙ ap (λ (r : World × Outcome). kept_of r.0) (sym stores) }, ap (λ (r : World × Outcome). r.1) (sym stores))
 
 -- the record is stored
@@ -55,5 +55,5 @@ pub seeds : (s : State) (name : Name) (row : List ℕ) → refusal_of s (is_none
     → StandsFor (with_record s name row) (seeded w name row).0 × (Reply (stored_reply (length s.edits)) ≡ (seeded w name row).1)
 seeds s name row taken w stands =
     let Q : State → World → Type 0 = λ t v. refusal_of t (is_none (frame_at t.edits name)) ≡ None
-            → StandsFor (with_record t name row) (seeded v name row).0 × (Reply (stored_reply (length t.edits)) ≡ (seeded v name row).1) in
+    → StandsFor (with_record t name row) (seeded v name row).0 × (Reply (stored_reply (length t.edits)) ≡ (seeded v name row).1) in
     at_kept s Q (λ v sound. seeded_kept v name row sound) w stands taken

@@ -17,7 +17,7 @@ use Rattle.pv_network.specs.declared.outcome.Outcome.{Outcome}
 use Rattle.pv_network.specs.Edits.{puts, frame_at, frame_count, last_number, IsRun}
 use Rattle.pv_network.specs.World.{World, Centre, Acknowledged, new_centre, start, centre_at, with_centre}
 use Rattle.pv_network.specs.Step.{is_packets_full, next_edit, with_edit, is_frames_full, seeded, next_number, with_packet, packed, sent_number, sent, arrival_of, acknowledged, with_taken, arrived, delivered_packet, delivered, happens, after}
-use Rattle.pv_network.specs.Sound.{IsKept, IsGenuine, IsSoundCentre, IsSound}
+use Rattle.pv_network.specs.Sound.{IsKept, receipt, receipts_from, IsGenuine, IsSoundCentre, IsSound}
 use Rattle.pv_network.proofs.Counts.{none-frame_at, frame_count-push, last_number-run}
 use Rattle.pv_network.proofs.Lists.{all_push, all_set, all_at, all_get, all_weaken, get_front, get_push, get_last}
 
@@ -41,6 +41,7 @@ sound_with w c centre sound here = record {
   records = sound.records;
   frames = sound.frames;
   acknowledged = sound.acknowledged;
+  once = sound.once;
   centres = all_set (IsSoundCentre w.edits) w.centres c centre sound.centres here;
 }
 
@@ -77,6 +78,12 @@ frames_push edits edit limit within room =
     go false false fits count less = omega (arith, count, less refl)
     go false true fits count less = absurd cc
 
+-- the receipt of a last record stands last
+receipts-push : (place : ℕ) (edits : List Record) (edit : Record) → receipts_from place (edits ++ edit ∷ []) ≡ receipts_from place edits ++ receipt edit (place + length edits) ∷ []
+receipts-push place [] edit = ap (λ (n : ℕ). receipt edit n ∷ []) (omega arith)
+receipts-push place (first ∷ later) edit =
+    ap (λ (l : List Acknowledged). receipt first place ∷ l) (receipts-push (place + 1) later edit ∙ ap (λ (n : ℕ). receipts_from (place + 1) later ++ receipt edit n ∷ []) (omega arith))
+
 sound_edit : (w : World) (name : Name) (row : List ℕ) → IsSound w → is_frames_full w name ≡ false → leb w.record_limit (length w.edits) ≡ false → IsSound (with_edit w (next_edit w name row))
 sound_edit w name row sound frames records =
     let edit = next_edit w name row in
@@ -88,13 +95,15 @@ sound_edit w name row sound frames records =
       acknowledged = all_push (IsKept (w.edits ++ edit ∷ [])) w.acknowledged (record { editor = edit.editor; number = edit.number; place = length w.edits })
           (all_weaken (IsKept w.edits) (IsKept (w.edits ++ edit ∷ [])) (kept_longer w.edits (edit ∷ [])) w.acknowledged sound.acknowledged)
           (edit, get_last w.edits edit, refl, refl);
+      once = ap (λ (l : List Acknowledged). l ++ receipt edit (length w.edits) ∷ []) sound.once
+          ∙ ap (λ (n : ℕ). receipts_from 0 w.edits ++ receipt edit n ∷ []) (omega arith) ∙ sym (receipts-push 0 w.edits edit);
       centres = all_weaken (IsSoundCentre w.edits) (IsSoundCentre (w.edits ++ edit ∷ [])) (centre_longer w.edits (edit ∷ [])) w.centres sound.centres;
     }
 
 pub sound_seeded : (w : World) (name : Name) (row : List ℕ) → IsSound w → IsSound (seeded w name row).0
 sound_seeded w name row sound =
     choice (is_frames_full w name) _ _ (λ _. sound) (λ frames.
-        choice (leb w.record_limit (length w.edits)) _ _ (λ _. sound) (λ records. sound_edit w name row sound frames records))
+    choice (leb w.record_limit (length w.edits)) _ _ (λ _. sound) (λ records. sound_edit w name row sound frames records))
 
 -- ---- send
 
@@ -113,6 +122,7 @@ sound_sent w c sound = choice (is_packets_full w) _ _ (λ _. sound) (λ _. numbe
     pack : (number : ℕ) (found : Option Record) → slice_get w.edits number ≡ found → IsSound (packed w c number found).0
     pack number None is = sound
     pack number (Some edit) is = sound_packet w c number edit sound is
+
     numbered : (number : Option ℕ) → IsSound (sent_number w c number).0
     numbered None = sound
     numbered (Some number) = pack number (slice_get w.edits number) refl
@@ -156,6 +166,7 @@ sound_delivered w c index sound = arrives (slice_get (centre_at w c).down index)
     by packet arrivals.Old is how = sound_acknowledged w c sound
     by packet arrivals.Early is how = sound_acknowledged w c sound
     by packet arrivals.Full is how = sound
+
     arrives : (found : Option Packet) → slice_get (centre_at w c).down index ≡ found → IsSound (delivered_packet w c found).0
     arrives None is = sound
     arrives (Some packet) is = by packet _ (all_get (IsGenuine w.edits) (centre_at w c).down index packet (sound_at w c sound).packets is) refl
@@ -174,7 +185,7 @@ sound_after w (event ∷ events) sound = sound_after (happens w event).0 events 
 
 -- the start is sound
 pub sound_start : (centres frames records : ℕ) → IsSound (start centres frames records)
-sound_start centres frames records = record { run = λ place edit is. absurd cc; records = omega arith; frames = omega arith; acknowledged = tt; centres = new_ones centres }
+sound_start centres frames records = record { run = λ place edit is. absurd cc; records = omega arith; frames = omega arith; acknowledged = tt; once = refl; centres = new_ones centres }
   where
     new_ones : (n : ℕ) → AllByRecursion (IsSoundCentre []) (replicate n new_centre)
     new_ones zero = tt

@@ -5,7 +5,6 @@ use Rattle.pv_screen.specs.declared.screen.Screen.TheVariants.{Whole}
 use Rattle.pv_network.specs.declared.record.Record.{Record}
 use Rattle.pv_network.specs.declared.record.TheConstants.{OPERATOR}
 use Rattle.pv_network.specs.declared.packet.Packet.{Packet}
-use Rattle.pv_network.specs.declared.packet.TheConstants.{MAX_PACKETS}
 use Rattle.pv_network.specs.declared.centre.Arrival.{Arrival}
 use Rattle.pv_network.specs.declared.centre.Arrival.TheVariants as arrivals
 use Rattle.pv_network.specs.declared.event.Event.{Event}
@@ -17,9 +16,9 @@ use Rattle.pv_network.specs.Edits.{frame_at, frame_count, last_number}
 use Rattle.pv_network.specs.Replies.{stored_reply, frames_full_reply, full_reply}
 use Rattle.pv_network.specs.World.{World, Centre, End, centre_at, with_centre, held, packet_count}
 
--- 20,000 packets were made, and no more is
+-- the network has made as many packets as it may: 20,000
 abbrev pub is_packets_full : World → Bool
-is_packets_full w = nat_le MAX_PACKETS (packet_count w)
+is_packets_full w = nat_le 20000 (packet_count w)
 
 -- ---- seed
 

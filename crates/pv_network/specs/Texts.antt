@@ -1,6 +1,6 @@
 -- A text in an array that is longer: zeros stand behind it.
 use Rattle.std.specs.Prelude.{◌≡◌, ℕ, ◌-◌, ◌≤◌, List, ◌++◌, length, take, drop, replicate}
-use Rattle.std.proofs.Common.{sym, ◌∙◌, ap, arith}
+use Rattle.std.proofs.Common.{sym, ◌∙◌, ap, subst}
 use Rattle.std.proofs.lemmas.List.{length-take-le, take-append-drop}
 use Rattle.pv_network.specs.declared.text.TheConstants.{ROOM}
 
@@ -20,7 +20,7 @@ pub record IsZeroed (len : ℕ) (bytes : List ℕ) : Type 0 where
 
 -- what is shown is as long as the text
 pub length-shown : (len : ℕ) (bytes : List ℕ) → IsZeroed len bytes → length (shown len bytes) ≡ len
-length-shown len bytes z = length-take-le len bytes (omega (arith, z.within, z.whole))
+length-shown len bytes z = length-take-le len bytes (subst (λ (n : ℕ). len ≤ n) (sym z.whole) z.within)
 
 -- storing what is shown gives the array back
 pub stored-shown : (len : ℕ) (bytes : List ℕ) → IsZeroed len bytes → stored (shown len bytes) ≡ bytes

@@ -119,7 +119,11 @@ impl Centre {
     {
         let count = self.held.len() as u64;
         if number == count {
-            if self.room as u64 <= count { Arrival::Full } else { Arrival::Taken }
+            if self.room as u64 <= count {
+                Arrival::Full
+            } else {
+                Arrival::Taken
+            }
         } else if number < count {
             Arrival::Old
         } else {

@@ -7,9 +7,9 @@ ghost use Rattle.pv_network.specs.Step.{after};
 ghost use Rattle.pv_network.specs.Sound.{IsSound};
 
 /// Whatever happens, in whatever order, the world is sound: the edit list is a run from nothing with the
-/// operator's numbers 1, 2, 3 in order, each place that was acknowledged holds that edit, each packet
-/// carries the list's record of its number, and each centre has a front of the list.
+/// operator's numbers 1, 2, 3 in order, each place that was acknowledged holds that edit, each edit was
+/// acknowledged once and in order, each packet carries the list's record of its number, and each centre
+/// has a front of the list.
 pub fn every_reachable_world_is_sound()
     ensures { (centres frames records : ℕ) (events : List Event) → IsSound (after (start centres frames records) events) }
-{
-}
+{}

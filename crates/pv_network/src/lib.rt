@@ -21,7 +21,6 @@
 mod centre;
 mod composing;
 mod event;
-
 mod laws;
 mod network;
 mod outcome;
@@ -30,12 +29,8 @@ mod record;
 mod text;
 
 pub use event::Event;
-
 pub use laws::every_reachable_world_is_sound;
 pub use network::Network;
 pub use outcome::{Outcome, Turn, Why};
 pub use record::OPERATOR;
 pub use text::Text;
-
-#[cfg(test)]
-mod tests;

@@ -28,8 +28,8 @@ impl Model for Text {
     ghost inverse = { λ text. record { len = length text; bytes = stored text } };
 
     ghost inverse_ok = { λ t zeroed i. record {
-        len = length-shown t.len t.bytes zeroed i;
-        bytes = stored-shown t.len t.bytes zeroed i
+      len = length-shown t.len t.bytes zeroed i;
+      bytes = stored-shown t.len t.bytes zeroed i;
     } };
 }
 

@@ -23,8 +23,8 @@ pub returns-else-eq-4-clause-only : goal.returns-else-eq-4-clause-only
 returns-else-eq-4-clause-only c = λ event asks.
     let word = c.in_ok-word.word.now in
     absurd (no_event c.args.centres c.args.line.now word c.in_ok-word.rest.now event c.in_ok-word.ensures.found
-        (other_word word c.as_slice.result.now (codes "seed") c.if-eq.ensures c.as_slice.ensures)
-        (other_word word c.as_slice-else-eq.result.now (codes "send") c.if-eq-2.ensures c.as_slice-else-eq.ensures)
-        (other_word word c.as_slice-else-eq-2.result.now (codes "deliver") c.if-eq-3.ensures c.as_slice-else-eq-2.ensures)
-        (other_word word c.as_slice-else-eq-3.result.now (codes "view") c.if-eq-4.ensures c.as_slice-else-eq-3.ensures)
-        asks)
+    (other_word word c.as_slice.result.now (codes "seed") c.if-eq.ensures c.as_slice.ensures)
+    (other_word word c.as_slice-else-eq.result.now (codes "send") c.if-eq-2.ensures c.as_slice-else-eq.ensures)
+    (other_word word c.as_slice-else-eq-2.result.now (codes "deliver") c.if-eq-3.ensures c.as_slice-else-eq-2.ensures)
+    (other_word word c.as_slice-else-eq-3.result.now (codes "view") c.if-eq-4.ensures c.as_slice-else-eq-3.ensures)
+    asks)

@@ -14,9 +14,10 @@ two (x ∷ y ∷ z ∷ words) a b some few is_a is_b = absurd (omega arith)
 
 -- the first is the one word, and a test compares the second with the other
 tested : (a b : List ℕ) (t : Bool) → a ≡ codes "play" → t ≡ pointwise nat_eq b (codes "1") → (IsTrue t → a ∷ b ∷ [] ≡ play_words) × (a ∷ b ∷ [] ≡ play_words → IsTrue t)
-tested a b t is_a test =
-    ((λ yes. let is_b : b ≡ codes "1" = (bytes_eq-Decides b (codes "1")).0 (sym test ∙ yes) in λ i. is_a i ∷ is_b i ∷ []),
-     (λ same. let is_b : b ≡ codes "1" = cc in test ∙ (bytes_eq-Decides b (codes "1")).1 is_b))
+tested a b t is_a test = (
+  (λ yes. let is_b : b ≡ codes "1" = (bytes_eq-Decides b (codes "1")).0 (sym test ∙ yes) in λ i. is_a i ∷ is_b i ∷ []),
+  (λ same. let is_b : b ≡ codes "1" = cc in test ∙ (bytes_eq-Decides b (codes "1")).1 is_b),
+)
 
 pub returns-then-eq : goal.returns-then-eq
 returns-then-eq c =

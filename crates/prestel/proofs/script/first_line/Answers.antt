@@ -15,5 +15,5 @@ pub returns-in-None-clause-line : goal.returns-in-None-clause-line
 returns-in-None-clause-line c =
     let text = c.args.text.now in
     let nothing : take (length text - length text) (drop (length text) text) ≡ [] =
-        let none : length text - length text ≡ 0 = omega arith in rw none refl in
+    let none : length text - length text ≡ 0 = omega arith in rw none refl in
     line_last text c.requires (c.in-None.ensures.missing refl) ∙ ap (λ (l : List ℕ). text ∷ lines_of l) (sym nothing)

@@ -4,7 +4,7 @@ use Rattle.std.proofs.lemmas.Result.{err_from_is_err_and}
 use Rattle.pv_cells.specs.Notation.{ReadsByte}
 use Rattle.pv_cells.specs.Row.{BeginsFault, TellsRow}
 use Rattle.pv_cells.proofs.OneOutcome.{only_one}
-use Rattle.pv_cells.proofs.Rows.{full, fault, ended, cell_more}
+use Rattle.pv_cells.proofs.Rows.{full, fault, ended, cell_more, holds_cells}
 use Rattle.pv_cells.proofs.reading.cells_of.Given.{Over}
 use Rattle.pv_cells.proofs.reading.cells_of.Goals as goal
 use Rattle.pv_cells.proofs.reading.cells_of.Goals.{In_err-cell}
@@ -45,3 +45,6 @@ loop-at-preserved g c =
 
 pub returns-clause-only : goal.returns-clause-only
 returns-clause-only g c = λ other told. only_one _ _ other _ told (ended c.loop-at.invariant (omega arith))
+
+pub returns-clause-cells : goal.returns-clause-cells
+returns-clause-cells g c = holds_cells c.loop-at.invariant

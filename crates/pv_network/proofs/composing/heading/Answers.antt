@@ -9,5 +9,5 @@ pub row_from-requires-clause-seven_bits : goal.row_from-requires-clause-seven_bi
 row_from-requires-clause-seven_bits c =
     let len = c.text-len.result in
     let written : take len c.text-len.new.into ≡ name_text c.args.name =
-        ap (λ (l : List ℕ). take len l) c.text-len.ensures.text ∙ take_at (name_text c.args.name) _ len (sym c.text-len.ensures.len) in
+    ap (λ (l : List ℕ). take len l) c.text-len.ensures.text ∙ take_at (name_text c.args.name) _ len (sym c.text-len.ensures.len) in
     subst (λ (l : List ℕ). All (λ cell. cell ≤ 127) l) (sym written) (name_seven_bits c.args.name c.text-len.ensures.within)

@@ -20,4 +20,4 @@ returns-clause-performs c =
     let room : sum_by packets_of vec.items < MAX_PACKETS = omega (arith, c.self.invariant.packets) in
     let state : State = record { edits = c.self.inside.edits.items; frame_limit = c.self.inside.limits.frames; record_limit = c.self.inside.limits.records; centres = vec.items } in
     subst (λ (s : State). Performs s (record state { centres = new }) (Some c.acknowledge_at-index.result) (λ w. acknowledged w c.args.centre)) c.self.view_is
-        (acknowledges state c.args.centre there c.acknowledge_at-index.result new room index made)
+    (acknowledges state c.args.centre there c.acknowledge_at-index.result new room index made)

@@ -10,6 +10,6 @@ use Rattle.pv_network.proofs.network.Network.open.Goals as goal
 -- nothing has happened to any centre
 pub returns-clause-ok : goal.returns-clause-ok
 returns-clause-ok c = record {
-    sound = sound_start c.args.centres c.args.limits.frames c.args.limits.records;
-    same = kept_start c.args.centres c.args.limits.frames c.args.limits.records c.in_ok-edits.edits.items c.in_ok-centres.centres.items c.in_ok-edits.ensures.items c.in_ok-centres.ensures;
-  }
+  sound = sound_start c.args.centres c.args.limits.frames c.args.limits.records;
+  same = kept_start c.args.centres c.args.limits.frames c.args.limits.records c.in_ok-edits.edits.items c.in_ok-centres.centres.items c.in_ok-edits.ensures.items c.in_ok-centres.ensures;
+}

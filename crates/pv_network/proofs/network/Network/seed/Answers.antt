@@ -20,8 +20,8 @@ pub returns-in-None-clause-performs : goal.returns-in-None-clause-performs
 returns-in-None-clause-performs c = λ w stands.
     let s = c.args.self.now in
     let is_new : c.is_none-is_new.result ≡ is_none (frame_at s.edits c.args.name) =
-        turned c.is_none-is_new.result (is_some c.last_frame.result) c.is_none-is_new.ensures ∙ ap (λ (o : Option (List ℕ)). is_none o) c.last_frame.ensures
-        ∙ ap (λ (e : List Record). is_none (frame_at e c.args.name)) c.deref.ensures.value ∙ ap (λ (t : State). is_none (frame_at t.edits c.args.name)) c.self.view_is in
+    turned c.is_none-is_new.result (is_some c.last_frame.result) c.is_none-is_new.ensures ∙ ap (λ (o : Option (List ℕ)). is_none o) c.last_frame.ensures
+    ∙ ap (λ (e : List Record). is_none (frame_at e c.args.name)) c.deref.ensures.value ∙ ap (λ (t : State). is_none (frame_at t.edits c.args.name)) c.self.view_is in
     let taken : refusal_of s (is_none (frame_at s.edits c.args.name)) ≡ None = ap (refusal_of s) (sym is_new) ∙ sym c.refusal.ensures ∙ c.in-None.is in
     let told : c.stored.result ≡ stored_reply (length s.edits) = c.stored.ensures ∙ ap stored_reply c.store-place.ensures.place in
     rw (c.store-place.ensures.stored, told) (seeds s c.args.name c.args.row.now taken w stands)

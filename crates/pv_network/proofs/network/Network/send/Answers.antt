@@ -27,8 +27,8 @@ returns-clause-performs c =
     let kept : c.index.result.now ≡ kept_at vec.items c.args.centre = get_or_read vec.items c.args.centre c.index.result.now there c.index.ensures nothing_kept in
     let front : c.len-front.result ≡ length edits.items = omega (arith, c.len-front.ensures, edits.ok.0) in
     let next : next_number (kept_at vec.items c.args.centre).sending (length edits.items) ≡ Some number =
-        ap (λ (k : Kept). next_number k.sending (length edits.items)) (sym kept) ∙ ap (λ (n : ℕ). next_number c.index.result.now.sending n) (sym front) ∙ sym c.in-Some.ensures in
+    ap (λ (k : Kept). next_number k.sending (length edits.items)) (sym kept) ∙ ap (λ (n : ℕ). next_number c.index.result.now.sending n) (sym front) ∙ sym c.in-Some.ensures in
     let found : slice_get edits.items number ≡ Some edit = slice_get_read edits.items (length edits.items) number edit refl (next_below (kept_at vec.items c.args.centre).sending (length edits.items) number next) c.index-edit.ensures in
     let state : State = record { edits = edits.items; frame_limit = c.self.inside.limits.frames; record_limit = c.self.inside.limits.records; centres = vec.items } in
     subst (λ (s : State). Performs s (record state { centres = new }) (SentRecord c.pack_at-index.result number) (λ w. sent w c.args.centre)) c.self.view_is
-        (sends state c.args.centre there number c.pack_at-index.result edit new room next found index packed)
+    (sends state c.args.centre there number c.pack_at-index.result edit new room next found index packed)

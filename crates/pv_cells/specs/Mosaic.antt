@@ -1,0 +1,27 @@
+-- Mosaics: which squares of a block are lit, the sum of their weights, and the code.
+use Rattle.std.specs.Prelude.{◌≡◌, ℕ, ◌+◌, Bool, if◌then◌else◌}
+use Rattle.pv_cells.specs.declared.mosaics.TheConstants.{TOP_LEFT, TOP_RIGHT, MIDDLE_LEFT, MIDDLE_RIGHT, BOTTOM_LEFT, BOTTOM_RIGHT, DARK}
+
+-- which of the six squares are lit
+pub record Block : Type 0 where
+  pub top_left : Bool
+  pub top_right : Bool
+  pub middle_left : Bool
+  pub middle_right : Bool
+  pub bottom_left : Bool
+  pub bottom_right : Bool
+
+-- a square's part in the sum
+abbrev pub lit : Bool → ℕ → ℕ
+lit is_lit weight = if is_lit then weight else 0
+
+-- the sum of the weights of the lit squares
+abbrev pub weight_of : Block → ℕ
+weight_of block =
+    lit block.top_left TOP_LEFT + lit block.top_right TOP_RIGHT
+    + lit block.middle_left MIDDLE_LEFT + lit block.middle_right MIDDLE_RIGHT
+    + lit block.bottom_left BOTTOM_LEFT + lit block.bottom_right BOTTOM_RIGHT
+
+-- some block has this sum of weights, and its code is that sum above the code of the dark one
+abbrev pub IsMosaic : ℕ → ℕ → Type 0
+IsMosaic weights code = (block : Block) × ((weights ≡ weight_of block) × (code ≡ DARK + weights))
