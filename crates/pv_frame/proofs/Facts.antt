@@ -1,0 +1,98 @@
+-- Frames and bytes worked out by hand, computed from the definitions.
+use Rattle.std.proofs.Common.{◌≡◌, ℕ, true, false, [], ◌∷◌, length, Some, None, refl}
+use Rattle.pv_frame.specs.declared.codec_error.FrameCodecError.TheVariants.{Short, Version}
+use Rattle.pv_frame.specs.declared.field.Field.{Field}
+use Rattle.pv_frame.specs.declared.field.FieldKind.{FieldKind}
+use Rattle.pv_frame.specs.declared.field.FieldKind.TheVariants.{Digits, Words}
+use Rattle.pv_frame.specs.declared.kind.Kind.TheVariants.{Information, Response, Mail}
+use Rattle.pv_frame.specs.Content.{blank}
+use Rattle.pv_frame.specs.Faults.{lies_in_body, meets, first_meeting, has_shape, fault_of}
+use Rattle.pv_frame.specs.Reading.{is_route, page_of, refusal_of}
+use Rattle.pv_frame.specs.Spelling.{field_bytes, route_bytes, spelling_of}
+
+-- a blank frame has no fault, and takes 950 bytes
+pub blank-faultless : fault_of blank ≡ None
+blank-faultless = refl
+
+pub blank-size : length (spelling_of blank) ≡ 950
+blank-size = refl
+
+-- a field by its row, its first column and its length
+abbrev field : FieldKind → ℕ → ℕ → ℕ → Field
+field kind row column size = record { row = row; column = column; length = size; kind = kind }
+
+-- the widest field, and fields one row or one column outside
+pub widest-inside : lies_in_body (field Words 23 0 40) ≡ true
+widest-inside = refl
+
+pub above-outside : lies_in_body (field Words 1 0 40) ≡ false
+above-outside = refl
+
+pub below-outside : lies_in_body (field Words 24 0 40) ≡ false
+below-outside = refl
+
+pub too-far : lies_in_body (field Words 5 31 10) ≡ false
+too-far = refl
+
+pub of-no-cell : lies_in_body (field Words 5 31 0) ≡ false
+of-no-cell = refl
+
+-- fields that touch do not meet, and one inside the other does
+pub touching-apart : meets (field Words 5 0 10) (field Words 5 10 10) ≡ false
+touching-apart = refl
+
+pub inside-meets : meets (field Words 5 0 40) (field Digits 5 39 1) ≡ true
+inside-meets = refl
+
+pub other-row-apart : meets (field Words 5 0 40) (field Words 6 0 40) ≡ false
+other-row-apart = refl
+
+-- of three fields in a row the first and the last meet before the second and the last
+pub first-pair : first_meeting 0 (field Words 5 0 10 ∷ field Words 5 10 10 ∷ field Words 5 9 2 ∷ []) ≡ Some (0, 2)
+first-pair = refl
+
+-- what frames of each kind have
+pub mail-of-two : has_shape Mail (field Digits 3 0 10 ∷ field Words 5 0 40 ∷ []) ≡ true
+mail-of-two = refl
+
+pub mail-without-text : has_shape Mail (field Digits 3 0 10 ∷ []) ≡ false
+mail-without-text = refl
+
+pub mail-to-nine-digits : has_shape Mail (field Digits 3 0 9 ∷ field Words 5 0 40 ∷ []) ≡ false
+mail-to-nine-digits = refl
+
+pub response-without-field : has_shape Response [] ≡ false
+response-without-field = refl
+
+pub information-with-field : has_shape Information (field Words 5 0 40 ∷ []) ≡ false
+information-with-field = refl
+
+-- the bytes of routes and fields
+pub route-to-twelve : route_bytes (Some 12) ≡ 0 ∷ 0 ∷ 0 ∷ 12 ∷ []
+route-to-twelve = refl
+
+pub route-to-nowhere : route_bytes None ≡ 255 ∷ 255 ∷ 255 ∷ 255 ∷ []
+route-to-nowhere = refl
+
+pub a-field : field_bytes (field Words 5 2 38) ≡ 5 ∷ 2 ∷ 38 ∷ 1 ∷ []
+a-field = refl
+
+-- the last page is a route, and no number behind it but that of no route
+pub last-page : is_route 999999999 ≡ true
+last-page = refl
+
+pub behind-last-page : is_route 1000000000 ≡ false
+behind-last-page = refl
+
+pub all-ones : is_route 0xffffffff ≡ true
+all-ones = refl
+
+pub all-ones-nowhere : page_of 0xffffffff ≡ None
+all-ones-nowhere = refl
+
+-- no byte is short, and one that is no version is told before what is missing
+pub nothing-short : refusal_of [] ≡ Some Short
+nothing-short = refl
+
+pub other-version : refusal_of (2 ∷ []) ≡ Some Version
+other-version = refl

@@ -1,0 +1,13 @@
+pub mod CallerLemmas
+pub mod Decoding
+pub mod Facts
+pub mod First
+pub mod Lengths
+pub mod Pieces
+pub mod Places
+pub mod ReadAgain
+pub mod ReadParts
+pub mod Searching
+pub mod Soundness
+pub mod Spelled
+pub mod Telling

@@ -1,0 +1,40 @@
+-- What a frame holds, apart from how it lies in memory.
+use Rattle.std.specs.Prelude.{◌≡◌, ℕ, ◌^◌, ◌<◌, ◌≤◌, List, [], length, replicate, Option, None, IfSome, All}
+use Rattle.pv_cells.specs.declared.reading.TheConstants.{BLANK}
+use Rattle.pv_page.specs.Names.{IsPage}
+use Rattle.pv_frame.specs.declared.kind.Kind.{Kind}
+use Rattle.pv_frame.specs.declared.kind.Kind.TheVariants.{Information}
+use Rattle.pv_frame.specs.declared.field.Field.{Field}
+use Rattle.pv_frame.specs.declared.layout.TheConstants.{TITLE_CELLS, BODY_CELLS, ROUTES, FIELDS}
+
+-- what a frame holds: the cells of its title and its body, where each digit leads, and its fields
+pub record Content : Type 0 where
+  pub title : List ℕ
+  pub body : List ℕ
+  pub kind : Kind
+  pub routes : List (Option ℕ)
+  pub price : ℕ
+  pub group : ℕ
+  pub fields : List Field
+
+-- what every frame keeps: how many cells, routes and fields it has, and that a digit leads to a page or
+-- nowhere
+pub record IsFrame (frame : Content) : Type 0 where
+  pub title : length frame.title ≡ TITLE_CELLS
+  pub body : length frame.body ≡ BODY_CELLS
+  pub routes : length frame.routes ≡ ROUTES
+  pub pages : All (λ route. IfSome route IsPage) frame.routes
+  pub group : frame.group < 2 ^ 16
+  pub fields : length frame.fields ≤ FIELDS
+
+-- a frame with nothing on it
+abbrev pub blank : Content
+blank = record {
+  title = replicate TITLE_CELLS BLANK;
+  body = replicate BODY_CELLS BLANK;
+  kind = Information;
+  routes = replicate ROUTES None;
+  price = 0;
+  group = 0;
+  fields = [];
+}
