@@ -1,0 +1,5 @@
+mod BytesLemmas
+mod ImageLemmas
+mod Moments
+mod PastLemmas
+mod Writes

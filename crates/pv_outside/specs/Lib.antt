@@ -1,4 +1,5 @@
 pub mod Counts
+pub mod Disk
 pub mod Sink
 pub mod Source
 pub mod Status

@@ -1,9 +1,10 @@
-//! What the programs ask of the outside: where bytes come from and go to, how large a node may grow,
-//! and how a program ends.
+//! What the programs ask of the outside: where bytes come from and go to, what a disk may lose when it
+//! stops, how large a node may grow, and how a program ends.
 //!
 //! The outside is handed in, as an object of a trait, and each trait has a written meaning. [`Source`]
-//! gives bytes and [`Sink`] takes them; either may fail, and its count of faults then rises, so a
-//! contract above can say that a fault was met and not made up. What an object has read, holds or was
+//! gives bytes, [`Sink`] takes them and [`Disk`] keeps them; each may fail, and its count of faults then
+//! rises, so a contract above can say that a fault was met and not made up. What a crash may leave of a
+//! disk is written once, at the head of its file. What an object has read, holds or was
 //! sent is told only where it can tell: memory tells, a terminal does not. [`Limits`] is how large a
 //! node may grow, and [`Status`] how a program ends.
 //!
@@ -18,14 +19,19 @@
 //! ```
 #![tactic(auto)]
 
+mod disk;
 mod failed;
 mod limits;
 mod sink;
 mod source;
 mod status;
 
+pub use disk::{Disk, Fused, KEPT_BYTES, KEPT_CALLS, MAX_UNSYNCED};
 pub use failed::{COUNT_END, Failed};
 pub use limits::{Limits, MAX_FRAMES, MAX_RECORDS};
 pub use sink::Sink;
 pub use source::Source;
 pub use status::Status;
+
+#[cfg(test)]
+mod tests;

@@ -1,0 +1,239 @@
+ghost use Rattle.std.specs.Prelude.{◌≡◌, ◌≢◌, ◌+◌, ◌≤◌, [], Option, Some, None, false, length, IfOk, IsOk, IsErr, IfSome, OnOk, OnErr, is_ok, ◌&&◌, not, List, slice_range, ℕ};
+ghost use Rattle.std.specs.Option.{option_map, ForSome};
+ghost use Rattle.pv_outside.specs.Counts.{Rose};
+ghost use Rattle.pv_outside.specs.Disk.{overwritten, Torn, Follows, NoMore, Turns, clock_after, Elapses, after_call, after_write, after_sync, budget_after, CanCall, CanWrite, IsSpent};
+ghost use Rattle.pv_memory.specs.Medium.{Medium, moment_of, IsImage, IsForgotten, LeftSince, budget_of, can_pass, has_room, image_of, after_pass};
+ghost use Rattle.pv_memory.specs.MediumLaws.{now_counts, only_now, fresh};
+ghost use Rattle.std.specs.Prelude.{refl};
+ghost use Rattle.std.proofs.Common.{inl};
+
+use crate::bytes::{catch_up, overwrite, restore};
+use crate::faults::Faults;
+use crate::past::{Past, Range};
+use pv_outside::{Disk, Failed, Fused, KEPT_BYTES, MAX_UNSYNCED};
+use std::alloc::{AllocError, Global};
+use std::marker::Model;
+
+/// The range of a call that writes nothing.
+const NOTHING: Range = Range { at: 0, size: 0 };
+
+/// A disk in memory, which tells all of itself and can be made to crash.
+#[derive(Debug, Drop)]
+pub struct MemDisk {
+    text: Vec<u8>,
+    synced: Vec<u8>,
+    pending: Vec<Range>,
+    past: Past,
+    room: usize,
+    left: Option<u64>,
+    clock: u64,
+    faults: Faults,
+}
+
+impl Model for MemDisk {
+    ghost use Rattle.pv_memory.specs.Medium.{Medium};
+
+    ghost Value = { Medium };
+
+    ghost use Rattle.pv_memory.specs.Inside.{medium_of, IsKept};
+
+    ghost view = { medium_of };
+
+    ghost invariant = { IsKept };
+}
+
+impl MemDisk {
+    /// An empty disk with this room, of which the calls of these numbers fail. All memory is taken here.
+    pub fn new(alloc: Global, room: u64, fails: &[u64]) -> Result<MemDisk, AllocError>
+        ensures { IfOk result (λ disk. disk ≡ fresh room fails.now) }
+    {
+        let room = room as usize;
+        Ok(MemDisk {
+            text: Vec::with_capacity(alloc, room)?,
+            synced: Vec::with_capacity(alloc, room)?,
+            pending: Vec::with_capacity(alloc, MAX_UNSYNCED as usize)?,
+            past: Past::new(alloc)?,
+            room,
+            left: None,
+            clock: 0,
+            faults: Faults::new(alloc, fails)?,
+        })
+    }
+
+    /// The disk as it reads.
+    pub fn bytes(&self) -> &[u8]
+        ensures { result.now ≡ self.now.text }
+    {
+        &self.text
+    }
+
+    /// Makes the disk the image of this number that a crash now may leave: 0 is the disk at the last
+    /// sync, 1 the disk as it reads, and the others have a pattern over each range that was written
+    /// since the last sync. Nothing is pending afterwards, and there is no end to the calls that pass.
+    pub fn crash(&mut self, image: u8)
+        ensures image { self.new.text ≡ image_of self.old image }
+        ensures left { IsImage (moment_of self.old) self.new.text }
+        ensures same { self.new ≡ record self.old { text = self.new.text; synced = self.new.text; pending = []; past = []; left = None } }
+    {
+        restore(&mut self.text, &mut self.synced, &self.pending, image);
+        self.pending.clear();
+        self.past.forget();
+        self.left = None;
+    }
+
+    // Counts a call, which fails where it is named to, where it is refused, or where no further one
+    // passes; else it keeps what stands in the range that the call is about to write.
+    fn begin(&mut self, range: Range, is_refused: bool) -> Result<(), Failed>
+        requires { range.at ≤ length self.old.text }
+        ensures ok { OnOk result (self.new ≡ after_pass range self.old) }
+        ensures not_refused { OnOk result (is_refused ≡ false) }
+        ensures err { OnErr result (self.new ≡ record self.old { plan = self.new.plan }) }
+        ensures failing { self.new.plan.failing ≡ self.old.plan.failing }
+        ensures counted { self.old.plan.faults ≤ self.new.plan.faults }
+        ensures failed { IsErr result → Rose self.old.plan.faults self.new.plan.faults }
+        ensures exact { is_ok result ≡ (can_pass self.old && not is_refused) }
+    {
+        if self.faults.next_fails() {
+            return Err(Failed);
+        }
+        if is_refused || self.left == Some(0) {
+            self.faults.meet();
+            return Err(Failed);
+        }
+        if range.size > KEPT_BYTES as usize {
+            self.past.forget();
+        } else {
+            self.past
+                .keep(range, &self.text, &self.pending, self.synced.len());
+        }
+        self.clock = self.clock.saturating_add(1);
+        self.left = self.left.map(|left| left - 1);
+        Ok(())
+    }
+}
+
+impl Disk for MemDisk {
+    type Failure = Failed;
+
+    ghost reads = { λ m. Some m.text };
+
+    ghost may_leave = { λ m. IsImage (moment_of m) };
+
+    ghost clock = { λ m. m.clock };
+
+    ghost left_since = { LeftSince };
+
+    ghost has_forgotten = { IsForgotten };
+
+    ghost budget = { budget_of };
+
+    ghost faults = { λ m. m.plan.faults };
+
+    ghost reads_is_left = { λ m. inl refl };
+
+    ghost now_counts = { now_counts };
+
+    ghost only_now = { only_now };
+
+    ghost any_if_forgotten = { λ m t image forgotten. inl forgotten };
+
+    fn len(&mut self) -> Result<u64, Failed>
+        ensures len { IfOk result (λ n. IfSome (Some self.old.text) (λ text. n ≡ length text)) }
+        ensures reads { Some self.new.text ≡ Some self.old.text }
+        ensures images { NoMore (IsImage (moment_of self.old)) (IsImage (moment_of self.new)) }
+        ensures clock { self.new.clock ≡ clock_after result self.old.clock }
+        ensures time { Elapses self.old.clock self.new.clock (IsForgotten self.old) (IsForgotten self.new) (LeftSince self.old) (LeftSince self.new) (IsImage (moment_of self.new)) 0 }
+        ensures budget { budget_of self.new ≡ budget_after result after_call (budget_of self.old) }
+        ensures passes { CanCall (budget_of self.old) → IsOk result }
+        ensures spent { IsSpent (budget_of self.old) → IsErr result }
+        ensures counted { self.old.plan.faults ≤ self.new.plan.faults }
+        ensures failed { IsErr result → Rose self.old.plan.faults self.new.plan.faults }
+
+        // It fails exactly where it is named to, or has no room, and then nothing else changes.
+        ensures exact { is_ok result ≡ can_pass self.old }
+        ensures err { OnErr result (self.new ≡ record self.old { plan = self.new.plan }) }
+    {
+        self.begin(NOTHING, false)?;
+        Ok(self.text.len() as u64)
+    }
+
+    fn read(&mut self, at: u64, into: &mut [u8]) -> Result<(), Failed>
+        requires within { ForSome (Some self.old.text) (λ text. at + length into.old ≤ length text) }
+        ensures bytes { OnOk result (IfSome (Some self.old.text) (λ text. into.new ≡ slice_range text at (at + length into.old))) }
+        ensures reads { Some self.new.text ≡ Some self.old.text }
+        ensures images { NoMore (IsImage (moment_of self.old)) (IsImage (moment_of self.new)) }
+        ensures clock { self.new.clock ≡ clock_after result self.old.clock }
+        ensures time { Elapses self.old.clock self.new.clock (IsForgotten self.old) (IsForgotten self.new) (LeftSince self.old) (LeftSince self.new) (IsImage (moment_of self.new)) 0 }
+        ensures budget { budget_of self.new ≡ budget_after result after_call (budget_of self.old) }
+        ensures passes { CanCall (budget_of self.old) → IsOk result }
+        ensures spent { IsSpent (budget_of self.old) → IsErr result }
+        ensures counted { self.old.plan.faults ≤ self.new.plan.faults }
+        ensures failed { IsErr result → Rose self.old.plan.faults self.new.plan.faults }
+
+        // It fails exactly where it is named to, or has no room, and then nothing else changes.
+        ensures exact { is_ok result ≡ can_pass self.old }
+        ensures err { OnErr result (self.new ≡ record self.old { plan = self.new.plan }) }
+    {
+        self.begin(NOTHING, false)?;
+        let at = at as usize;
+        into.copy_from_slice(&self.text[at..at + into.len()]);
+        Ok(())
+    }
+
+    fn write(&mut self, at: u64, bytes: &[u8]) -> Result<(), Failed>
+        requires within { ForSome (Some self.old.text) (λ text. at ≤ length text) }
+        ensures written { OnOk result (Some self.new.text ≡ option_map (overwritten at bytes.now) (Some self.old.text)) }
+        ensures torn { OnErr result (Turns (Torn at (length bytes.now)) (Some self.old.text) (Some self.new.text)) }
+        ensures images { Follows (Torn at (length bytes.now)) (IsImage (moment_of self.old)) (IsImage (moment_of self.new)) }
+        ensures clock { self.new.clock ≡ clock_after result self.old.clock }
+        ensures time { Elapses self.old.clock self.new.clock (IsForgotten self.old) (IsForgotten self.new) (LeftSince self.old) (LeftSince self.new) (IsImage (moment_of self.new)) (length bytes.now) }
+        ensures budget { budget_of self.new ≡ budget_after result after_write (budget_of self.old) }
+        ensures passes { CanWrite (budget_of self.old) (at + length bytes.now) → IsOk result }
+        ensures spent { IsSpent (budget_of self.old) → IsErr result }
+        ensures counted { self.old.plan.faults ≤ self.new.plan.faults }
+        ensures failed { IsErr result → Rose self.old.plan.faults self.new.plan.faults }
+
+        // It fails exactly where it is named to, or has no room, and then nothing else changes.
+        ensures exact { is_ok result ≡ (can_pass self.old && has_room self.old (at + length bytes.now)) }
+        ensures err { OnErr result (self.new ≡ record self.old { plan = self.new.plan }) }
+    {
+        let range = Range {
+            at: at as usize,
+            size: bytes.len(),
+        };
+        let is_full = self.pending.len() == MAX_UNSYNCED as usize;
+        let is_refused = is_full || range.size > self.room - range.at;
+        self.begin(range, is_refused)?;
+        overwrite(&mut self.text, range.at, bytes);
+        self.pending.push(range).unwrap();
+        Ok(())
+    }
+
+    fn sync(&mut self) -> Result<(), Failed>
+        ensures durable { OnOk result (IfSome (Some self.new.text) (λ text. (image : List ℕ) → IsImage (moment_of self.new) image → image ≡ text)) }
+        ensures reads { Some self.new.text ≡ Some self.old.text }
+        ensures images { NoMore (IsImage (moment_of self.old)) (IsImage (moment_of self.new)) }
+        ensures clock { self.new.clock ≡ clock_after result self.old.clock }
+        ensures time { Elapses self.old.clock self.new.clock (IsForgotten self.old) (IsForgotten self.new) (LeftSince self.old) (LeftSince self.new) (IsImage (moment_of self.new)) 0 }
+        ensures budget { budget_of self.new ≡ budget_after result after_sync (budget_of self.old) }
+        ensures passes { CanCall (budget_of self.old) → IsOk result }
+        ensures spent { IsSpent (budget_of self.old) → IsErr result }
+        ensures counted { self.old.plan.faults ≤ self.new.plan.faults }
+        ensures failed { IsErr result → Rose self.old.plan.faults self.new.plan.faults }
+
+        // It fails exactly where it is named to, or has no room, and then nothing else changes.
+        ensures exact { is_ok result ≡ can_pass self.old }
+        ensures err { OnErr result (self.new ≡ record self.old { plan = self.new.plan }) }
+    {
+        self.begin(NOTHING, false)?;
+        catch_up(&mut self.synced, &self.text, &self.pending);
+        self.pending.clear();
+        Ok(())
+    }
+}
+
+impl Fused for MemDisk {
+    fn fuse(&mut self, calls: u32) {
+        self.left = Some(calls as u64);
+    }
+}

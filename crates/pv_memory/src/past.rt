@@ -1,0 +1,115 @@
+ghost use Rattle.std.specs.Prelude.{◌≡◌, ◌≤◌, [], ◌∷◌, length, take, drop, IfOk};
+ghost use Rattle.pv_outside.specs.declared.disk.TheConstants.{KEPT_BYTES, KEPT_CALLS, MAX_UNSYNCED};
+
+use pv_outside::{KEPT_BYTES, KEPT_CALLS, MAX_UNSYNCED};
+use std::alloc::{AllocError, Global};
+use std::marker::Model;
+
+/// A range of a disk: where it begins, and how many bytes it has.
+#[derive(Clone, Copy, Debug, PartialEq, Eq)]
+pub(crate) struct Range {
+    pub(crate) at: usize,
+    pub(crate) size: usize,
+}
+
+/// What one call has changed, so that the disk from before it is known. Its room is taken when it is
+/// made.
+#[derive(Debug, Drop)]
+pub(crate) struct Step {
+    range: Range,
+    replaced: Vec<u8>,
+    pending: Vec<Range>,
+    end: usize,
+}
+
+impl Model for Step {
+    ghost use Rattle.std.specs.Prelude.{◌≤◌, vec_capacity};
+    ghost use Rattle.pv_outside.specs.declared.disk.TheConstants.{KEPT_BYTES, MAX_UNSYNCED};
+    ghost use Rattle.pv_memory.specs.Medium.{Change};
+
+    ghost Value = { Change };
+
+    ghost view = { λ s. record { range = s.range; replaced = s.replaced.items; pending = s.pending.items; end = s.end } };
+
+    ghost invariant = { λ s. (KEPT_BYTES ≤ vec_capacity s.replaced) × (MAX_UNSYNCED ≤ vec_capacity s.pending) };
+}
+
+impl Step {
+    pub(crate) fn new(alloc: Global) -> Result<Step, AllocError> {
+        Ok(Step {
+            range: Range { at: 0, size: 0 },
+            replaced: Vec::with_capacity(alloc, KEPT_BYTES as usize)?,
+            pending: Vec::with_capacity(alloc, MAX_UNSYNCED as usize)?,
+            end: 0,
+        })
+    }
+
+    /// Keeps what stands in a range that is about to be written, and what was pending before that.
+    pub(crate) fn keep(&mut self, range: Range, text: &[u8], pending: &[Range], end: usize)
+        requires within { range.at ≤ length text.now }
+        requires size { range.size ≤ KEPT_BYTES }
+        requires few { length pending.now ≤ MAX_UNSYNCED }
+        ensures { self.new ≡ record { range = range; replaced = take range.size (drop range.at text.now); pending = pending.now; end = end } }
+    {
+        let size = range.size.min(text.len() - range.at);
+        self.range = range;
+        self.replaced.clear();
+        self.replaced
+            .extend_from_slice(&text[range.at..range.at + size])
+            .unwrap();
+        self.pending.clear();
+        self.pending.extend_from_slice(pending).unwrap();
+        self.end = end;
+    }
+}
+
+/// What each of the last calls has changed, the newest first.
+#[derive(Debug, Drop)]
+pub(crate) struct Past {
+    steps: Vec<Step>,
+    known: usize,
+}
+
+impl Model for Past {
+    ghost use Rattle.std.specs.Prelude.{◌≡◌, ◌≤◌, List, length, take};
+    ghost use Rattle.pv_outside.specs.declared.disk.TheConstants.{KEPT_CALLS};
+    ghost use Rattle.pv_memory.specs.Medium.{Change};
+
+    ghost Value = { List Change };
+
+    ghost view = { λ p. take p.known p.steps.items };
+
+    ghost invariant = { λ p. (length p.steps.items ≡ KEPT_CALLS) × (p.known ≤ KEPT_CALLS) };
+}
+
+impl Past {
+    pub(crate) fn new(alloc: Global) -> Result<Past, AllocError>
+        ensures { IfOk result (λ past. past ≡ []) }
+    {
+        let mut steps = Vec::with_capacity(alloc, KEPT_CALLS as usize)?;
+        for _i in 0..KEPT_CALLS {
+            steps.push(Step::new(alloc)?)?;
+        }
+        Ok(Past { steps, known: 0 })
+    }
+
+    /// Keeps what a call changes that is about to write a range. It forgets the call that lies furthest
+    /// back, where it knows as many as it keeps.
+    pub(crate) fn keep(&mut self, range: Range, text: &[u8], pending: &[Range], end: usize)
+        requires within { range.at ≤ length text.now }
+        requires size { range.size ≤ KEPT_BYTES }
+        requires few { length pending.now ≤ MAX_UNSYNCED }
+        ensures { self.new ≡ take KEPT_CALLS (record { range = range; replaced = take range.size (drop range.at text.now); pending = pending.now; end = end } ∷ self.old) }
+    {
+        self.steps.rotate_right(1);
+        self.steps[0].keep(range, text, pending, end);
+        self.known = (self.known + 1).min(KEPT_CALLS as usize);
+    }
+
+    /// Forgets all calls.
+    pub(crate) fn forget(&mut self)
+        ensures { self.new ≡ [] }
+    {
+        self.known = 0;
+    }
+}
