@@ -1,0 +1,129 @@
+-- What a crash may leave in each of the two writes of an append.
+use Rattle.std.proofs.Common.{◌≡◌, ◌≢◌, inl, inr, ℕ, suc, ◌+◌, ◌<◌, ◌≤◌, List, [], ◌∷◌, ◌++◌, length, get_or, take, drop, refl, sym, ◌∙◌, ap, subst, arith, All, append_assoc, length-append}
+use Rattle.std.proofs.lemmas.List.{take_at, drop_at, drop_more, flat_map_more, get_or_append_left, get_or-append-add, length-drop, get_or-drop}
+use Rattle.std.proofs.lemmas.List.Elements.{All-push}
+use Rattle.std.proofs.lemmas.Bool.{cases_eq}
+use Rattle.std.specs.Int.{w16, to_be_bytes}
+use Rattle.pv_outside.specs.Disk.{Torn, overwritten}
+use Rattle.pv_journal.specs.declared.block.TheConstants.{MARK}
+use Rattle.pv_journal.specs.Text.{IsBody, block, front, Spells, SpellsEither, written_behind}
+
+-- a list that has the elements of a shorter one in front begins with it
+begins_with : (xs ys : List ℕ) → length xs ≤ length ys → ((i : ℕ) → i < length xs → get_or ys i 0 ≡ get_or xs i 0) → ys ≡ xs ++ drop (length xs) ys
+begins_with [] ys le same = refl
+begins_with (x ∷ xs) [] le same = absurd (omega arith)
+begins_with (x ∷ xs) (y ∷ ys) le same =
+    let head : y ≡ x = same 0 (omega arith) in
+    let tail : ys ≡ xs ++ drop (length xs) ys = begins_with xs ys (omega arith) (λ i h. same (suc i) (omega arith)) in
+    cc
+
+-- what lies before the range of a torn write stands
+keeps_front : (xs ys c : List ℕ) (at n : ℕ) → length xs ≤ at → Torn at n (xs ++ ys) c → c ≡ xs ++ drop (length xs) c
+keeps_front xs ys c at n before torn =
+    begins_with xs c (omega (arith, torn.no_shorter, length-append xs ys)) (λ i h.
+    torn.outside i (omega (arith, length-append xs ys)) (inl (omega arith)) ∙ get_or_append_left xs ys 0 i h)
+
+-- and what lies behind it, up to the old end
+keeps_back : (xs ys c : List ℕ) (g : ℕ) → Torn (length xs) 1 (xs ++ g ∷ ys) c → c ≡ xs ++ get_or c (length xs) 0 ∷ (ys ++ drop (length ys) (drop (length xs + 1) c))
+keeps_back xs ys c g torn =
+    let whole : length (xs ++ g ∷ ys) ≡ length xs + (length ys + 1) = omega (arith, length-append xs (g ∷ ys)) in
+    let in_front = keeps_front xs (g ∷ ys) c (length xs) 1 (omega arith) torn in
+    let behind : drop (length xs + 1) c ≡ ys ++ drop (length ys) (drop (length xs + 1) c) =
+    begins_with ys (drop (length xs + 1) c) (omega (arith, torn.no_shorter, whole, length-drop (length xs + 1) c)) (λ i h.
+    get_or-drop (length xs + 1) c i 0
+    ∙ torn.outside (length xs + 1 + i) (omega (arith, whole)) (inr (omega arith))
+    ∙ ap (λ (k : ℕ). get_or (xs ++ g ∷ ys) k 0) (let k : length xs + 1 + i ≡ length xs + suc i = omega arith in k)
+    ∙ get_or-append-add xs (g ∷ ys) (suc i) 0) in
+    in_front ∙ ap (λ (l : List ℕ). xs ++ l) (drop_more c (length xs) 0 (omega (arith, torn.no_shorter, whole)) ∙ ap (λ (l : List ℕ). get_or c (length xs) 0 ∷ l) behind)
+
+-- bytes that spell the bodies, and have a further one whole behind the gate
+pub record IsStaged (bodies : List (List ℕ)) (body bytes : List ℕ) : Type 0 where
+  pub gate : ℕ
+  pub rest : List ℕ
+  pub text : bytes ≡ front bodies ++ gate ∷ (written_behind body ++ rest)
+  pub sizes : All IsBody bodies
+
+pub length-written_behind : (body : List ℕ) → length (written_behind body) ≡ length body + 3
+length-written_behind body = omega (arith, length-append (to_be_bytes w16 (length body) ++ body) (0 ∷ []), length-append (to_be_bytes w16 (length body)) body)
+
+-- with its gate open the body is one of those that the bytes spell
+opened : (bodies : List (List ℕ)) (body rest : List ℕ) → front bodies ++ 1 ∷ (written_behind body ++ rest) ≡ front (bodies ++ body ∷ []) ++ 0 ∷ rest
+opened bodies body rest =
+    ap (λ (l : List ℕ). front bodies ++ 1 ∷ l) (append_assoc (to_be_bytes w16 (length body) ++ body) (0 ∷ []) rest)
+    ∙ sym (append_assoc (front bodies) (block body) (0 ∷ rest))
+    ∙ ap (λ (l : List ℕ). l ++ 0 ∷ rest) (flat_map_more block MARK bodies body)
+
+zero_is_closed : ◌≢◌ {A = ℕ} 0 1
+zero_is_closed e = omega arith
+
+module _ (bodies : List (List ℕ)) where
+  -- the closed gate stands in each outcome of the first write
+  pub torn_behind : (at n : ℕ) (d c : List ℕ) → at ≡ length (front bodies) + 1 → Spells d bodies → Torn at n d c → Spells c bodies
+  torn_behind at n d c is spells torn =
+      let closed_front = front bodies ++ spells.gate ∷ [] in
+      let split : d ≡ closed_front ++ spells.rest = spells.text ∙ sym (append_assoc (front bodies) (spells.gate ∷ []) spells.rest) in
+      let stands = keeps_front closed_front spells.rest c at n (omega (arith, length-append (front bodies) (spells.gate ∷ []))) (subst (λ (l : List ℕ). Torn at n l c) split torn) in
+      record {
+        gate = spells.gate;
+        rest = drop (length closed_front) c;
+        text = stands ∙ append_assoc (front bodies) (spells.gate ∷ []) (drop (length closed_front) c);
+        closed = spells.closed;
+        sizes = spells.sizes;
+      }
+
+  -- what the first write leaves where it succeeds
+  pub staged : (at : ℕ) (body text : List ℕ) → at ≡ length (front bodies) + 1 → Spells text bodies → IsStaged bodies body (overwritten at (written_behind body) text)
+  staged at body text is spells =
+      let closed_front = front bodies ++ spells.gate ∷ [] in
+      let split : text ≡ closed_front ++ spells.rest = spells.text ∙ sym (append_assoc (front bodies) (spells.gate ∷ []) spells.rest) in
+      let before : take at text ≡ closed_front = ap (λ (l : List ℕ). take at l) split ∙ take_at closed_front spells.rest at (omega (arith, length-append (front bodies) (spells.gate ∷ []))) in
+      let rest = drop (at + length (written_behind body)) text in
+      record {
+        gate = spells.gate;
+        rest = rest;
+        text = ap (λ (l : List ℕ). l ++ written_behind body ++ rest) before
+            ∙ append_assoc closed_front (written_behind body) rest
+            ∙ append_assoc (front bodies) (spells.gate ∷ []) (written_behind body ++ rest);
+        sizes = spells.sizes;
+      }
+
+  -- the body stands whole in each outcome of the second write
+  pub torn_gate : (at : ℕ) (body text c : List ℕ) → at ≡ length (front bodies) → IsBody body → IsStaged bodies body text → Torn at 1 text c → SpellsEither bodies body c
+  torn_gate at body text c is sized staged torn =
+      let behind = written_behind body ++ staged.rest in
+      let torn_here : Torn (length (front bodies)) 1 (front bodies ++ staged.gate ∷ behind) c = subst (λ (l : List ℕ). Torn (length (front bodies)) 1 l c) staged.text (subst (λ (k : ℕ). Torn k 1 text c) is torn) in
+      let gate = get_or c (length (front bodies)) 0 in
+      let past = drop (length behind) (drop (length (front bodies) + 1) c) in
+      let stands : c ≡ front bodies ++ gate ∷ (behind ++ past) = keeps_back (front bodies) behind c staged.gate torn_here in
+      elim (cases_eq gate 1) [
+        | inl is_open ↦ inr (record {
+          gate = 0;
+          rest = staged.rest ++ past;
+          text = stands
+              ∙ ap (λ (l : List ℕ). front bodies ++ gate ∷ l) (append_assoc (written_behind body) staged.rest past)
+              ∙ ap (λ (k : ℕ). front bodies ++ k ∷ (written_behind body ++ (staged.rest ++ past))) is_open
+              ∙ opened bodies body (staged.rest ++ past);
+          closed = zero_is_closed;
+          sizes = All-push IsBody bodies body staged.sizes sized;
+        })
+        | inr is_closed ↦ inl (record { gate = gate; rest = behind ++ past; text = stands; closed = is_closed; sizes = staged.sizes })
+      ]
+
+  -- what the second write leaves where it succeeds
+  pub stored : (at : ℕ) (body text : List ℕ) → at ≡ length (front bodies) → IsBody body → IsStaged bodies body text → Spells (overwritten at (1 ∷ []) text) (bodies ++ body ∷ [])
+  stored at body text is sized staged =
+      let behind = written_behind body ++ staged.rest in
+      let before : take at text ≡ front bodies = ap (λ (l : List ℕ). take at l) staged.text ∙ take_at (front bodies) (staged.gate ∷ behind) at (sym is) in
+      let after : drop (at + 1) text ≡ behind =
+      ap (λ (l : List ℕ). drop (at + 1) l) (staged.text ∙ sym (append_assoc (front bodies) (staged.gate ∷ []) behind))
+      ∙ drop_at (front bodies ++ staged.gate ∷ []) behind (at + 1) (omega (arith, length-append (front bodies) (staged.gate ∷ []))) in
+      record {
+        gate = 0;
+        rest = staged.rest;
+        text = ap (λ (l : List ℕ). l ++ (1 ∷ []) ++ drop (at + 1) text) before
+            ∙ ap (λ (l : List ℕ). front bodies ++ (1 ∷ []) ++ l) after
+            ∙ append_assoc (front bodies) (1 ∷ []) behind
+            ∙ opened bodies body staged.rest;
+        closed = zero_is_closed;
+        sizes = All-push IsBody bodies body staged.sizes sized;
+      }

@@ -1,0 +1,68 @@
+-- What a journal holds, over any disk.
+use Rattle.std.specs.Prelude.{◌≡◌, ◌↔◌, ℕ, ◌≤◌, List, ◌++◌, length, drop, All, Some, IsSome, IfSome}
+use Rattle.std.specs.Option.{option_map}
+use Rattle.pv_outside.specs.Disk.{NoMore, IsEndless, fused}
+use Rattle.pv_outside.specs.declared.disk.Disk as disk
+use Rattle.pv_journal.specs.Text.{IsBody, front, Spells, SpellsEither}
+use Rattle.pv_journal.specs.Log.{Log, IsStillReading}
+use Rattle.pv_journal.specs.declared.journal.Phase.TheVariants.{Resting, InHand}
+
+module _ {D F : Type 0} (g : disk.Ghosts D F) where
+  -- where the disk tells what it reads, each image that a crash now may leave has P
+  abbrev pub EachImage : D → (List ℕ → Type 0) → Type 0
+  EachImage d P = IsSome (g.reads d) → (image : List ℕ) → g.may_leave d image → P image
+
+  -- where the disk tells what it reads, a crash now leaves that
+  abbrev pub IsDurable : D → Type 0
+  IsDurable d = IfSome (g.reads d) (λ text. (image : List ℕ) → g.may_leave d image → image ≡ text)
+
+  -- the disk tells what it reads, and that spells these bodies
+  abbrev pub DiskSpells : D → List (List ℕ) → Type 0
+  DiskSpells d bodies = (text : List ℕ) × (g.reads d ≡ Some text) × Spells text bodies
+
+  -- where the disk tells its budget, nothing was written since the last sync
+  abbrev pub IsSynced : D → Type 0
+  IsSynced d = IfSome (g.budget d) (λ b. b.unsynced ≡ 0)
+
+  -- nothing was written: the disk reads as before, a crash may leave no further image, and its calls still have no end
+  pub record Remains (old new : D) : Type 0 where
+    pub reads : g.reads new ≡ g.reads old
+    pub images : NoMore (g.may_leave old) (g.may_leave new)
+    pub endless : (room : ℕ) → IsEndless room (g.budget old) → IsEndless room (g.budget new)
+    pub counted : g.faults old ≤ g.faults new
+
+  -- so many further calls pass, and nothing else has changed
+  pub record IsFused (calls : ℕ) (old new : D) : Type 0 where
+    pub left : g.budget new ≡ option_map (fused calls) (g.budget old)
+    pub reads : g.reads new ≡ g.reads old
+    pub images : (image : List ℕ) → g.may_leave new image ↔ g.may_leave old image
+    pub clock : g.clock new ≡ g.clock old
+    pub faults : g.faults new ≡ g.faults old
+
+  -- the journal has counted these bodies, and its gate is behind them
+  pub record HasCounted (log : Log D) (bodies : List (List ℕ)) : Type 0 where
+    pub count : log.count ≡ length bodies
+    pub gate : log.gate ≡ length (front bodies)
+    pub sizes : All IsBody bodies
+
+  -- The journal is reading its disk, on which nothing changes, and has read these bodies.
+  pub record IsReading (log : Log D) (bodies : List (List ℕ)) : Type 0 where
+    pub phase : IsStillReading log.phase
+    pub counted : HasCounted log bodies
+    pub text : IfSome (g.reads log.disk) (λ text. text ≡ front bodies ++ drop log.gate text)
+    pub durable : IsDurable log.disk
+    pub synced : IsSynced log.disk
+
+  -- The journal has these bodies and nothing in hand: each image of its disk spells them.
+  pub record Holds (log : Log D) (bodies : List (List ℕ)) : Type 0 where
+    pub phase : log.phase ≡ Resting
+    pub counted : HasCounted log bodies
+    pub images : EachImage log.disk (λ image. Spells image bodies)
+    pub synced : IsSynced log.disk
+
+  -- The journal has these bodies, and one more in hand: each image of its disk spells them without it or with it.
+  pub record HoldsInHand (log : Log D) (bodies : List (List ℕ)) (body : List ℕ) : Type 0 where
+    pub phase : log.phase ≡ InHand (length body)
+    pub counted : HasCounted log bodies
+    pub size : IsBody body
+    pub images : EachImage log.disk (SpellsEither bodies body)

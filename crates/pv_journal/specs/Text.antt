@@ -1,0 +1,65 @@
+-- The text of a journal on a disk: the mark, a block for each body, and a closed gate.
+use Rattle.std.specs.Prelude.{◌≡◌, ◌≢◌, ◌⊎◌, ℕ, ◌+◌, ◌<◌, ◌≤◌, List, [], ◌∷◌, ◌++◌, length, take, replicate, slice_index, All}
+use Rattle.std.specs.List.{flat_map}
+use Rattle.std.specs.Int.{w16, to_be_bytes, from_be_bytes}
+use Rattle.pv_journal.specs.declared.block.TheConstants.{MARK, MAX_BODY}
+
+-- a body has 1 to 2,048 bytes
+abbrev pub IsBody : List ℕ → Type 0
+IsBody body = (0 < length body) × (length body ≤ MAX_BODY)
+
+-- the block of a body: its gate, which is open; its length in two bytes, the high one first; the body
+abbrev pub block : List ℕ → List ℕ
+block body = 1 ∷ (to_be_bytes w16 (length body) ++ body)
+
+-- the mark, and then the blocks of these bodies
+abbrev pub front : List (List ℕ) → List ℕ
+front bodies = MARK ++ flat_map block bodies
+
+-- The bytes spell these bodies: the mark, the block of each, one byte that is not 1, and then anything.
+pub record Spells (bytes : List ℕ) (bodies : List (List ℕ)) : Type 0 where
+  pub gate : ℕ
+  pub rest : List ℕ
+  pub text : bytes ≡ front bodies ++ gate ∷ rest
+  pub closed : gate ≢ 1
+  pub sizes : All IsBody bodies
+
+-- the bytes spell these bodies, without one more or with it
+abbrev pub SpellsEither : List (List ℕ) → List ℕ → List ℕ → Type 0
+SpellsEither bodies body bytes = Spells bytes bodies ⊎ Spells bytes (bodies ++ body ∷ [])
+
+-- the first eight bytes, filled up with 0
+abbrev pub first_eight : List ℕ → List ℕ
+first_eight bytes = take 8 (bytes ++ replicate 8 0)
+
+-- a gate stands there that is not open
+abbrev pub IsClosed : List ℕ → Type 0
+IsClosed [] = ⊥
+IsClosed (gate ∷ rest) = gate ≢ 1
+
+-- the block of this body stands there
+pub record HasBlock (bytes body : List ℕ) : Type 0 where
+  pub rest : List ℕ
+  pub text : bytes ≡ block body ++ rest
+  pub size : IsBody body
+
+-- no byte stands there, or the gate is open and the length behind it is missing, is 0 or over 2,048, or passes the end
+abbrev pub IsBroken : List ℕ → Type 0
+IsBroken [] = Unit {0}
+IsBroken (gate ∷ []) = gate ≡ 1
+IsBroken (gate ∷ high ∷ []) = gate ≡ 1
+IsBroken (gate ∷ high ∷ low ∷ rest) =
+    let size = from_be_bytes w16 (high ∷ low ∷ []) in
+    (gate ≡ 1) × ((size ≡ 0) ⊎ ((MAX_BODY < size) ⊎ (length rest < size)))
+
+-- what is written behind a closed gate to append a body: its length, the body, and the gate behind it, which is closed
+abbrev pub written_behind : List ℕ → List ℕ
+written_behind body = to_be_bytes w16 (length body) ++ body ++ 0 ∷ []
+
+-- a gate that is not open stands at this place
+abbrev pub HasClosedGate : ℕ → List ℕ → Type 0
+HasClosedGate gate text = (gate < length text) × (slice_index text gate ≢ 1)
+
+-- a gate stands at this place, and if it is open, so does a closed one behind a body of this size
+abbrev pub MayHaveBody : ℕ → ℕ → List ℕ → Type 0
+MayHaveBody gate size text = (gate < length text) × (slice_index text gate ≡ 1 → HasClosedGate (gate + size + 3) text)

@@ -1,0 +1,22 @@
+ghost use Rattle.std.specs.Prelude.{◌≡◌, ℕ, ◌≤◌, List, [], IfSome, OnOk, IsOk, IsErr};
+ghost use Rattle.pv_outside.specs.Counts.{Rose};
+ghost use Rattle.pv_outside.specs.Disk.{HasCalls};
+ghost use Rattle.pv_journal.specs.Text.{Spells};
+ghost use Rattle.pv_journal.specs.Journal.{EachImage};
+
+use pv_outside::Disk;
+
+/// A journal without bodies: the mark and a closed gate.
+const EMPTY: [u8; 9] = [b'P', b'V', b'J', b'O', b'U', b'R', b'N', b'1', 0];
+
+/// Makes the disk a journal without bodies. After a failure the disk is formatted again.
+pub fn format<D: Disk>(disk: &mut D) -> Result<(), D::Failure>
+    ensures empty { OnOk result (EachImage ⟦<D as Disk>⟧ disk.new (λ image. Spells image [])) }
+    ensures counted { D.faults disk.old ≤ D.faults disk.new }
+    ensures failed { IsErr result → Rose (D.faults disk.old) (D.faults disk.new) }
+    ensures passes { HasCalls 3 9 (D.budget disk.old) → IsOk result }
+{
+    disk.sync()?;
+    disk.write(0, &EMPTY)?;
+    disk.sync()
+}

@@ -1,0 +1,200 @@
+ghost use Rattle.std.specs.Prelude.{IfOk};
+ghost use Rattle.pv_journal.specs.Log.{IsAtRest};
+
+use super::*;
+use pv_memory::MemDisk;
+use pv_outside::{Disk, Limits};
+use std::alloc::Global;
+use std::test::Fail;
+
+/// A fault of opening, without the disk's own failure.
+#[derive(Clone, Copy, Debug, PartialEq, Eq)]
+enum Fault {
+    Disk,
+    NotFormatted([u8; 8]),
+    Broken { at: u64 },
+    TooMany { count: u64 },
+}
+
+fn plain(fault: OpenFault<MemDisk>) -> Fault {
+    match fault {
+        OpenFault::Disk(_) => Fault::Disk,
+        OpenFault::NotFormatted(first) => Fault::NotFormatted(first),
+        OpenFault::Broken { at } => Fault::Broken { at },
+        OpenFault::TooMany { count } => Fault::TooMany { count },
+    }
+}
+
+const LIMITS: Limits = Limits {
+    frames: 1,
+    records: 3,
+};
+
+/// A journal without bodies.
+const NONE: &[u8] = b"PVJOURN1\x00";
+
+/// The same with one body.
+const ONE: &[u8] = b"PVJOURN1\x01\x00\x02AB\x00";
+
+/// The same with three.
+const THREE: &[u8] = b"PVJOURN1\x01\x00\x01A\x01\x00\x02BC\x01\x00\x03DEF\x00";
+
+/// A disk of these bytes, all of them synced, of which the calls of these numbers fail: the first two
+/// were made.
+fn disk_of(alloc: Global, bytes: &[u8], fails: &[u64]) -> Result<MemDisk, Fail> {
+    let mut disk = MemDisk::new(alloc, 10_000, fails)?;
+    disk.write(0, bytes)?;
+    disk.sync()?;
+    Ok(disk)
+}
+
+/// The bodies on a disk, each with a `.` behind it.
+fn bodies_of(alloc: Global, disk: MemDisk) -> Result<Result<Vec<u8>, Fault>, Fail> {
+    let mut journal = match Journal::start(disk, LIMITS) {
+        Ok(journal) => journal,
+        Err((fault, _)) => return Ok(Err(plain(fault))),
+    };
+    let mut bodies = Vec::new(alloc);
+    let mut body = [0; MAX_BODY];
+    for _ in 0..4 {
+        match journal.next(&mut body) {
+            Ok(Some(size)) => {
+                bodies.extend_from_slice(&body[..size])?;
+                bodies.push(b'.')?;
+            }
+            Ok(None) => break,
+            Err(fault) => return Ok(Err(plain(fault))),
+        }
+    }
+    Ok(Ok(bodies))
+}
+
+/// A journal at rest, over a disk of which four calls were made in opening it.
+fn open(disk: MemDisk) -> Result<Journal<MemDisk>, Fail>
+    ensures { IfOk result IsAtRest }
+{
+    let Ok(mut journal) = Journal::start(disk, LIMITS) else {
+        return Err("not started".into());
+    };
+    let mut body = [0; MAX_BODY];
+    let Ok(None) = journal.next(&mut body) else {
+        return Err("not empty".into());
+    };
+    Ok(journal)
+}
+
+#[test]
+fn a_body_is_appended_to_a_formatted_disk(rt: HostRuntime) -> Result<(), Fail> {
+    let mut disk = MemDisk::new(rt.alloc(), 10_000, &[])?;
+    format(&mut disk)?;
+    assert_eq!(rt; disk.bytes(), NONE);
+    let mut journal = open(disk)?;
+    let Ok(place) = journal.append(b"AB") else {
+        return Err("not appended".into());
+    };
+    assert_eq!(rt; place, 0);
+    assert_eq!(rt; journal.count(), 1);
+    assert_eq!(rt; journal.into_disk().bytes(), ONE);
+    Ok(())
+}
+
+#[test]
+fn bytes_that_are_no_journal_are_refused(rt: HostRuntime) -> Result<(), Fail> {
+    let four = b"PVJOURN1\x01\x00\x01A\x01\x00\x01B\x01\x00\x01C\x01\x00\x01D\x00";
+    let long = b"PVJOURN1\x01\x08\x01A";
+    let table: [(&[u8], Fault); 7] = [
+        (&[0; 9], Fault::NotFormatted([0; 8])),
+        (b"PVJOURN", Fault::NotFormatted(*b"PVJOURN\x00")),
+        (b"PVJOURN2\x00", Fault::NotFormatted(*b"PVJOURN2")),
+        (b"PVJOURN1", Fault::Broken { at: 8 }),
+        (b"PVJOURN1\x01\x00\x00", Fault::Broken { at: 8 }),
+        (long, Fault::Broken { at: 8 }),
+        (four, Fault::TooMany { count: 3 }),
+    ];
+    for (bytes, fault) in table {
+        let disk = disk_of(rt.alloc(), bytes, &[])?;
+        assert_eq!(rt; bodies_of(rt.alloc(), disk)?, Err(fault));
+    }
+    Ok(())
+}
+
+#[test]
+fn each_front_of_a_journal_is_read_as_far_as_it_goes(rt: HostRuntime) -> Result<(), Fail> {
+    let mut filled = [0; 8];
+    for length in 0..THREE.len() {
+        let fault = match length {
+            0..8 => Fault::NotFormatted(filled),
+            8..12 => Fault::Broken { at: 8 },
+            12..17 => Fault::Broken { at: 12 },
+            17..23 => Fault::Broken { at: 17 },
+            _ => Fault::Broken { at: 23 },
+        };
+        let disk = disk_of(rt.alloc(), &THREE[..length], &[])?;
+        assert_eq!(rt; bodies_of(rt.alloc(), disk)?, Err(fault), "{length} bytes");
+        if length < 8 {
+            filled[length] = THREE[length];
+        }
+    }
+    let disk = disk_of(rt.alloc(), THREE, &[])?;
+    let Ok(bodies) = bodies_of(rt.alloc(), disk)? else {
+        return Err("not read".into());
+    };
+    assert_eq!(rt; bodies.as_slice(), b"A.BC.DEF.".as_slice());
+    Ok(())
+}
+
+#[test]
+fn settling_tells_what_the_disk_has(rt: HostRuntime) -> Result<(), Fail> {
+    // The calls 6 to 9 are those of the append: two writes, each with its sync.
+    for (failing, stored) in [(6, false), (7, false), (8, false), (9, true)] {
+        let mut journal = open(disk_of(rt.alloc(), NONE, &[failing])?)?;
+        let Err(AppendFault::Disk(_)) = journal.append(b"AB") else {
+            return Err("no call failed".into());
+        };
+        assert_eq!(rt; journal.settle()?, Some(stored), "call {failing} failed");
+        assert_eq!(rt; journal.settle()?, None);
+        assert_eq!(rt; journal.count(), stored as u64);
+    }
+    Ok(())
+}
+
+#[test]
+fn a_stop_leaves_the_list_before_or_the_list_with_the_body(rt: HostRuntime) -> Result<(), Fail> {
+    // A stop after so many calls, the image that it leaves, and whether the body is there. The gate at
+    // place 8 becomes 97 in image 7 and 1 in image 103.
+    let table = [
+        (3, 0, false),
+        (3, 1, true),
+        (3, 2, false),
+        (3, 7, false),
+        (3, 103, true),
+        (3, 255, false),
+    ];
+    for (calls, image, stored) in table {
+        let bodies = after_stop(rt.alloc(), calls, image)?;
+        let want: &[u8] = if stored { b"AB." } else { b"" };
+        assert_eq!(rt; bodies.as_slice(), want, "image {image}");
+    }
+    for calls in [0, 1, 2, 4] {
+        for image in [0, 1, 2, 7, 103, 255] {
+            let bodies = after_stop(rt.alloc(), calls, image)?;
+            let want: &[u8] = if calls == 4 { b"AB." } else { b"" };
+            assert_eq!(rt;
+                bodies.as_slice(),
+                want,
+                "image {image} after {calls} calls"
+            );
+        }
+    }
+    Ok(())
+}
+
+/// The bodies on the image that a stop after so many calls of an append leaves.
+fn after_stop(alloc: Global, calls: u32, image: u8) -> Result<Vec<u8>, Fail> {
+    let mut journal = open(disk_of(alloc, NONE, &[])?)?;
+    journal.fuse(calls);
+    let _ = journal.append(b"AB");
+    let mut disk = journal.into_disk();
+    disk.crash(image);
+    bodies_of(alloc, disk)?.map_err(|_| Fail::from("not read"))
+}
