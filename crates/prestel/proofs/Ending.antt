@@ -12,6 +12,7 @@ refused status network left ended before now is = record {
   too_long = ((λ long. absurd cc), (λ long. absurd (omega (arith, long))));
   done = λ done. absurd cc;
   bad_line = λ number bad. absurd cc;
+  write_fault = λ fault. absurd cc;
   memory = λ memory. absurd cc;
 }
 
@@ -22,6 +23,7 @@ not_read text TooLong network left ended faults_before faults_now before end = r
   too_long = ((λ long. end), (λ long. refl));
   done = λ done. absurd cc;
   bad_line = λ number bad. absurd cc;
+  write_fault = λ fault. absurd cc;
   memory = λ memory. absurd cc;
 }
 not_read text ReadFault network left ended faults_before faults_now before end = record {
@@ -29,6 +31,7 @@ not_read text ReadFault network left ended faults_before faults_now before end =
   too_long = ((λ long. absurd cc), (λ long. absurd (omega (arith, end.0, long))));
   done = λ done. absurd cc;
   bad_line = λ number bad. absurd cc;
+  write_fault = λ fault. absurd cc;
   memory = λ memory. absurd cc;
 }
 not_read text Memory network left ended faults_before faults_now before end =
@@ -38,6 +41,7 @@ not_read text Memory network left ended faults_before faults_now before end =
       too_long = ((λ long. absurd cc), (λ long. absurd (omega (arith, none, long))));
       done = λ done. absurd cc;
       bad_line = λ number bad. absurd cc;
+      write_fault = λ fault. absurd cc;
       memory = λ memory. front_of_nothing text before before refl;
     }
 not_read text Done network left ended faults_before faults_now before end = absurd end

@@ -1,7 +1,8 @@
 -- What was run and written, line by line.
-use Rattle.std.proofs.Common.{◌≡◌, ℕ, ◌+◌, List, [], ◌∷◌, ◌++◌, length, Option, refl, sym, ap, subst, ◌∙◌, append_assoc, arith}
+use Rattle.std.proofs.Common.{◌≡◌, ℕ, ◌+◌, List, [], ◌∷◌, ◌++◌, length, take, Option, refl, sym, ap, subst, ◌∙◌, append_assoc, arith}
 use Rattle.std.specs.Io.KnownBytes.{Appends}
 use Rattle.std.proofs.lemmas.List.{append-nil, length-append}
+use Rattle.std.proofs.Math.Seq.{take-append-add}
 use Rattle.pv_network.specs.declared.event.Event.{Event}
 use Rattle.pv_network.specs.World.{World}
 use Rattle.pv_network.specs.Step.{happens, after}
@@ -11,7 +12,7 @@ use Rattle.prestel.specs.declared.grammar.Command.TheVariants.{Nothing, Do}
 use Rattle.prestel.specs.declared.play.TheConstants.{CENTRES}
 use Rattle.prestel.specs.Grammar.{lines_of, Reads, AreCommands, events_of}
 use Rattle.prestel.specs.Transcript.{answer_text, answers}
-use Rattle.prestel.specs.Play.{first_world, IsPlayed, IsCutShort, IsFront, HasRun}
+use Rattle.prestel.specs.Play.{first_world, IsPlayed, IsCutShort, IsBrokenOff, IsFront, HasRun, HasBegun}
 use Rattle.prestel.proofs.Reading.{Appends-none, Appends-more}
 
 -- ---- events, one list after another
@@ -108,3 +109,25 @@ front_so_far text rest number network before mid now p same = record {
   read = p.read;
   written = subst (λ (k : Option (List ℕ)). Appends before k (answers first_world (events_of p.commands))) (sym same) p.written;
 }
+
+-- the next line's answer could not be written
+pub broken_off : (text rest line behind : List ℕ) (number : ℕ) (old : State) (before mid now : Option (List ℕ)) → Progress text rest number old before mid → lines_of rest ≡ line ∷ lines_of behind → HasBegun line old mid now → IsBrokenOff text before now
+broken_off text rest line behind number old before mid now p is begun =
+    let command = begun.0 in
+    let events = events_of p.commands in
+    let more = events_of (command ∷ []) in
+    let w = after first_world events in
+    let step = begun.2 w p.stands in
+    record {
+      run = p.done ++ line ∷ [];
+      behind = lines_of behind;
+      commands = p.commands ++ command ∷ [];
+      lines = p.lines ∙ ap (λ (l : List (List ℕ)). p.done ++ l) is ∙ sym (append_assoc p.done (line ∷ []) (lines_of behind));
+      read = commands-push p.done p.commands line command p.read begun.1;
+      count = length (answers first_world events) + step.0;
+      written =
+          let parts : answers first_world (events_of (p.commands ++ command ∷ [])) ≡ answers first_world events ++ answers w more =
+          ap (answers first_world) (events_of-append p.commands (command ∷ [])) ∙ answers-append first_world events more in
+          let front = ap (take (length (answers first_world events) + step.0)) parts ∙ take-append-add (answers first_world events) (answers w more) step.0 in
+          subst (λ (l : List ℕ). Appends before now l) (sym front) (Appends-more before mid now (answers first_world events) (take step.0 (answers w more)) p.written step.1);
+    }

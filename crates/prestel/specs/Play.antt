@@ -1,5 +1,5 @@
 -- How a play may end, and what then was read and written.
-use Rattle.std.specs.Prelude.{◌≡◌, ℕ, ◌+◌, ◌≤◌, ◌↔◌, Bool, IsTrue, List, [], ◌∷◌, ◌++◌, length, Option, Some, None, IsSomeAnd, codes}
+use Rattle.std.specs.Prelude.{◌≡◌, ℕ, ◌+◌, ◌≤◌, ◌↔◌, Bool, IsTrue, List, [], ◌∷◌, ◌++◌, length, take, Option, Some, None, IsSomeAnd, codes}
 use Rattle.std.specs.Io.KnownBytes.{Appends, Consumes}
 use Rattle.pv_outside.specs.Counts.{Rose}
 use Rattle.pv_outside.specs.declared.status.Status.{Status}
@@ -57,6 +57,16 @@ pub record IsCutShort (text : List ℕ) (number : ℕ) (written_before written_n
   pub line : IsBadLine text number commands
   pub written : Appends written_before written_now (answers first_world (events_of commands))
 
+-- some lines at the front were read, and what was written is a front of their answers
+pub record IsBrokenOff (text : List ℕ) (written_before written_now : Option (List ℕ)) : Type 0 where
+  pub run : List (List ℕ)
+  pub behind : List (List ℕ)
+  pub commands : List Command
+  pub lines : lines_of text ≡ run ++ behind
+  pub read : AreCommands CENTRES run commands
+  pub count : ℕ
+  pub written : Appends written_before written_now (take count (answers first_world (events_of commands)))
+
 -- some lines at the front were read and run, and what was written is their answers
 pub record IsFront (text : List ℕ) (written_before written_now : Option (List ℕ)) : Type 0 where
   pub run : List (List ℕ)
@@ -67,13 +77,14 @@ pub record IsFront (text : List ℕ) (written_before written_now : Option (List 
   pub written : Appends written_before written_now (answers first_world (events_of commands))
 
 -- What a play made of the text that it read: too long is exactly a text of one byte more than a script may have, done
--- says that all the source had was read and run, a bad line is the first that is none of the forms, and where memory
--- ran out some lines at the front were run.
+-- says that all the source had was read and run, a bad line is the first that is none of the forms, a fault of the
+-- output leaves a front of the answers, and where memory ran out some lines at the front were run.
 pub record IsPlayOf (text : List ℕ) (status : Status) (network : Option State) (left : Option (List ℕ)) (ended : Bool) (written_before written_now : Option (List ℕ)) : Type 0 where
   pub within : length text ≤ longest_script + 1
   pub too_long : (status ≡ TooLong) ↔ (length text ≡ longest_script + 1)
   pub done : status ≡ Done → IsTrue ended × IsWhole left text × IsSomeAnd network (λ n. IsPlayed text n written_before written_now)
   pub bad_line : (number : ℕ) → status ≡ BadLine number → IsTrue ended × IsWhole left text × IsCutShort text number written_before written_now
+  pub write_fault : status ≡ WriteFault → IsTrue ended × IsWhole left text × IsBrokenOff text written_before written_now
   pub memory : status ≡ Memory → IsFront text written_before written_now
 
 -- nothing was run
@@ -131,3 +142,9 @@ IsEventEnd before now faults_before faults_now TooLong = ⊥
 abbrev pub HasRun : List ℕ → State → State → Option (List ℕ) → Option (List ℕ) → Type 0
 HasRun line old new before now = (command : Command) × Reads CENTRES line command
     × ((w : World) → StandsFor old w → StandsFor new (after w (events_of (command ∷ []))) × Appends before now (answers w (events_of (command ∷ []))))
+
+-- a line was begun: it reads as a command, and for each world that the network stood for a front of the command's
+-- answer was written
+abbrev pub HasBegun : List ℕ → State → Option (List ℕ) → Option (List ℕ) → Type 0
+HasBegun line old before now = (command : Command) × Reads CENTRES line command
+    × ((w : World) → StandsFor old w → (count : ℕ) × Appends before now (take count (answers w (events_of (command ∷ [])))))

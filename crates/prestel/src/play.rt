@@ -1,10 +1,10 @@
-ghost use Rattle.std.specs.Prelude.{◌≡◌, ◌≢◌, ℕ, ◌+◌, ◌<◌, ◌≤◌, ◌↔◌, List, map, length, None, IfOk, IfErr, OnOk, IsSome, IsTrue, string_bytes};
+ghost use Rattle.std.specs.Prelude.{◌≡◌, ◌≢◌, ℕ, ◌+◌, ◌<◌, ◌≤◌, ◌↔◌, List, map, length, take, None, Err, IfOk, IfErr, OnOk, IsSome, IsTrue, string_bytes};
 ghost use Rattle.std.specs.Io.KnownBytes.{Appends};
 ghost use Rattle.pv_outside.specs.Counts.{Rose};
 ghost use Rattle.pv_network.specs.Standing.{StandsFor, CanHappen};
 ghost use Rattle.pv_network.specs.Step.{happens};
 ghost use Rattle.pv_network.specs.World.{World};
-ghost use Rattle.prestel.specs.Play.{play_words, HasRead, IsPlayOf, IsPlayed, IsNotRun, IsRunEnd, IsLineEnd, IsEventEnd, HasRun, first_world};
+ghost use Rattle.prestel.specs.Play.{play_words, HasRead, IsPlayOf, IsPlayed, IsBrokenOff, IsNotRun, IsRunEnd, IsLineEnd, IsEventEnd, HasRun, HasBegun, first_world};
 ghost use Rattle.prestel.specs.Transcript.{answer_text};
 
 use crate::answer::push_answer;
@@ -99,6 +99,7 @@ fn run<K: Sink>(alloc: Global, text: &[u8], out: &mut K) -> Result<Network, Stat
     requires { length text.now ≤ LONGEST_SCRIPT }
     ensures ok { IfOk result (λ network. IsPlayed text.now network (K.written out.old) (K.written out.new)) }
     ensures err { IfErr result (IsRunEnd text.now (K.written out.old) (K.written out.new) (K.write_faults out.old) (K.write_faults out.new)) }
+    ensures broken_off { result ≡ Err Status.WriteFault → IsBrokenOff text.now (K.written out.old) (K.written out.new) }
     ensures counted { K.write_faults out.old ≤ K.write_faults out.new }
 {
     let limits = Limits {
@@ -124,6 +125,7 @@ fn run_lines<K: Sink>(
     requires new { StandsFor network.old first_world }
     ensures ok { OnOk result (IsPlayed text.now network.new (K.written out.old) (K.written out.new)) }
     ensures err { IfErr result (IsRunEnd text.now (K.written out.old) (K.written out.new) (K.write_faults out.old) (K.write_faults out.new)) }
+    ensures broken_off { result ≡ Err Status.WriteFault → IsBrokenOff text.now (K.written out.old) (K.written out.new) }
     ensures counted { K.write_faults out.old ≤ K.write_faults out.new }
 {
     let mut answer = Vec::new(alloc);
@@ -149,6 +151,7 @@ fn run_line<K: Sink>(
     requires { length network.old.centres ≡ CENTRES }
     ensures ok { OnOk result (HasRun line.now network.old network.new (K.written out.old) (K.written out.new)) }
     ensures err { IfErr result (IsLineEnd line.now number (K.written out.old) (K.written out.new) (K.write_faults out.old) (K.write_faults out.new)) }
+    ensures begun { result ≡ Err Status.WriteFault → HasBegun line.now network.old (K.written out.old) (K.written out.new) }
     ensures counted { K.write_faults out.old ≤ K.write_faults out.new }
     ensures centres { length network.new.centres ≡ length network.old.centres }
 {
@@ -170,6 +173,8 @@ fn run_event<K: Sink>(
     ensures ok { OnOk result ((w : World) → StandsFor network.old w →
         StandsFor network.new (happens w event.now).0 × Appends (K.written out.old) (K.written out.new) (answer_text (happens w event.now).1)) }
     ensures err { IfErr result (IsEventEnd (K.written out.old) (K.written out.new) (K.write_faults out.old) (K.write_faults out.new)) }
+    ensures begun { result ≡ Err Status.WriteFault → (w : World) → StandsFor network.old w →
+        (count : ℕ) × Appends (K.written out.old) (K.written out.new) (take count (answer_text (happens w event.now).1)) }
     ensures counted { K.write_faults out.old ≤ K.write_faults out.new }
     ensures centres { length network.new.centres ≡ length network.old.centres }
 {
