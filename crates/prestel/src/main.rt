@@ -2,9 +2,11 @@
 //!
 //! The script comes in by standard input and the transcript goes out by standard output; a fault is one
 //! line on standard error, and the exit status says which. All that the program does is [`play::play`],
-//! over whatever source and sink it is handed; `main` makes the real ones.
+//! over whatever source and sink it is handed; `main` makes the real ones, and answers `--help` and
+//! `--version` itself.
 #![tactic(auto)]
 
+mod about;
 mod answer;
 mod cut;
 mod grammar;
@@ -14,6 +16,7 @@ mod streams;
 #[cfg(test)]
 mod tests;
 
+use crate::about::About;
 use crate::play::play;
 use crate::streams::{StandardInput, StandardOutput};
 use pv_outside::Status;
@@ -40,6 +43,9 @@ fn run<R: AllocGlobal + Env + Input + Print>(rt: &R) -> Status {
         Ok(words) => words,
         Err(status) => return status,
     };
+    if let Some(about) = About::asked(&words) {
+        return tell(rt, about);
+    }
     let Ok(writer) = BufWriter::with_capacity(alloc, OUTPUT_BUFFER, io::writer(rt)) else {
         return Status::Memory;
     };
@@ -50,6 +56,14 @@ fn run<R: AllocGlobal + Env + Input + Print>(rt: &R) -> Status {
         return Status::WriteFault;
     }
     status
+}
+
+/// Prints what the program tells of itself.
+fn tell<R: Print>(rt: &R, about: About) -> Status {
+    match print!(rt; "{}", about.text()) {
+        Ok(()) => Status::Done,
+        Err(_) => Status::WriteFault,
+    }
 }
 
 /// The words behind the program's name. Words that are no text are none of the program's.

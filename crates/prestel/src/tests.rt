@@ -1,194 +1,191 @@
+use crate::about::About;
 use crate::play::{Played, play};
 use pv_memory::{MemSink, MemSource};
 use pv_outside::Status;
 use std::alloc::Global;
 use std::test::Fail;
 
-/// The words of a play of one centre.
-fn play_words(alloc: Global) -> Result<Vec<String>, Fail> {
-    let mut words = Vec::new(alloc);
-    words.push(String::from_str(alloc, "play")?)?;
-    words.push(String::from_str(alloc, "1")?)?;
-    Ok(words)
+/// Room for what any of these scripts writes.
+const ROOM: usize = 65_536;
+
+/// A play in memory: its script, the calls of its source and its sink that fail, and the sink's room.
+#[derive(Clone, Copy)]
+struct Trial<'a> {
+    script: &'a [u8],
+    failing_reads: &'a [u64],
+    failing_writes: &'a [u64],
+    room: usize,
 }
 
-/// Plays a script in memory, and answers how it ended and what was written.
-fn played(alloc: Global, script: &[u8]) -> Result<(Status, MemSink), Fail> {
-    played_with_faults(alloc, script, &[], &[])
+impl<'a> Trial<'a> {
+    /// A play of a script of which nothing fails.
+    fn of(script: &'a [u8]) -> Trial<'a> {
+        Trial {
+            script,
+            failing_reads: &[],
+            failing_writes: &[],
+            room: ROOM,
+        }
+    }
+
+    /// Whether these words play it to this end, and this is written.
+    fn ends(
+        self,
+        alloc: Global,
+        words: &[&str],
+        wanted: Status,
+        told: &[u8],
+    ) -> Result<bool, Fail> {
+        let words = texts(alloc, words)?;
+        let mut source = MemSource::new(alloc, self.script, self.failing_reads)?;
+        let mut sink = MemSink::new(alloc, self.room, self.failing_writes)?;
+        let Played { status, network } = play(alloc, &words, &mut source, &mut sink);
+        drop(network);
+        Ok(status == wanted && sink.bytes() == told)
+    }
 }
 
-/// The same, where the calls of these numbers fail.
-fn played_with_faults(
-    alloc: Global,
-    script: &[u8],
-    read_faults: &[u64],
-    write_faults: &[u64],
-) -> Result<(Status, MemSink), Fail> {
-    let mut source = MemSource::new(alloc, script, read_faults)?;
-    let mut sink = MemSink::new(alloc, 1 << 20, write_faults)?;
-    let Played { status, network } = play(alloc, &play_words(alloc)?, &mut source, &mut sink);
-    drop(network);
-    Ok((status, sink))
+/// These words as the command line gives them.
+fn texts(alloc: Global, words: &[&str]) -> Result<Vec<String>, Fail> {
+    let mut texts = Vec::new(alloc);
+    for word in words {
+        texts.push(String::from_str(alloc, word)?)?;
+    }
+    Ok(texts)
 }
+
+/// Whether a play of one centre ends so, and writes this.
+fn comes_to(alloc: Global, script: &[u8], wanted: Status, told: &[u8]) -> Result<bool, Fail> {
+    Trial::of(script).ends(alloc, &["play", "1"], wanted, told)
+}
+
+/// The 22 row ends, in notation, that stand behind the row of a frame that has one.
+const ROW_ENDS: &[u8] =
+    b"\\0d\\0a\\0d\\0a\\0d\\0a\\0d\\0a\\0d\\0a\\0d\\0a\\0d\\0a\\0d\\0a\\0d\\0a\\0d\\0a\\0d\\0a\\0d\\0a\\0d\\0a\\0d\\0a\\0d\\0a\\0d\\0a\\0d\\0a\\0d\\0a\\0d\\0a\\0d\\0a\\0d\\0a\\0d\\0a\n";
 
 #[test]
-fn a_frame_goes_down_one_link(rt: HostRuntime) -> Result<(), Fail> {
-    let script = b"seed 1a HELLO\nview 0 1a\nsend 0\ndeliver 0 0\nview 0 1a";
-    let (status, sink) = played(rt.alloc(), script)?;
-    assert_eq!(rt; status, Status::Done);
-    let front =
-        b"OK 0\n-\nsent 0 record 0\ntaken 0 ack 0\nscreen \\0c                         1a\\0d\\0aHELLO\\0d\\0a\\0d\\0a";
-    assert!(rt; sink.bytes().starts_with(front));
-    assert_eq!(rt; sink.bytes().len(), front.len() + 20 * 6 + 1);
+fn scripts_have_their_transcripts(rt: HostRuntime) -> Result<(), Fail> {
+    let alloc = rt.alloc();
+    let cases: [(&[u8], &[u8], &[u8]); 4] = [
+        (b"", b"", b""),
+        (
+            b"seed 1a HELLO\nview 0 1a\nsend 0\ndeliver 0 0\nview 0 1a",
+            b"OK 0\n-\nsent 0 record 0\ntaken 0 ack 0\nscreen \\0c                         1a\\0d\\0aHELLO",
+            ROW_ENDS,
+        ),
+        (
+            b"seed 1a \\41\\01RED \\5C\\7F\\1fX\nsend 0\ndeliver 0 0\nview 0 1a",
+            b"OK 0\nsent 0 record 0\ntaken 0 ack 0\nscreen \\0c                         1a\\0d\\0aA\\1bARED \\5c\\7f\\1b_X",
+            ROW_ENDS,
+        ),
+        (
+            b"seed 1a A\nseed 2a B\nsend 0\nsend 0\ndeliver 0 1\ndeliver 0 0\ndeliver 0 1\ndeliver 0 0\nsend 0\ndeliver 0 9\n",
+            b"OK 0\nOK 1\nsent 0 record 0\nsent 1 record 1\nearly 1 ack 0\ntaken 0 ack 1\ntaken 1 ack 2\nold 0 ack 3\nsent 2 record 0\nno packet\n",
+            b"",
+        ),
+    ];
+    for (script, front, behind) in cases {
+        let mut told = Vec::new(alloc);
+        told.extend_from_slice(front)?;
+        told.extend_from_slice(behind)?;
+        assert!(rt; comes_to(alloc, script, Status::Done, &told)?, "{script:?}");
+    }
     Ok(())
 }
 
 #[test]
-fn an_empty_script_writes_nothing(rt: HostRuntime) -> Result<(), Fail> {
-    let (status, sink) = played(rt.alloc(), b"")?;
-    assert_eq!(rt; status, Status::Done);
-    assert_eq!(rt; sink.bytes().len(), 0);
-    Ok(())
-}
-
-#[test]
-fn lost_repeated_and_early_packets(rt: HostRuntime) -> Result<(), Fail> {
-    let script =
-        b"seed 1a A\nseed 2a B\nsend 0\nsend 0\ndeliver 0 1\ndeliver 0 0\ndeliver 0 1\ndeliver 0 0\nsend 0\ndeliver 0 9\n";
-    let told =
-        b"OK 0\nOK 1\nsent 0 record 0\nsent 1 record 1\nearly 1 ack 0\ntaken 0 ack 1\ntaken 1 ack 2\nold 0 ack 3\nsent 2 record 0\nno packet\n";
-    let (status, sink) = played(rt.alloc(), script)?;
-    assert_eq!(rt; status, Status::Done);
-    assert_eq!(rt; sink.bytes(), told.as_slice());
-    Ok(())
-}
-
-#[test]
-fn the_edges_of_the_grammar(rt: HostRuntime) -> Result<(), Fail> {
-    let cases: [(&[u8], &[u8], bool); 35] = [
-        (b"\n", b"", true),
-        (b"; seed 1a X\n", b"", true),
-        (b";\n\n;", b"", true),
-        (b"seed 0a X", b"OK 0\n", true),
-        (b"seed 1a ", b"OK 0\n", true),
-        (b"seed 1a  X ", b"OK 0\n", true),
-        (b"seed 999999999z X", b"OK 0\n", true),
+fn lines_at_the_edge_of_a_form(rt: HostRuntime) -> Result<(), Fail> {
+    let alloc = rt.alloc();
+    let forms: [(&[u8], &[u8]); 17] = [
+        (b"\n", b""),
+        (b"; seed 1a X\n", b""),
+        (b";\n\n;", b""),
+        (b"seed 0a X", b"OK 0\n"),
+        (b"seed 1a ", b"OK 0\n"),
+        (b"seed 1a  X ", b"OK 0\n"),
+        (b"seed 999999999z X", b"OK 0\n"),
         (
             b"seed 1a 0123456789012345678901234567890123456789",
             b"OK 0\n",
-            true,
         ),
         (
-            b"seed 1a 01234567890123456789012345678901234567890",
-            b"",
-            false,
+            b"seed 1a \\1f\\1f\\1f\\1f\\1f\\1f\\1f\\1f\\1f\\1f\\1f\\1f\\1f\\1f\\1f\\1f\\1f\\1f\\1f\\1f\\1f\\1f\\1f\\1f\\1f\\1f\\1f\\1f\\1f\\1f\\1f\\1f\\1f\\1f\\1f\\1f\\1f\\1f\\1f\\1f",
+            b"OK 0\n",
         ),
-        (b"seed 1a", b"", false),
-        (b"seed  1a X", b"", false),
-        (b"seed 01a X", b"", false),
-        (b"seed 1A X", b"", false),
-        (b"seed 1{ X", b"", false),
-        (b"seed a X", b"", false),
-        (b"seed 1000000000a X", b"", false),
-        (b"seed 1a \\", b"", false),
-        (b"seed 1a \\41", b"OK 0\n", true),
-        (b"seed 1a \\7f", b"OK 0\n", true),
-        (b"seed 1a \\7F", b"OK 0\n", true),
-        (b"seed 1a \\80", b"", false),
-        (b"seed 1a \x7f", b"", false),
-        (b"seed 1a \x80", b"", false),
-        (b"seed 1a X\r\n", b"", false),
-        (b"Seed 1a X", b"", false),
-        (b" seed 1a X", b"", false),
-        (b"send 0", b"idle\n", true),
-        (b"send 1", b"", false),
-        (b"send 00", b"", false),
-        (b"send 0 ", b"", false),
-        (b"deliver 0 18446744073709551615", b"no packet\n", true),
-        (b"deliver 0 18446744073709551616", b"", false),
-        (b"deliver 0 +1", b"", false),
-        (b"view 0 1a", b"-\n", true),
-        (b"view 0 1a ", b"", false),
+        (b"seed 1a \\41", b"OK 0\n"),
+        (b"seed 1a \\7f", b"OK 0\n"),
+        (b"seed 1a \\7F", b"OK 0\n"),
+        (b"seed 1a X\n;\n\nseed 1a X\n", b"OK 0\nOK 1\n"),
+        (b"send 0", b"idle\n"),
+        (b"deliver 0 0", b"no packet\n"),
+        (b"deliver 0 18446744073709551615", b"no packet\n"),
+        (b"view 0 1a", b"-\n"),
     ];
-    for (script, told, is_form) in cases {
-        let (status, sink) = played(rt.alloc(), script)?;
-        let wanted = if is_form {
-            Status::Done
-        } else {
-            Status::BadLine { line: 1 }
+    for (script, told) in forms {
+        assert!(rt; comes_to(alloc, script, Status::Done, told)?, "{script:?}");
+    }
+    Ok(())
+}
+
+#[test]
+fn lines_that_are_no_form(rt: HostRuntime) -> Result<(), Fail> {
+    let alloc = rt.alloc();
+    let lines: [&[u8]; 36] = [
+        b"seed 1a 01234567890123456789012345678901234567890",
+        b"seed 1a \\1f\\1f\\1f\\1f\\1f\\1f\\1f\\1f\\1f\\1f\\1f\\1f\\1f\\1f\\1f\\1f\\1f\\1f\\1f\\1f\\1f\\1f\\1f\\1f\\1f\\1f\\1f\\1f\\1f\\1f\\1f\\1f\\1f\\1f\\1f\\1f\\1f\\1f\\1f\\1f\\1f",
+        b"seed 1a",
+        b"seed  1a X",
+        b"seed 01a X",
+        b"seed 1A X",
+        b"seed 1{ X",
+        b"seed a X",
+        b"seed 1000000000a X",
+        b"seed 1a \\",
+        b"seed 1a \\4",
+        b"seed 1a \\4g",
+        b"seed 1a \\80",
+        b"seed 1a \x7f",
+        b"seed 1a \x80",
+        b"seed 1a X\r\n",
+        b"Seed 1a X",
+        b"seeds 1a X",
+        b"see 1a X",
+        b"seed\t1a X",
+        b" seed 1a X",
+        b" ; a remark",
+        b"send",
+        b"send ",
+        b"send 1",
+        b"send 00",
+        b"send 0 ",
+        b"send 256",
+        b"deliver 0",
+        b"deliver 1 0",
+        b"deliver 0 00",
+        b"deliver 0 18446744073709551616",
+        b"deliver 0 +1",
+        b"view 0 1a ",
+        b"view 0 1",
+        b"back 0 0",
+    ];
+    for line in lines {
+        assert!(rt;
+            comes_to(alloc, line, Status::BadLine { line: 1 }, b"")?,
+            "{line:?}"
+        );
+    }
+    Ok(())
+}
+
+#[test]
+fn every_byte_is_a_script(rt: HostRuntime) -> Result<(), Fail> {
+    let alloc = rt.alloc();
+    for byte in 0..=u8::MAX {
+        let wanted = match byte {
+            b'\n' | b';' => Status::Done,
+            _ => Status::BadLine { line: 1 },
         };
-        assert_eq!(rt; status, wanted);
-        assert_eq!(rt; sink.bytes(), told);
-    }
-    Ok(())
-}
-
-/// The line that puts a row of so many escaped cells under 1a.
-fn escapes(alloc: Global, count: usize) -> Result<Vec<u8>, Fail> {
-    let mut line = Vec::new(alloc);
-    line.extend_from_slice(b"seed 1a ")?;
-    for _ in 0..count {
-        line.extend_from_slice(b"\\1f")?;
-    }
-    Ok(line)
-}
-
-#[test]
-fn forty_escapes_are_a_row_and_one_more_are_none(rt: HostRuntime) -> Result<(), Fail> {
-    let alloc = rt.alloc();
-    let (status, sink) = played(alloc, &escapes(alloc, 40)?)?;
-    assert_eq!(rt; status, Status::Done);
-    assert_eq!(rt; sink.bytes(), b"OK 0\n".as_slice());
-    let (status, sink) = played(alloc, &escapes(alloc, 41)?)?;
-    assert_eq!(rt; status, Status::BadLine { line: 1 });
-    assert_eq!(rt; sink.bytes().len(), 0);
-    Ok(())
-}
-
-#[test]
-fn an_escaped_row_is_painted_and_written_in_lower_case(rt: HostRuntime) -> Result<(), Fail> {
-    let script = b"seed 1a \\41\\01RED \\5C\\7F\\1fX\nsend 0\ndeliver 0 0\nview 0 1a";
-    let (status, sink) = played(rt.alloc(), script)?;
-    assert_eq!(rt; status, Status::Done);
-    let front =
-        b"OK 0\nsent 0 record 0\ntaken 0 ack 0\nscreen \\0c                         1a\\0d\\0aA\\1bARED \\5c\\7f\\1b_X\\0d\\0a\\0d\\0a";
-    assert!(rt; sink.bytes().starts_with(front));
-    assert_eq!(rt; sink.bytes().len(), front.len() + 20 * 6 + 1);
-    Ok(())
-}
-
-#[test]
-fn each_end_has_its_cause(rt: HostRuntime) -> Result<(), Fail> {
-    let alloc = rt.alloc();
-    let two = b"seed 1a A\nseed 2a B\n";
-    let (status, sink) = played(alloc, b"seed 1a A\nnonsense\nseed 2a B\n")?;
-    assert_eq!(rt; status, Status::BadLine { line: 2 });
-    assert_eq!(rt; sink.bytes(), b"OK 0\n".as_slice());
-    let (status, sink) = played_with_faults(alloc, two, &[0], &[])?;
-    assert_eq!(rt; status, Status::ReadFault);
-    assert_eq!(rt; sink.bytes().len(), 0);
-    let (status, sink) = played_with_faults(alloc, two, &[1], &[])?;
-    assert_eq!(rt; status, Status::ReadFault);
-    assert_eq!(rt; sink.bytes().len(), 0);
-    let (status, sink) = played_with_faults(alloc, two, &[], &[1])?;
-    assert_eq!(rt; status, Status::WriteFault);
-    assert_eq!(rt; sink.bytes(), b"OK 0\n".as_slice());
-    Ok(())
-}
-
-#[test]
-fn other_words_are_refused(rt: HostRuntime) -> Result<(), Fail> {
-    let alloc = rt.alloc();
-    for (first, second) in [("play", "5"), ("play", "01"), ("plays", "1"), ("1", "play")] {
-        let mut words = Vec::new(alloc);
-        words.push(String::from_str(alloc, first)?)?;
-        words.push(String::from_str(alloc, second)?)?;
-        let mut source = MemSource::new(alloc, b"seed 1a A", &[])?;
-        let mut sink = MemSink::new(alloc, 64, &[])?;
-        let Played { status, network } = play(alloc, &words, &mut source, &mut sink);
-        drop(network);
-        assert_eq!(rt; status, Status::Usage);
-        assert_eq!(rt; sink.bytes().len(), 0);
+        assert!(rt; comes_to(alloc, &[byte], wanted, b"")?, "{byte}");
     }
     Ok(())
 }
@@ -196,39 +193,102 @@ fn other_words_are_refused(rt: HostRuntime) -> Result<(), Fail> {
 #[test]
 fn the_longest_script_and_one_byte_more(rt: HostRuntime) -> Result<(), Fail> {
     let alloc = rt.alloc();
-    let mut newlines = vec![in alloc; b'\n'; 1_048_577]?;
-    let (status, sink) = played(alloc, &newlines)?;
-    assert_eq!(rt; status, Status::TooLong);
-    assert_eq!(rt; sink.bytes().len(), 0);
-    newlines.truncate(1_048_576);
-    let (status, sink) = played(alloc, &newlines)?;
-    assert_eq!(rt; status, Status::Done);
-    assert_eq!(rt; sink.bytes().len(), 0);
+    let newlines = vec![in alloc; b'\n'; 1_048_577]?;
+    assert!(rt; comes_to(alloc, &newlines, Status::TooLong, b"")?);
+    assert!(rt; comes_to(alloc, &newlines[1..], Status::Done, b"")?);
     Ok(())
 }
 
 #[test]
-fn every_byte_is_a_script(rt: HostRuntime) -> Result<(), Fail> {
-    for byte in 0..=u8::MAX {
-        let (status, sink) = played(rt.alloc(), &[byte])?;
-        let wanted = if byte == b'\n' || byte == b';' {
-            Status::Done
-        } else {
-            Status::BadLine { line: 1 }
-        };
-        assert_eq!(rt; status, wanted);
-        assert_eq!(rt; sink.bytes().len(), 0);
+fn each_end_has_its_cause(rt: HostRuntime) -> Result<(), Fail> {
+    let alloc = rt.alloc();
+    let two = Trial::of(b"seed 1a A\nseed 2a B\n");
+    let cases: [(Trial, Status, &[u8]); 7] = [
+        (
+            Trial::of(b"seed 1a A\nnonsense\nseed 2a B\n"),
+            Status::BadLine { line: 2 },
+            b"OK 0\n",
+        ),
+        (
+            Trial {
+                failing_reads: &[0],
+                ..two
+            },
+            Status::ReadFault,
+            b"",
+        ),
+        (
+            Trial {
+                failing_reads: &[1],
+                ..two
+            },
+            Status::ReadFault,
+            b"",
+        ),
+        (
+            Trial {
+                failing_writes: &[0],
+                ..two
+            },
+            Status::WriteFault,
+            b"",
+        ),
+        (
+            Trial {
+                failing_writes: &[1],
+                ..two
+            },
+            Status::WriteFault,
+            b"OK 0\n",
+        ),
+        (Trial { room: 9, ..two }, Status::WriteFault, b"OK 0\n"),
+        (Trial { room: 0, ..two }, Status::WriteFault, b""),
+    ];
+    for (trial, wanted, told) in cases {
+        assert!(rt;
+            trial.ends(alloc, &["play", "1"], wanted, told)?,
+            "{wanted:?}"
+        );
     }
     Ok(())
 }
 
 #[test]
-fn a_sink_without_room_is_a_write_fault(rt: HostRuntime) -> Result<(), Fail> {
+fn other_words_are_refused(rt: HostRuntime) -> Result<(), Fail> {
     let alloc = rt.alloc();
-    let mut source = MemSource::new(alloc, b"seed 1a A\n", &[])?;
-    let mut sink = MemSink::new(alloc, 0, &[])?;
-    let Played { status, network } = play(alloc, &play_words(alloc)?, &mut source, &mut sink);
-    drop(network);
-    assert_eq!(rt; status, Status::WriteFault);
+    let others: [&[&str]; 12] = [
+        &[],
+        &["play"],
+        &["1"],
+        &["play", "5"],
+        &["play", "2"],
+        &["play", "01"],
+        &["play", ""],
+        &["plays", "1"],
+        &["1", "play"],
+        &["play", "1", "1"],
+        &["--help"],
+        &["--version"],
+    ];
+    for words in others {
+        let trial = Trial::of(b"seed 1a A");
+        assert!(rt; trial.ends(alloc, words, Status::Usage, b"")?, "{words:?}");
+    }
+    Ok(())
+}
+
+#[test]
+fn help_and_the_version_are_asked_for_by_one_word(rt: HostRuntime) -> Result<(), Fail> {
+    let alloc = rt.alloc();
+    let cases: [(&[&str], Option<About>); 5] = [
+        (&["--help"], Some(About::Help)),
+        (&["--version"], Some(About::Version)),
+        (&["--help", "--version"], None),
+        (&["-h"], None),
+        (&[], None),
+    ];
+    for (words, wanted) in cases {
+        assert_eq!(rt; About::asked(&texts(alloc, words)?), wanted, "{words:?}");
+    }
     Ok(())
 }

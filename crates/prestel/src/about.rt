@@ -1,0 +1,67 @@
+ghost use Rattle.std.specs.Prelude.{◌≡◌, ◌↔◌, [], ◌∷◌, map, Some, IsSomeAnd, codes, string_bytes};
+
+/// The version of the program.
+const VERSION: &str = "prestel 0.1.0\n";
+
+/// How the program is used.
+const HELP: &str = "usage: prestel play 1 < SCRIPT
+       prestel --help
+       prestel --version
+
+Runs the script that standard input holds on a viewdata network of one
+retrieval centre, and writes an answer for each of its lines. The 1 is the
+number of centres; no other is taken so far.
+
+Exit status:
+  0  all was done
+  2  the words are none of those above
+  3  a line is none of the script's forms
+  4  standard input could not be read
+  5  standard output could not be written
+  6  memory ran out
+  7  the script is longer than 1048576 bytes
+";
+
+/// What the program may be asked to tell of itself.
+#[derive(Clone, Copy, Debug, PartialEq, Eq)]
+pub enum About {
+    /// How it is used.
+    Help,
+    /// Which version it is.
+    Version,
+}
+
+impl About {
+    /// What the words ask for, which are one word then. Other words ask for nothing of this.
+    pub fn asked(words: &[String]) -> Option<About>
+        ensures help { (result ≡ Some About.Help) ↔ (map string_bytes words.now ≡ codes "--help" ∷ []) }
+        ensures version { (result ≡ Some About.Version) ↔ (map string_bytes words.now ≡ codes "--version" ∷ []) }
+    {
+        match words {
+            [word] => About::of_word(word),
+            _ => None,
+        }
+    }
+
+    /// What a word asks for.
+    fn of_word(word: &str) -> Option<About>
+        ensures help { (result ≡ Some About.Help) ↔ (word.now ≡ codes "--help") }
+        ensures version { (result ≡ Some About.Version) ↔ (word.now ≡ codes "--version") }
+    {
+        if word == "--help" {
+            Some(About::Help)
+        } else if word == "--version" {
+            Some(About::Version)
+        } else {
+            None
+        }
+    }
+
+    /// The text that tells it.
+    pub fn text(self) -> &'static str {
+        match self {
+            About::Help => HELP,
+            About::Version => VERSION,
+        }
+    }
+}
