@@ -1,7 +1,10 @@
 -- Worked rows, screens and cursors, computed from the definitions.
 use Rattle.std.proofs.Common.{◌≡◌, [], ◌∷◌, ◌++◌, List, ℕ, zero, suc, replicate, refl}
 use Rattle.std.specs.Prelude.{codes}
+use Rattle.std.specs.Fmt.{digits}
+use Rattle.pv_frame.specs.Content as frames
 use Rattle.pv_screen.specs.declared.codes.TheConstants.{CURSOR_ON, CURSOR_OFF}
+use Rattle.pv_screen.specs.Composing.{heading, composed}
 use Rattle.pv_screen.specs.Terminal.{new_display, terminal_after}
 use Rattle.pv_screen.specs.Painting.{line_bytes, painted, message_text}
 
@@ -58,3 +61,21 @@ escape_twice = refl
 -- the bytes of cursor on and cursor off change no cell
 pub cursor_codes : terminal_after new_display (CURSOR_ON ∷ CURSOR_OFF ∷ 0 ∷ 24 ∷ 128 ∷ 255 ∷ []) ≡ new_display
 cursor_codes = refl
+
+-- row 1 of a frame without a title: the name from column 25 on, and the price at the right end
+pub free_heading : heading frames.blank (record { page = 1; letter = 97 }) ≡ replicate 25 32 ++ codes "1a" ++ replicate 13 32
+unfolding digits
+free_heading = refl
+
+pub dear_heading : heading (record frames.blank { price = 99 }) (record { page = 1; letter = 97 }) ≡ replicate 25 32 ++ codes "1a" ++ replicate 10 32 ++ codes "99p"
+unfolding digits
+dear_heading = refl
+
+pub longest_heading : heading (record frames.blank { title = replicate 24 84; price = 5 }) (record { page = 999999999; letter = 122 }) ≡ replicate 24 84 ++ codes " 999999999z   5p"
+unfolding digits
+longest_heading = refl
+
+-- the screen of a blank frame
+pub blank_frame : painted (composed frames.blank (record { page = 1; letter = 97 })) ≡ 12 ∷ (replicate 25 32 ++ codes "1a") ++ line_ends 23
+unfolding digits
+blank_frame = refl

@@ -1,4 +1,5 @@
 pub mod Grids
+pub mod Placing
 pub mod Bytes
 pub mod Displays
 pub mod Shows

@@ -1,3 +1,4 @@
+pub mod Composing
 pub mod Grid
 pub mod Overwriting
 pub mod Painting

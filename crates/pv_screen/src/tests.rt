@@ -1,8 +1,11 @@
-ghost use Rattle.std.specs.Prelude.{◌≤◌, All, length};
+ghost use Rattle.std.specs.Prelude.{◌≡◌, ◌≤◌, All, length};
+ghost use Rattle.pv_frame.specs.declared.layout.TheConstants.{BODY_CELLS};
 
 use super::*;
 use crate::attributes::{ALPHA_YELLOW, FLASH};
 use crate::codes::{LAST_CELL, SPACE};
+use pv_frame::{BODY_CELLS, Frame};
+use pv_page::FrameName;
 use std::process::Abort;
 use std::test::Fail;
 
@@ -96,6 +99,64 @@ fn a_screen_of_attributes_is_the_longest(rt: HostRuntime) -> Result<(), Fail> {
     assert_eq!(rt; count, 1921);
     assert_eq!(rt; &bytes[..5], b"\x0c\x1bH\x1bH".as_slice());
     assert_eq!(rt; &bytes[1917..1921], b"\x1bH\x1bH".as_slice());
+    Ok(())
+}
+
+/// Writes cells at the front of a body.
+fn put_front(cells: &[u8], body: &mut [u8; BODY_CELLS])
+    requires { length cells.now ≤ BODY_CELLS }
+    ensures { length body.new ≡ BODY_CELLS }
+{
+    body[..cells.len()].copy_from_slice(cells);
+}
+
+/// A blank frame but for the cells at the front of its body.
+fn frame_of(cells: &[u8]) -> Frame
+    requires { length cells.now ≤ BODY_CELLS }
+{
+    let mut frame = Frame::blank();
+    put_front(cells, &mut frame.body);
+    frame
+}
+
+/// The screen of a frame whose name is `text`.
+fn composed(frame: &Frame, text: &[u8]) -> Result<Grid, Fail> {
+    let name = FrameName::of_text(text).ok_or("a name")?;
+    frame.check().ok().ok_or("a frame")?;
+    Ok(compose(frame, name))
+}
+
+#[test]
+fn the_longest_name_stands_beside_a_price(rt: HostRuntime) -> Result<(), Fail> {
+    let mut frame = frame_of(b"AAAAAAAAAAAAAAAAAAAAAAAAAAAAAAAAAAAAAAA\x03A\x03");
+    frame.title = *b"TWENTY-FOUR CELLS, ALL..";
+    frame.price = 99;
+    let grid = composed(&frame, b"999999999z")?;
+    assert_painted(
+        &rt,
+        &grid,
+        &[
+            b"\x0cTWENTY-FOUR CELLS, ALL.. 999999999z  99p",
+            b"AAAAAAAAAAAAAAAAAAAAAAAAAAAAAAAAAAAAAAA\x1bCA\x1bC\r\n",
+            &LINE_ENDS[..40],
+        ],
+    );
+    Ok(())
+}
+
+#[test]
+fn a_price_ends_with_its_row(rt: HostRuntime) -> Result<(), Fail> {
+    let mut frame = frame_of(b"NEWS");
+    let texts: [(u16, &[u8]); 3] = [
+        (0, b"\x0c                         1a\r\nNEWS"),
+        (5, b"\x0c                         1a           5pNEWS"),
+        (99, b"\x0c                         1a          99pNEWS"),
+    ];
+    for (price, text) in texts {
+        frame.price = price;
+        let grid = composed(&frame, b"1a")?;
+        assert_painted(&rt, &grid, &[text, LINE_ENDS]);
+    }
     Ok(())
 }
 

@@ -1,0 +1,40 @@
+-- The screen of a frame: which cell stands where.
+use Rattle.std.specs.Prelude.{ℕ, ◌-◌, ◌==◌, List, [], ◌∷◌, ◌++◌, length, replicate, codes, decimal, if◌then◌else◌}
+use Rattle.std.specs.Simd.{first_chunks}
+use Rattle.pv_page.specs.Names.{Name, name_text}
+use Rattle.pv_frame.specs.Content.{Content}
+use Rattle.pv_frame.specs.declared.layout.TheConstants.{BODY_ROWS}
+use Rattle.pv_screen.specs.declared.codes.TheConstants.{SPACE}
+use Rattle.pv_screen.specs.declared.composing.TheConstants.{NAME_COLUMN, PRICE_COLUMN}
+use Rattle.pv_screen.specs.declared.grid.TheConstants.{COLUMNS}
+
+-- so many spaces
+abbrev pub spaces : ℕ → List ℕ
+spaces count = replicate count SPACE
+
+-- a text at the left of so many cells, and one at the right of them
+abbrev pub at_left : ℕ → List ℕ → List ℕ
+at_left width text = text ++ spaces (width - length text)
+
+abbrev pub at_right : ℕ → List ℕ → List ℕ
+at_right width text = spaces (width - length text) ++ text
+
+-- a price is shown in decimal with a p behind it, and nothing is shown where there is none
+abbrev pub price_text : ℕ → List ℕ
+price_text price = if price == 0 then [] else decimal price ++ codes "p"
+
+-- row 1: the title, a space, the name at the left of its cells, and the price at the right of the last ones
+abbrev pub heading : Content → Name → List ℕ
+heading frame name =
+    frame.title
+    ++ spaces 1
+    ++ at_left (PRICE_COLUMN - NAME_COLUMN) (name_text name)
+    ++ at_right (COLUMNS - PRICE_COLUMN) (price_text frame.price)
+
+-- a body cut into its rows
+abbrev pub body_rows : List ℕ → List (List ℕ)
+body_rows body = first_chunks COLUMNS BODY_ROWS body
+
+-- row 1 is the heading, rows 2 to 23 are the body, and row 24 is blank
+abbrev pub composed : Content → Name → List (List ℕ)
+composed frame name = heading frame name ∷ body_rows frame.body ++ spaces COLUMNS ∷ []
