@@ -1,6 +1,7 @@
 mod Append
 mod Counted
 mod Crash
+mod Facts
 mod Gates
 mod Images
 mod Reading

@@ -37,6 +37,8 @@ module _ {D F : Type 0} (g : disk.Ghosts D F) where
     pub reads : g.reads new ≡ g.reads old
     pub images : (image : List ℕ) → g.may_leave new image ↔ g.may_leave old image
     pub clock : g.clock new ≡ g.clock old
+    pub since : (t : ℕ) (image : List ℕ) → g.left_since new t image ↔ g.left_since old t image
+    pub forgotten : (t : ℕ) → g.has_forgotten new t ↔ g.has_forgotten old t
     pub faults : g.faults new ≡ g.faults old
 
   -- the journal has counted these bodies, and its gate is behind them

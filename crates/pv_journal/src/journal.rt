@@ -95,6 +95,9 @@ impl<D: Disk> Journal<D> {
         ensures at_rest { result ≡ Ok None → IsAtRest self.new }
         ensures ended { result ≡ Ok None → (bodies : List (List ℕ)) → IsReading ⟦<D as Disk>⟧ self.old bodies → Holds ⟦<D as Disk>⟧ self.new bodies }
         ensures stays { OnErr result (self.new.phase ≡ self.old.phase) }
+        ensures kept { OnErr result (self.new ≡ record self.old { disk = self.new.disk }) }
+        ensures rests { IsAtRest self.old → result ≡ Ok None }
+        ensures unchanged { IsAtRest self.old → self.new ≡ self.old }
         ensures err { OnErr result ((bodies : List (List ℕ)) → IsReading ⟦<D as Disk>⟧ self.old bodies → IsReading ⟦<D as Disk>⟧ self.new bodies) }
         ensures same { Remains ⟦<D as Disk>⟧ self.old.disk self.new.disk }
         ensures limit { self.new.limit ≡ self.old.limit }
@@ -155,6 +158,7 @@ impl<D: Disk> Journal<D> {
 
         ensures failed { IfErr result (λ fault. IsAppendDiskFault fault → Rose (D.faults self.old.disk) (D.faults self.new.disk)) }
         ensures counted { D.faults self.old.disk ≤ D.faults self.new.disk }
+        ensures calls { D.clock self.new.disk ≤ D.clock self.old.disk + 4 }
         ensures endless { (room : ℕ) → IsEndless room (D.budget self.old.disk) → IsEndless room (D.budget self.new.disk) }
         ensures passes { IfErr result (λ fault. (bodies : List (List ℕ)) → Holds ⟦<D as Disk>⟧ self.old bodies → HasCalls 4 (9 + 2051 * self.old.limit) (D.budget self.old.disk) → IsAppendDiskFault fault → ⊥) }
     {
@@ -181,10 +185,17 @@ impl<D: Disk> Journal<D> {
         ensures at_rest { IfOk result (λ answer. IfSome answer (λ stored. IsAtRest self.new)) }
         ensures stored { result ≡ Ok (Some true) → (bodies : List (List ℕ)) (body : List ℕ) → HoldsInHand ⟦<D as Disk>⟧ self.old bodies body → Holds ⟦<D as Disk>⟧ self.new (bodies ++ body ∷ []) }
         ensures dropped { result ≡ Ok (Some false) → (bodies : List (List ℕ)) (body : List ℕ) → HoldsInHand ⟦<D as Disk>⟧ self.old bodies body → Holds ⟦<D as Disk>⟧ self.new bodies }
+
+        // What the disk reads as spells that list too.
+        ensures reads_stored { result ≡ Ok (Some true) → (bodies : List (List ℕ)) (body : List ℕ) → HoldsInHand ⟦<D as Disk>⟧ self.old bodies body → IfSome (D.reads self.new.disk) (λ text. Spells text (bodies ++ body ∷ [])) }
+        ensures reads_dropped { result ≡ Ok (Some false) → (bodies : List (List ℕ)) (body : List ℕ) → HoldsInHand ⟦<D as Disk>⟧ self.old bodies body → IfSome (D.reads self.new.disk) (λ text. Spells text bodies) }
+
+        ensures kept { OnErr result (self.new ≡ record self.old { disk = self.new.disk }) }
         ensures in_hand { OnErr result ((bodies : List (List ℕ)) (body : List ℕ) → HoldsInHand ⟦<D as Disk>⟧ self.old bodies body → HoldsInHand ⟦<D as Disk>⟧ self.new bodies body) }
         ensures same { Remains ⟦<D as Disk>⟧ self.old.disk self.new.disk }
         ensures limit { self.new.limit ≡ self.old.limit }
         ensures failed { IsErr result → Rose (D.faults self.old.disk) (D.faults self.new.disk) }
+        ensures calls { D.clock self.new.disk ≤ D.clock self.old.disk + 2 }
         ensures passes { (room : ℕ) → IsEndless room (D.budget self.old.disk) → IsOk result }
     {
         let Phase::InHand { size } = self.phase else {

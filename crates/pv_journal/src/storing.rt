@@ -30,6 +30,7 @@ pub(crate) fn store<D: Disk>(disk: &mut D, gate: u64, body: &[u8]) -> Result<(),
     ensures synced { OnOk result (IsSynced ⟦<D as Disk>⟧ disk.new) }
     ensures endless { (room : ℕ) → IsEndless room (D.budget disk.old) → IsEndless room (D.budget disk.new) }
     ensures passes { HasCalls 4 (gate + length body.now + 4) (D.budget disk.old) → IsSynced ⟦<D as Disk>⟧ disk.old → IsOk result }
+    ensures calls { D.clock disk.new ≤ D.clock disk.old + 4 }
     ensures counted { D.faults disk.old ≤ D.faults disk.new }
     ensures failed { IsErr result → Rose (D.faults disk.old) (D.faults disk.new) }
 {

@@ -3,7 +3,7 @@ ghost use Rattle.pv_journal.specs.Log.{IsAtRest};
 
 use super::*;
 use pv_memory::MemDisk;
-use pv_outside::{Disk, Limits};
+use pv_outside::{Disk, Fused, Limits};
 use std::alloc::Global;
 use std::test::Fail;
 
@@ -99,6 +99,29 @@ fn a_body_is_appended_to_a_formatted_disk(rt: HostRuntime) -> Result<(), Fail> {
 }
 
 #[test]
+fn a_format_that_failed_is_done_again(rt: HostRuntime) -> Result<(), Fail> {
+    for calls in 0..3 {
+        for image in [0, 1, 2, 7, 103, 255] {
+            let mut disk = disk_of(rt.alloc(), ONE, &[])?;
+            disk.fuse(calls);
+            assert!(rt; format(&mut disk).is_err());
+            disk.crash(image);
+            format(&mut disk)?;
+            assert_eq!(rt;
+                disk.bytes()[..9],
+                *NONE,
+                "image {image} after {calls} calls"
+            );
+            let Ok(bodies) = bodies_of(rt.alloc(), disk)? else {
+                return Err("not read".into());
+            };
+            assert_eq!(rt; bodies.len(), 0);
+        }
+    }
+    Ok(())
+}
+
+#[test]
 fn bytes_that_are_no_journal_are_refused(rt: HostRuntime) -> Result<(), Fail> {
     let four = b"PVJOURN1\x01\x00\x01A\x01\x00\x01B\x01\x00\x01C\x01\x00\x01D\x00";
     let long = b"PVJOURN1\x01\x08\x01A";
@@ -151,9 +174,22 @@ fn settling_tells_what_the_disk_has(rt: HostRuntime) -> Result<(), Fail> {
         let Err(AppendFault::Disk(_)) = journal.append(b"AB") else {
             return Err("no call failed".into());
         };
-        assert_eq!(rt; journal.settle()?, Some(stored), "call {failing} failed");
-        assert_eq!(rt; journal.settle()?, None);
+        let Some(is_stored) = journal.settle()? else {
+            return Err("nothing was in hand".into());
+        };
+        assert_eq!(rt; is_stored, stored, "call {failing} failed");
         assert_eq!(rt; journal.count(), stored as u64);
+        // The journal goes on.
+        let Ok(place) = journal.append(b"CD") else {
+            return Err("not appended".into());
+        };
+        assert_eq!(rt; place, stored as u64);
+        assert_eq!(rt; journal.settle()?, None);
+        let want: &[u8] = if stored { b"AB.CD." } else { b"CD." };
+        let Ok(bodies) = bodies_of(rt.alloc(), journal.into_disk())? else {
+            return Err("not read".into());
+        };
+        assert_eq!(rt; bodies.as_slice(), want);
     }
     Ok(())
 }

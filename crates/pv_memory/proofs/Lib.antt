@@ -1,4 +1,5 @@
 mod BytesLemmas
+mod Facts
 mod ImageLemmas
 mod Moments
 mod PastLemmas

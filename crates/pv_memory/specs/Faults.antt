@@ -24,3 +24,7 @@ after_call plan = record { call = one_more plan.call; failing = plan.failing; fa
 -- the plan once a fault of another kind was met
 abbrev pub after_fault : Plan → Plan
 after_fault plan = record plan { faults = one_more plan.faults }
+
+-- the plan once a call was made that failed, named or not: each count has risen by one
+abbrev pub after_failure : Plan → Plan
+after_failure plan = record { call = one_more plan.call; failing = plan.failing; faults = one_more plan.faults }

@@ -2,10 +2,10 @@
 use Rattle.std.specs.Prelude.{◌≡◌, ◌⊎◌, ℕ, zero, suc, min, ◌+◌, ◌-◌, ◌*◌, ◌%◌, ◌<◌, ◌≤◌, Bool, true, false, not, ◌&&◌, nat_le, nat_lt, if◌then◌else◌, List, [], ◌∷◌, ◌++◌, length, map, take, drop, slice_index, All, Option, Some, None}
 use Rattle.std.specs.List.{list_any, range_with_len}
 use Rattle.std.specs.Option.{option_map}
-use Rattle.pv_outside.specs.Disk.{Budget}
+use Rattle.pv_outside.specs.Disk.{Budget, overwritten}
 use Rattle.pv_outside.specs.declared.failed.TheConstants.{COUNT_END}
 use Rattle.pv_outside.specs.declared.disk.TheConstants.{KEPT_BYTES, KEPT_CALLS, MAX_UNSYNCED}
-use Rattle.pv_memory.specs.Faults.{Plan, after_call, fails_now}
+use Rattle.pv_memory.specs.Faults.{Plan, after_call, after_failure, fails_now}
 use Rattle.pv_memory.specs.declared.past.Range.{Range}
 
 -- what one call has changed: the range that it wrote, the bytes that stood there, the ranges that were written since the
@@ -115,6 +115,28 @@ past_after range m = if nat_lt KEPT_BYTES range.size then [] else take KEPT_CALL
 -- the disk after a call that succeeds, before it has written this range
 abbrev pub after_pass : Range → Medium → Medium
 after_pass range m = record m { past = past_after range m; left = option_map (λ n. n - 1) m.left; clock = min (m.clock + 1) COUNT_END; plan = after_call m.plan }
+
+-- the disk after a call that fails: the call and the fault are counted, and nothing else has changed
+abbrev pub after_failing : Medium → Medium
+after_failing m = record m { plan = after_failure m.plan }
+
+-- the range of a call that writes nothing
+abbrev pub nowhere : Range
+nowhere = record { at = 0; size = 0 }
+
+-- the disk after a call that tells its length or its bytes
+abbrev pub after_looking : Medium → Medium
+after_looking m = after_pass nowhere m
+
+-- the disk after a write of these bytes at this place, which is pending now
+abbrev pub after_writing : ℕ → List ℕ → Medium → Medium
+after_writing at bytes m =
+    let range : Range = record { at = at; size = length bytes } in
+    record (after_pass range m) { text = overwritten at bytes m.text; pending = m.pending ++ range ∷ [] }
+
+-- the disk after a sync: nothing is pending
+abbrev pub after_syncing : Medium → Medium
+after_syncing m = record (after_pass nowhere m) { synced = m.text; pending = [] }
 
 -- a further call passes
 abbrev pub left_passes : Option ℕ → Bool

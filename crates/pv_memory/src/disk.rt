@@ -1,8 +1,8 @@
-ghost use Rattle.std.specs.Prelude.{◌≡◌, ◌≢◌, ◌+◌, ◌≤◌, [], Option, Some, None, false, length, IfOk, IsOk, IsErr, IfSome, OnOk, OnErr, is_ok, ◌&&◌, not, List, slice_range, ℕ};
+ghost use Rattle.std.specs.Prelude.{◌≡◌, ◌≢◌, ◌↔◌, ◌+◌, ◌≤◌, [], Option, Some, None, false, length, IfOk, IsOk, IsErr, IfSome, OnOk, OnErr, is_ok, ◌&&◌, not, List, slice_range, ℕ};
 ghost use Rattle.std.specs.Option.{option_map, ForSome};
 ghost use Rattle.pv_outside.specs.Counts.{Rose};
-ghost use Rattle.pv_outside.specs.Disk.{overwritten, Torn, Follows, NoMore, Turns, clock_after, Elapses, after_call, after_write, after_sync, budget_after, CanCall, CanWrite, IsSpent};
-ghost use Rattle.pv_memory.specs.Medium.{Medium, moment_of, IsImage, IsForgotten, LeftSince, budget_of, can_pass, has_room, image_of, after_pass};
+ghost use Rattle.pv_outside.specs.Disk.{overwritten, Torn, Follows, NoMore, Turns, clock_after, Elapses, after_call, after_write, after_sync, budget_after, CanCall, CanWrite, IsSpent, fused};
+ghost use Rattle.pv_memory.specs.Medium.{Medium, moment_of, IsImage, IsForgotten, LeftSince, budget_of, can_pass, has_room, image_of, after_pass, after_failing, after_looking, after_writing, after_syncing};
 ghost use Rattle.pv_memory.specs.MediumLaws.{now_counts, only_now, fresh};
 ghost use Rattle.std.specs.Prelude.{refl};
 ghost use Rattle.std.proofs.Common.{inl};
@@ -87,8 +87,7 @@ impl MemDisk {
         requires { range.at ≤ length self.old.text }
         ensures ok { OnOk result (self.new ≡ after_pass range self.old) }
         ensures not_refused { OnOk result (is_refused ≡ false) }
-        ensures err { OnErr result (self.new ≡ record self.old { plan = self.new.plan }) }
-        ensures failing { self.new.plan.failing ≡ self.old.plan.failing }
+        ensures err { OnErr result (self.new ≡ after_failing self.old) }
         ensures counted { self.old.plan.faults ≤ self.new.plan.faults }
         ensures failed { IsErr result → Rose self.old.plan.faults self.new.plan.faults }
         ensures exact { is_ok result ≡ (can_pass self.old && not is_refused) }
@@ -149,9 +148,10 @@ impl Disk for MemDisk {
         ensures counted { self.old.plan.faults ≤ self.new.plan.faults }
         ensures failed { IsErr result → Rose self.old.plan.faults self.new.plan.faults }
 
-        // It fails exactly where it is named to, or has no room, and then nothing else changes.
+        // It fails exactly where it is named to or no further call passes, and then it changes nothing.
         ensures exact { is_ok result ≡ can_pass self.old }
-        ensures err { OnErr result (self.new ≡ record self.old { plan = self.new.plan }) }
+        ensures done { OnOk result (self.new ≡ after_looking self.old) }
+        ensures err { OnErr result (self.new ≡ after_failing self.old) }
     {
         self.begin(NOTHING, false)?;
         Ok(self.text.len() as u64)
@@ -170,9 +170,11 @@ impl Disk for MemDisk {
         ensures counted { self.old.plan.faults ≤ self.new.plan.faults }
         ensures failed { IsErr result → Rose self.old.plan.faults self.new.plan.faults }
 
-        // It fails exactly where it is named to, or has no room, and then nothing else changes.
+        // It fails exactly where it is named to or no further call passes, and then it changes nothing.
         ensures exact { is_ok result ≡ can_pass self.old }
-        ensures err { OnErr result (self.new ≡ record self.old { plan = self.new.plan }) }
+        ensures done { OnOk result (self.new ≡ after_looking self.old) }
+        ensures err { OnErr result (self.new ≡ after_failing self.old) }
+        ensures kept { OnErr result (into.new ≡ into.old) }
     {
         self.begin(NOTHING, false)?;
         let at = at as usize;
@@ -193,9 +195,11 @@ impl Disk for MemDisk {
         ensures counted { self.old.plan.faults ≤ self.new.plan.faults }
         ensures failed { IsErr result → Rose self.old.plan.faults self.new.plan.faults }
 
-        // It fails exactly where it is named to, or has no room, and then nothing else changes.
+        // It fails exactly where it is named to, no further call passes or it has no room, and then it
+        // changes nothing.
         ensures exact { is_ok result ≡ (can_pass self.old && has_room self.old (at + length bytes.now)) }
-        ensures err { OnErr result (self.new ≡ record self.old { plan = self.new.plan }) }
+        ensures done { OnOk result (self.new ≡ after_writing at bytes.now self.old) }
+        ensures err { OnErr result (self.new ≡ after_failing self.old) }
     {
         let range = Range {
             at: at as usize,
@@ -221,9 +225,10 @@ impl Disk for MemDisk {
         ensures counted { self.old.plan.faults ≤ self.new.plan.faults }
         ensures failed { IsErr result → Rose self.old.plan.faults self.new.plan.faults }
 
-        // It fails exactly where it is named to, or has no room, and then nothing else changes.
+        // It fails exactly where it is named to or no further call passes, and then it changes nothing.
         ensures exact { is_ok result ≡ can_pass self.old }
-        ensures err { OnErr result (self.new ≡ record self.old { plan = self.new.plan }) }
+        ensures done { OnOk result (self.new ≡ after_syncing self.old) }
+        ensures err { OnErr result (self.new ≡ after_failing self.old) }
     {
         self.begin(NOTHING, false)?;
         catch_up(&mut self.synced, &self.text, &self.pending);
@@ -233,7 +238,18 @@ impl Disk for MemDisk {
 }
 
 impl Fused for MemDisk {
-    fn fuse(&mut self, calls: u32) {
+    fn fuse(&mut self, calls: u32)
+        ensures left { budget_of self.new ≡ option_map (fused calls) (budget_of self.old) }
+        ensures reads { Some self.new.text ≡ Some self.old.text }
+        ensures images { (image : List ℕ) → IsImage (moment_of self.new) image ↔ IsImage (moment_of self.old) image }
+        ensures clock { self.new.clock ≡ self.old.clock }
+        ensures since { (t : ℕ) (image : List ℕ) → LeftSince self.new t image ↔ LeftSince self.old t image }
+        ensures forgotten { (t : ℕ) → IsForgotten self.new t ↔ IsForgotten self.old t }
+        ensures faults { self.new.plan.faults ≡ self.old.plan.faults }
+
+        // So many further calls pass, also of a disk that does not tell its budget.
+        ensures exact { self.new ≡ record self.old { left = Some calls } }
+    {
         self.left = Some(calls as u64);
     }
 }

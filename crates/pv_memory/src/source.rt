@@ -1,4 +1,4 @@
-ghost use Rattle.std.specs.Prelude.{◌≡◌, ℕ, ◌<◌, ◌≤◌, ◌+◌, List, [], length, take, drop, min, Option, Some, IfOk, IsErr, is_err, false, ◌++◌, ◌==◌, ◌&&◌, nat_lt};
+ghost use Rattle.std.specs.Prelude.{◌≡◌, ℕ, ◌<◌, ◌≤◌, ◌+◌, List, [], length, take, drop, min, Option, Some, IfOk, OnErr, IsErr, is_err, false, ◌++◌, ◌==◌, ◌&&◌, nat_lt};
 ghost use Rattle.std.specs.Io.KnownBytes.{IsAtEnd};
 ghost use Rattle.pv_outside.specs.Counts.{Rose};
 ghost use Rattle.pv_outside.specs.Source.{Ends, Takes, Leaves};
@@ -65,6 +65,7 @@ impl Source for MemSource {
         // It gives all that there is room for, and fails at the calls that were named.
         ensures exact { self.new ≡ after_read self.old (length into.old) }
         ensures fails { is_err result ≡ fails_now self.old.plan }
+        ensures kept { OnErr result (into.new ≡ into.old) }
     {
         if self.faults.next_fails() {
             return Err(Failed);

@@ -1,0 +1,26 @@
+-- Worked examples of what stands on a disk, computed from the definitions.
+use Rattle.std.proofs.Common.{◌≡◌, inl, [], ◌∷◌, ◌++◌, replicate, codes, refl}
+use Rattle.pv_journal.specs.Text.{front, first_eight, written_behind, IsBroken}
+
+-- a journal without bodies
+pub no_bodies : front [] ++ 0 ∷ [] ≡ codes "PVJOURN1" ++ 0 ∷ []
+no_bodies = refl
+
+-- a journal with one body of two bytes, and what was written behind the gate to append it
+pub one_body : front (codes "AB" ∷ []) ++ 0 ∷ [] ≡ codes "PVJOURN1" ++ 1 ∷ 0 ∷ 2 ∷ 65 ∷ 66 ∷ 0 ∷ []
+one_body = refl
+
+pub one_written : written_behind (codes "AB") ≡ 0 ∷ 2 ∷ 65 ∷ 66 ∷ 0 ∷ []
+one_written = refl
+
+-- the high byte of a length comes first
+pub high_first : written_behind (replicate 258 7) ≡ 1 ∷ 2 ∷ replicate 258 7 ++ 0 ∷ []
+high_first = refl
+
+-- the first eight bytes of a disk that has fewer
+pub filled_up : first_eight (codes "PVJOURN") ≡ codes "PVJOURN" ++ 0 ∷ []
+filled_up = refl
+
+-- an open gate with a body of no bytes is broken
+pub broken_if_empty : IsBroken (1 ∷ 0 ∷ 0 ∷ [])
+broken_if_empty = (refl, inl refl)
