@@ -1,6 +1,6 @@
 -- How many names have a frame, and what number comes next, as the list grows.
-use Rattle.std.proofs.Common.{◌≡◌, ℕ, zero, suc, ◌+◌, ◌<◌, ◌≤◌, Bool, true, false, cond, not, ◌&&◌, ◌||◌, eqb, List, [], ◌∷◌, ◌++◌, length, get_or, take, Option, Some, None, refl, sym, ap, ◌∙◌, arith, rules}
-use Rattle.std.specs.Prelude.{reverse, find, is_none, slice_get}
+use Rattle.std.proofs.Common.{◌≡◌, ℕ, ◌+◌, Bool, true, false, cond, not, ◌&&◌, ◌||◌, eqb, List, [], ◌∷◌, ◌++◌, length, get_or, take, Option, Some, None, refl, sym, ap, ◌∙◌, arith}
+use Rattle.std.specs.Prelude.{reverse, find, is_none}
 use Rattle.std.specs.List.{list_any}
 use Rattle.std.specs.Option.{option_map, option_map_or}
 use Rattle.std.proofs.lemmas.Bool.{eqb-true, eq-eqb}
@@ -58,7 +58,8 @@ none-reverse p (x ∷ xs) =
     last false true = refl
     last false false = refl
 
-none-option_map : (o : Option Record) → is_none (option_map (λ edit. edit.row) o) ≡ is_none o
+-- a record has a frame
+pub none-option_map : (o : Option Record) → is_none (option_map (λ edit. edit.frame) o) ≡ is_none o
 none-option_map None = refl
 none-option_map (Some x) = refl
 

@@ -1,12 +1,12 @@
 -- What is kept of a world, centre by centre.
-use Rattle.std.proofs.Common.{◌≡◌, ℕ, zero, suc, ◌+◌, ◌<◌, ◌≤◌, List, [], ◌∷◌, ◌++◌, length, get_or, set, take, refl, sym, ap, ◌∙◌, arith}
+use Rattle.std.proofs.Common.{◌≡◌, ℕ, zero, suc, ◌+◌, ◌<◌, List, [], ◌∷◌, length, set, refl, sym, ap, ◌∙◌, arith}
 use Rattle.std.specs.Prelude.{map, replicate}
 use Rattle.std.specs.List.{sum_by}
 use Rattle.std.proofs.lemmas.List.{get_or-map, length-map, map-set}
 use Rattle.std.proofs.lemmas.List.Sums.{sum_by-cons}
 use Rattle.pv_network.specs.declared.record.Record.{Record}
 use Rattle.pv_network.specs.World.{World, Centre, new_centre, start, centre_at, with_centre, packet_count}
-use Rattle.pv_network.specs.Standing.{Kept, State, kept_centre, kept_of, kept_at, nothing_kept, packets_of}
+use Rattle.pv_network.specs.Standing.{Kept, kept_centre, kept_of, kept_at, nothing_kept, packets_of}
 
 module _ (w : World) where
   -- as many centres are kept as there are

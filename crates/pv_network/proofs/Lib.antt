@@ -1,8 +1,9 @@
 pub mod Counts
+pub mod Finding
+pub mod Framing
 pub mod Keeping
 pub mod Lists
 pub mod Performing
 pub mod Pushes
-pub mod Rows
 pub mod Seeding
 pub mod Soundness

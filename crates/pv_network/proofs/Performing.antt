@@ -1,23 +1,24 @@
 -- What the network does centre by centre is what happens to each world that it stands for.
-use Rattle.std.proofs.Common.{◌≡◌, ℕ, ◌+◌, ◌<◌, ◌≤◌, Bool, true, false, cond, ◌&&◌, leb, ltb, List, [], ◌∷◌, ◌++◌, length, get_or, set, take, Option, Some, None, refl, sym, ap, subst, ◌∙◌, arith}
-use Rattle.std.specs.Prelude.{slice_get, is_none}
+use Rattle.std.proofs.Common.{◌≡◌, ℕ, ◌+◌, ◌<◌, ◌≤◌, Bool, true, false, cond, ◌&&◌, leb, ltb, List, [], ◌∷◌, ◌++◌, length, get_or, set, take, Some, None, refl, sym, ap, subst, ◌∙◌, arith}
+use Rattle.std.specs.Prelude.{slice_get}
 use Rattle.std.specs.List.{sum_by}
 use Rattle.std.proofs.lemmas.Bool.{le-leb, lt-leb, leb-false, ltb-true}
-use Rattle.std.proofs.lemmas.List.{take_more, length-take-le, get_or_read}
-use Rattle.std.proofs.lemmas.Option.{slice_get_within, get_or_from_slice_get}
-use Rattle.pv_page.specs.Names.{Name}
+use Rattle.std.proofs.lemmas.List.{take_more, length-take-le, length-set, get_or_read}
+use Rattle.std.proofs.lemmas.List.Sums.{sum_by-set}
+use Rattle.std.proofs.lemmas.Option.{slice_get_within, slice_get-get_or, get_or_from_slice_get}
 use Rattle.pv_network.specs.declared.centre.Arrival.{Arrival}
 use Rattle.pv_network.specs.declared.centre.Arrival.TheVariants as arrivals
 use Rattle.pv_network.specs.declared.outcome.Outcome.{Outcome}
-use Rattle.pv_network.specs.declared.outcome.Outcome.TheVariants.{Reply, Idle, PacketsFull, NoPacket, SentRecord, Taken, Old, Early, Full}
+use Rattle.pv_network.specs.declared.outcome.Outcome.TheVariants.{SentRecord}
 use Rattle.pv_network.specs.declared.packet.Packet.{Packet}
 use Rattle.pv_network.specs.declared.packet.TheConstants.{MAX_PACKETS}
 use Rattle.pv_network.specs.declared.record.Record.{Record}
 use Rattle.pv_network.specs.World.{World, Centre, End, centre_at, with_centre, packet_count}
-use Rattle.pv_network.specs.Step.{is_packets_full, with_packet, sent_number, sent, next_number, packed, with_acknowledgement, with_taken, arrival_of, arrived, delivered_packet, delivered}
-use Rattle.pv_network.specs.Sound.{IsSound, IsSoundCentre, IsGenuine}
+use Rattle.pv_network.specs.Step.{is_packets_full, with_packet, sent, next_number, with_acknowledgement, with_taken, arrival_of, arrived, delivered}
+use Rattle.pv_network.specs.Sound.{IsSound, IsGenuine}
 use Rattle.pv_network.specs.Standing.{Kept, State, kept_centre, kept_of, kept_at, nothing_kept, packets_of, with_down, with_up, with_held, StandsFor, Performs}
-use Rattle.pv_network.proofs.Keeping.{centre_kept, kept_with, packets_kept, count_kept}
+use Rattle.pv_network.proofs.Finding.{element}
+use Rattle.pv_network.proofs.Keeping.{centre_kept, kept_with, packets_kept}
 use Rattle.pv_network.proofs.Soundness.{sound_at, sound_acknowledged, sound_sent, sound_taken, taken_is_next}
 use Rattle.pv_network.proofs.Lists.{all_get}
 
@@ -159,3 +160,20 @@ pub counts : (s : State) (c : ℕ) → c < length s.centres → (w : World) → 
 counts s c there w stands =
     let Q : State → World → Type 0 = λ t v. c < length t.centres → length (kept_at t.centres c).held ≡ (centre_at v c).number in
     at_kept s Q (λ v sound there. ap (λ (k : Kept). length k.held) (centre_kept v c there) ∙ length_held v c sound) w stands there
+
+-- a centre that takes the record of a packet has as many packets as before
+module _ (centres new : List Kept) (c index : ℕ) (there : c < length centres) (made : index < length (kept_at centres c).down)
+    (taken : (packet : Packet) → slice_get (kept_at centres c).down index ≡ Some packet → new ≡ set centres c (with_held (kept_at centres c) packet.edit)) where
+  -- what it is then
+  taken_there : (packet : Packet) × (new ≡ set centres c (with_held (kept_at centres c) packet.edit))
+  taken_there =
+      let here = element (kept_at centres c).down index made in
+      (here.0, taken here.0 (slice_get-get_or (kept_at centres c).down index here.0 made ∙ ap Some (sym here.1)))
+
+  pub same_packets : sum_by packets_of new ≡ sum_by packets_of centres
+  same_packets =
+      let held = with_held (kept_at centres c) taken_there.0.edit in
+      omega (arith, ap (sum_by packets_of) taken_there.1, sum_by-set packets_of centres c held nothing_kept there)
+
+  pub same_count : length new ≡ length centres
+  same_count = ap length taken_there.1 ∙ length-set centres c (with_held (kept_at centres c) taken_there.0.edit)

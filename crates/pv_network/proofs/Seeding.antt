@@ -1,10 +1,11 @@
--- What the network does when the operator puts a row is what happens to each world that it stands for.
-use Rattle.std.proofs.Common.{◌≡◌, ℕ, ◌+◌, ◌<◌, ◌≤◌, Bool, true, false, cond, ◌&&◌, leb, List, [], ◌∷◌, ◌++◌, length, take, Option, Some, None, refl, sym, ap, subst, ◌∙◌, arith}
+-- What the network does when the operator puts a frame is what happens to each world that it stands for.
+use Rattle.std.proofs.Common.{◌≡◌, ℕ, ◌+◌, ◌<◌, Bool, true, false, cond, ◌&&◌, leb, List, [], ◌∷◌, ◌++◌, length, Some, None, refl, sym, ap, ◌∙◌}
 use Rattle.std.specs.Prelude.{is_none, map}
 use Rattle.std.specs.List.{AllByRecursion}
 use Rattle.std.proofs.lemmas.Bool.{leb-false}
 use Rattle.std.proofs.lemmas.List.{take-append-le}
 use Rattle.pv_page.specs.Names.{Name}
+use Rattle.pv_frame.specs.Content.{Content}
 use Rattle.pv_network.specs.declared.outcome.Outcome.{Outcome}
 use Rattle.pv_network.specs.declared.outcome.Outcome.TheVariants.{Reply}
 use Rattle.pv_network.specs.declared.record.Record.{Record}
@@ -14,7 +15,7 @@ use Rattle.pv_network.specs.Replies.{stored_reply, frames_full_reply, full_reply
 use Rattle.pv_network.specs.World.{World, Centre}
 use Rattle.pv_network.specs.Step.{next_edit, with_edit, is_frames_full, seeded}
 use Rattle.pv_network.specs.Sound.{IsSound, IsSoundCentre}
-use Rattle.pv_network.specs.Standing.{Kept, State, kept_centre, kept_of, with_record, refusal_of, StandsFor, Performs}
+use Rattle.pv_network.specs.Standing.{Kept, State, kept_centre, kept_of, with_record, refusal_of, StandsFor}
 use Rattle.pv_network.proofs.Counts.{last_number-run}
 use Rattle.pv_network.proofs.Performing.{at_kept}
 use Rattle.pv_network.proofs.Soundness.{sound_seeded}
@@ -38,22 +39,22 @@ same_centres edits more limit (centre ∷ centres) sound =
     ap (λ (held : List Record). record (kept_centre edits limit centre) { held = held }) (sym (take-append-le centre.number edits more sound.0.within)) in
     ap (λ (k : Kept). k ∷ map (kept_centre edits limit) centres) here ∙ ap (λ (l : List Kept). kept_centre (edits ++ more) limit centre ∷ l) (same_centres edits more limit centres sound.1)
 
-seeded_kept : (w : World) (name : Name) (row : List ℕ) → IsSound w → refusal_of (kept_of w) (is_none (frame_at w.edits name)) ≡ None
-    → StandsFor (with_record (kept_of w) name row) (seeded w name row).0 × (Reply (stored_reply (length w.edits)) ≡ (seeded w name row).1)
-seeded_kept w name row sound taken =
+seeded_kept : (w : World) (name : Name) (frame : Content) → IsSound w → refusal_of (kept_of w) (is_none (frame_at w.edits name)) ≡ None
+    → StandsFor (with_record (kept_of w) name frame) (seeded w name frame).0 × (Reply (stored_reply (length w.edits)) ≡ (seeded w name frame).1)
+seeded_kept w name frame sound taken =
     let tests = not_refused (is_frames_full w name) (leb w.record_limit (length w.edits)) (frames_full_reply w.frame_limit) (full_reply w.record_limit) taken in
-    let edit = next_edit w name row in
-    let stores : seeded w name row ≡ (with_edit w edit, Reply (stored_reply (length w.edits))) = rw (tests.0, tests.1) refl in
-    let counted : with_record (kept_of w) name row ≡ record (kept_of w) { edits = w.edits ++ edit ∷ [] } =
-    ap (λ (n : ℕ). record (kept_of w) { edits = w.edits ++ record { editor = OPERATOR; number = n + 1; name = name; row = row } ∷ [] }) (sym (last_number-run w.edits sound.run)) in
-    let kept : with_record (kept_of w) name row ≡ kept_of (with_edit w edit) =
+    let edit = next_edit w name frame in
+    let stores : seeded w name frame ≡ (with_edit w edit, Reply (stored_reply (length w.edits))) = rw (tests.0, tests.1) refl in
+    let counted : with_record (kept_of w) name frame ≡ record (kept_of w) { edits = w.edits ++ edit ∷ [] } =
+    ap (λ (n : ℕ). record (kept_of w) { edits = w.edits ++ record { editor = OPERATOR; number = n + 1; name = name; frame = frame } ∷ [] }) (sym (last_number-run w.edits sound.run)) in
+    let kept : with_record (kept_of w) name frame ≡ kept_of (with_edit w edit) =
     counted ∙ ap (λ (centres : List Kept). record (kept_of w) { edits = w.edits ++ edit ∷ []; centres = centres }) (same_centres w.edits (edit ∷ []) w.record_limit w.centres sound.centres) in
-    (record { sound = sound_seeded w name row sound; same = kept ∙ ap (λ (r : World × Outcome). kept_of r.0) (sym stores) }, ap (λ (r : World × Outcome). r.1) (sym stores))
+    (record { sound = sound_seeded w name frame sound; same = kept ∙ ap (λ (r : World × Outcome). kept_of r.0) (sym stores) }, ap (λ (r : World × Outcome). r.1) (sym stores))
 
 -- the record is stored
-pub seeds : (s : State) (name : Name) (row : List ℕ) → refusal_of s (is_none (frame_at s.edits name)) ≡ None → (w : World) → StandsFor s w
-    → StandsFor (with_record s name row) (seeded w name row).0 × (Reply (stored_reply (length s.edits)) ≡ (seeded w name row).1)
-seeds s name row taken w stands =
+pub seeds : (s : State) (name : Name) (frame : Content) → refusal_of s (is_none (frame_at s.edits name)) ≡ None → (w : World) → StandsFor s w
+    → StandsFor (with_record s name frame) (seeded w name frame).0 × (Reply (stored_reply (length s.edits)) ≡ (seeded w name frame).1)
+seeds s name frame taken w stands =
     let Q : State → World → Type 0 = λ t v. refusal_of t (is_none (frame_at t.edits name)) ≡ None
-    → StandsFor (with_record t name row) (seeded v name row).0 × (Reply (stored_reply (length t.edits)) ≡ (seeded v name row).1) in
-    at_kept s Q (λ v sound. seeded_kept v name row sound) w stands taken
+    → StandsFor (with_record t name frame) (seeded v name frame).0 × (Reply (stored_reply (length t.edits)) ≡ (seeded v name frame).1) in
+    at_kept s Q (λ v sound. seeded_kept v name frame sound) w stands taken

@@ -1,11 +1,12 @@
 -- What an event makes of a sound world is sound.
-use Rattle.std.proofs.Common.{◌≡◌, ℕ, zero, suc, ◌+◌, ◌<◌, ◌≤◌, Bool, true, false, cond, not, ◌&&◌, ltb, leb, eqb, List, [], ◌∷◌, ◌++◌, length, Option, Some, None, refl, sym, ap, subst, ◌∙◌, arith, inl, inr}
+use Rattle.std.proofs.Common.{◌≡◌, ℕ, zero, suc, ◌+◌, ◌<◌, ◌≤◌, Bool, true, false, cond, not, ◌&&◌, ltb, leb, eqb, List, [], ◌∷◌, ◌++◌, length, Option, Some, None, refl, sym, ap, ◌∙◌, arith, inl, inr}
 use Rattle.std.specs.Prelude.{is_none, slice_get, replicate}
 use Rattle.std.specs.List.{AllByRecursion, list_any}
-use Rattle.std.proofs.lemmas.Bool.{leb-true, leb-false, eqb-true}
-use Rattle.std.proofs.lemmas.List.{length-append, get_or-set_same}
+use Rattle.std.proofs.lemmas.Bool.{leb-false, eqb-true}
+use Rattle.std.proofs.lemmas.List.{length-append}
 use Rattle.std.proofs.lemmas.Option.{slice_get_within}
 use Rattle.pv_page.specs.Names.{Name}
+use Rattle.pv_frame.specs.Content.{Content}
 use Rattle.pv_network.specs.declared.centre.Arrival.{Arrival}
 use Rattle.pv_network.specs.declared.centre.Arrival.TheVariants as arrivals
 use Rattle.pv_network.specs.declared.event.Event.{Event}
@@ -13,8 +14,8 @@ use Rattle.pv_network.specs.declared.event.Event.TheVariants.{Seed, Send, Delive
 use Rattle.pv_network.specs.declared.packet.Packet.{Packet}
 use Rattle.pv_network.specs.declared.record.Record.{Record}
 use Rattle.pv_network.specs.declared.record.TheConstants.{OPERATOR}
-use Rattle.pv_network.specs.declared.outcome.Outcome.{Outcome}
-use Rattle.pv_network.specs.Edits.{puts, frame_at, frame_count, last_number, IsNumbered}
+use Rattle.pv_network.specs.Edits.{puts, frame_at, frame_count, IsNumbered}
+use Rattle.pv_network.specs.Frames.{frame_of_row}
 use Rattle.pv_network.specs.World.{World, Centre, Acknowledged, new_centre, start, centre_at, with_centre}
 use Rattle.pv_network.specs.Step.{is_packets_full, next_edit, with_edit, is_frames_full, seeded, next_number, with_packet, packed, sent_number, sent, arrival_of, with_acknowledgement, with_taken, arrived, delivered_packet, delivered, happens, after}
 use Rattle.pv_network.specs.OneList.{IsKept, receipt, receipts_from, OneList}
@@ -85,9 +86,9 @@ receipts-push place [] edit = ap (λ (n : ℕ). receipt edit n ∷ []) (omega ar
 receipts-push place (first ∷ later) edit =
     ap (λ (l : List Acknowledged). receipt first place ∷ l) (receipts-push (place + 1) later edit ∙ ap (λ (n : ℕ). receipts_from (place + 1) later ++ receipt edit n ∷ []) (omega arith))
 
-sound_edit : (w : World) (name : Name) (row : List ℕ) → IsSound w → is_frames_full w name ≡ false → leb w.record_limit (length w.edits) ≡ false → IsSound (with_edit w (next_edit w name row))
-sound_edit w name row sound frames records =
-    let edit = next_edit w name row in
+sound_edit : (w : World) (name : Name) (frame : Content) → IsSound w → is_frames_full w name ≡ false → leb w.record_limit (length w.edits) ≡ false → IsSound (with_edit w (next_edit w name frame))
+sound_edit w name frame sound frames records =
+    let edit = next_edit w name frame in
     let number : edit.number ≡ length w.edits + 1 = ap (λ (n : ℕ). n + 1) (last_number-run w.edits sound.run) in
     record {
       run = run_push w.edits edit sound.run refl number;
@@ -101,10 +102,10 @@ sound_edit w name row sound frames records =
       centres = all_weaken (IsSoundCentre w.edits) (IsSoundCentre (w.edits ++ edit ∷ [])) (centre_longer w.edits (edit ∷ [])) w.centres sound.centres;
     }
 
-pub sound_seeded : (w : World) (name : Name) (row : List ℕ) → IsSound w → IsSound (seeded w name row).0
-sound_seeded w name row sound =
+pub sound_seeded : (w : World) (name : Name) (frame : Content) → IsSound w → IsSound (seeded w name frame).0
+sound_seeded w name frame sound =
     choice (is_frames_full w name) _ _ (λ _. sound) (λ frames.
-    choice (leb w.record_limit (length w.edits)) _ _ (λ _. sound) (λ records. sound_edit w name row sound frames records))
+    choice (leb w.record_limit (length w.edits)) _ _ (λ _. sound) (λ records. sound_edit w name frame sound frames records))
 
 -- ---- send
 
@@ -175,7 +176,7 @@ sound_delivered w c index sound = arrives (slice_get (centre_at w c).down index)
 -- ---- all
 
 pub sound_happens : (w : World) (event : Event) → IsSound w → IsSound (happens w event).0
-sound_happens w (Seed name row) sound = sound_seeded w name row sound
+sound_happens w (Seed name row) sound = sound_seeded w name (frame_of_row row) sound
 sound_happens w (Send centre) sound = sound_sent w centre sound
 sound_happens w (Deliver centre index) sound = sound_delivered w centre index sound
 sound_happens w (View centre name) sound = sound

@@ -3,6 +3,7 @@ use Rattle.std.specs.Prelude.{◌≡◌, ℕ, ◌+◌, ◌==◌, Bool, ◌&&◌,
 use Rattle.std.specs.List.{list_any}
 use Rattle.std.specs.Option.{option_map, option_map_or}
 use Rattle.pv_page.specs.Names.{Name}
+use Rattle.pv_frame.specs.Content.{Content}
 use Rattle.pv_network.specs.declared.record.Record.{Record}
 use Rattle.pv_network.specs.declared.record.TheConstants.{OPERATOR}
 
@@ -18,9 +19,13 @@ puts name edit = same_name edit.name name
 abbrev pub is_by : ℕ → Record → Bool
 is_by editor edit = edit.editor == editor
 
--- the frame, which is a row, that the edits give a name: that of the last record of the name
-abbrev pub frame_at : List Record → Name → Option (List ℕ)
-frame_at edits name = option_map (λ edit. edit.row) (find (puts name) (reverse edits))
+-- the last record of a name
+abbrev pub edit_at : List Record → Name → Option Record
+edit_at edits name = find (puts name) (reverse edits)
+
+-- the frame that the edits give a name: that of the last record of the name
+abbrev pub frame_at : List Record → Name → Option Content
+frame_at edits name = option_map (λ edit. edit.frame) (edit_at edits name)
 
 -- how many names have a frame: a record counts where no later one is of its name
 abbrev pub frame_count : List Record → ℕ

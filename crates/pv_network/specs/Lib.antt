@@ -1,6 +1,7 @@
-pub mod Composed
 pub mod Counting
 pub mod Edits
+pub mod Frames
+pub mod Listing
 pub mod OneList
 pub mod Replies
 pub mod Sound

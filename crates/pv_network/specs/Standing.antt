@@ -1,7 +1,7 @@
 -- What a network keeps, and which worlds it stands for.
-use Rattle.std.specs.Prelude.{◌≡◌, ℕ, ◌+◌, ◌<◌, ◌≤◌, Bool, ◌&&◌, nat_le, if◌then◌else◌, Option, Some, None, List, [], ◌∷◌, ◌++◌, length, take, map, slice_index_or, slice_set}
-use Rattle.std.specs.List.{sum_by}
+use Rattle.std.specs.Prelude.{◌≡◌, ℕ, ◌+◌, ◌<◌, Bool, ◌&&◌, nat_le, if◌then◌else◌, Option, Some, None, List, [], ◌∷◌, ◌++◌, length, take, map, slice_index_or}
 use Rattle.pv_page.specs.Names.{Name}
+use Rattle.pv_frame.specs.Content.{Content}
 use Rattle.pv_screen.specs.Grid.{IsRow}
 use Rattle.pv_network.specs.declared.event.Event.{Event}
 use Rattle.pv_network.specs.declared.event.Event.TheVariants.{Seed, Send, Deliver, View}
@@ -82,5 +82,5 @@ refusal_of s is_new = if is_new && nat_le s.frame_limit (frame_count s.edits) th
     else (if nat_le s.record_limit (length s.edits) then Some (full_reply s.record_limit) else None)
 
 -- with the operator's next record
-abbrev pub with_record : State → Name → List ℕ → State
-with_record s name row = record s { edits = s.edits ++ record { editor = OPERATOR; number = length s.edits + 1; name = name; row = row } ∷ [] }
+abbrev pub with_record : State → Name → Content → State
+with_record s name frame = record s { edits = s.edits ++ record { editor = OPERATOR; number = length s.edits + 1; name = name; frame = frame } ∷ [] }

@@ -1,6 +1,8 @@
 -- What one event makes of the world, and the answer to it.
 use Rattle.std.specs.Prelude.{ℕ, ◌+◌, ◌==◌, Bool, ◌&&◌, nat_lt, nat_le, List, [], ◌∷◌, ◌++◌, length, Option, Some, None, is_none, slice_get, if◌then◌else◌}
 use Rattle.pv_page.specs.Names.{Name}
+use Rattle.pv_frame.specs.Content.{Content}
+use Rattle.pv_screen.specs.Composing.{composed}
 use Rattle.pv_screen.specs.declared.screen.Screen.TheVariants.{Whole}
 use Rattle.pv_network.specs.declared.record.Record.{Record}
 use Rattle.pv_network.specs.declared.record.TheConstants.{OPERATOR}
@@ -11,7 +13,7 @@ use Rattle.pv_network.specs.declared.event.Event.{Event}
 use Rattle.pv_network.specs.declared.event.Event.TheVariants.{Seed, Send, Deliver, View}
 use Rattle.pv_network.specs.declared.outcome.Outcome.{Outcome}
 use Rattle.pv_network.specs.declared.outcome.Outcome.TheVariants.{Reply, Shown, Idle, PacketsFull, NoPacket, SentRecord, Taken, Old, Early, Full, NotHeld}
-use Rattle.pv_network.specs.Composed.{composed}
+use Rattle.pv_network.specs.Frames.{frame_of_row}
 use Rattle.pv_network.specs.Edits.{frame_at, frame_count, last_number}
 use Rattle.pv_network.specs.Replies.{stored_reply, frames_full_reply, full_reply}
 use Rattle.pv_network.specs.World.{World, Centre, End, centre_at, with_centre, held, packet_count}
@@ -23,8 +25,8 @@ is_packets_full w = nat_le 20000 (packet_count w)
 -- ---- seed
 
 -- the record under the operator's next number
-abbrev pub next_edit : World → Name → List ℕ → Record
-next_edit w name row = record { editor = OPERATOR; number = last_number w.edits OPERATOR + 1; name = name; row = row }
+abbrev pub next_edit : World → Name → Content → Record
+next_edit w name frame = record { editor = OPERATOR; number = last_number w.edits OPERATOR + 1; name = name; frame = frame }
 
 -- the world with a record that is acknowledged as it is stored
 abbrev pub with_edit : World → Record → World
@@ -34,18 +36,18 @@ with_edit w edit = record w { edits = w.edits ++ edit ∷ []; acknowledged = w.a
 abbrev pub is_frames_full : World → Name → Bool
 is_frames_full w name = is_none (frame_at w.edits name) && nat_le w.frame_limit (frame_count w.edits)
 
--- the operator puts a row under a name: refused for a frame too many first, and then for a record too many
-abbrev pub seeded : World → Name → List ℕ → World × Outcome
-seeded w name row = if is_frames_full w name then (w, Reply (frames_full_reply w.frame_limit))
+-- the operator puts a frame under a name: refused for a frame too many first, and then for a record too many
+abbrev pub seeded : World → Name → Content → World × Outcome
+seeded w name frame = if is_frames_full w name then (w, Reply (frames_full_reply w.frame_limit))
     else (if nat_le w.record_limit (length w.edits) then (w, Reply (full_reply w.record_limit))
-    else (with_edit w (next_edit w name row), Reply (stored_reply (length w.edits))))
+    else (with_edit w (next_edit w name frame), Reply (stored_reply (length w.edits))))
 
 -- ---- view
 
 -- what a centre shows of a name: the frame that the records it has taken give it
-abbrev pub view_answer : Name → Option (List ℕ) → Outcome
+abbrev pub view_answer : Name → Option Content → Outcome
 view_answer name None = NotHeld
-view_answer name (Some row) = Shown (record { screen = Whole (composed name row); ended = None })
+view_answer name (Some frame) = Shown (record { screen = Whole (composed frame name); ended = None })
 
 abbrev pub viewed : World → ℕ → Name → World × Outcome
 viewed w c name = (w, view_answer name (frame_at (held w c) name))
@@ -110,7 +112,7 @@ delivered w c index = delivered_packet w c (slice_get (centre_at w c).down index
 
 -- the world after an event, and the answer
 abbrev pub happens : World → Event → World × Outcome
-happens w (Seed name row) = seeded w name row
+happens w (Seed name row) = seeded w name (frame_of_row row)
 happens w (Send centre) = sent w centre
 happens w (Deliver centre index) = delivered w centre index
 happens w (View centre name) = viewed w centre name

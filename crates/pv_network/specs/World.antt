@@ -1,5 +1,5 @@
 -- The world: the one edit list, what each centre has of it, and every packet that was ever made.
-use Rattle.std.specs.Prelude.{◌≡◌, ℕ, ◌+◌, List, [], length, take, replicate, slice_index_or, slice_set}
+use Rattle.std.specs.Prelude.{ℕ, ◌+◌, List, [], length, take, replicate, slice_index_or, slice_set}
 use Rattle.std.specs.List.{sum_by}
 use Rattle.pv_network.specs.declared.record.Record.{Record}
 use Rattle.pv_network.specs.declared.packet.Packet.{Packet}

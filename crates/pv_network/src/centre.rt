@@ -1,13 +1,14 @@
-ghost use Rattle.std.specs.Prelude.{◌≡◌, ◌≢◌, ℕ, ◌+◌, ◌<◌, ◌≤◌, List, [], ◌∷◌, ◌++◌, length, Option, slice_get, IfOk, IfSome, ◌^◌, slice_set, replicate};
-ghost use Rattle.pv_screen.specs.Grid.{IsRow};
+ghost use Rattle.std.specs.Prelude.{◌≡◌, ◌≢◌, ℕ, ◌+◌, ◌<◌, ◌≤◌, List, [], ◌∷◌, ◌++◌, length, option_copied, Some, slice_get, IfOk, ◌^◌, slice_set, replicate};
+ghost use Rattle.pv_network.specs.declared.packet.Packet.{Packet};
 ghost use Rattle.pv_network.specs.declared.packet.TheConstants.{MAX_PACKETS};
-ghost use Rattle.pv_network.specs.Edits.{frame_at};
+ghost use Rattle.pv_network.specs.Edits.{edit_at};
 ghost use Rattle.pv_network.specs.Standing.{Kept, with_down, with_up, with_held, kept_at, kept_centre};
 ghost use Rattle.pv_network.specs.Step.{next_number, arrival_of};
 ghost use Rattle.pv_network.specs.World.{new_centre};
 
+use crate::edit_list::EditList;
 use crate::packet::{MAX_PACKETS, Packet};
-use crate::record::{Record, Row};
+use crate::record::Record;
 use pv_page::FrameName;
 use std::alloc::{AllocError, Global};
 use std::marker::Model;
@@ -29,24 +30,23 @@ pub enum Arrival {
 /// the end of the link that sends down to it. All room is taken when it is opened.
 #[derive(Debug, Drop)]
 pub struct Centre {
-    held: Vec<Record>,
+    held: EditList,
     down: Vec<Packet>,
     up: Vec<u64>,
     acknowledged: u64,
     next: u64,
-    room: usize,
 }
 
 impl Model for Centre {
-    ghost use Rattle.std.specs.Prelude.{◌≤◌, vec_len, vec_capacity};
+    ghost use Rattle.std.specs.Prelude.{◌≤◌, vec_capacity};
     ghost use Rattle.pv_network.specs.declared.packet.TheConstants.{MAX_PACKETS};
     ghost use Rattle.pv_network.specs.Standing.{Kept};
 
     ghost Value = { Kept };
 
-    ghost view = { λ c. record { held = c.held.items; down = c.down.items; up = c.up.items; sending = record { acknowledged = c.acknowledged; next = c.next }; room = c.room } };
+    ghost view = { λ c. record { held = c.held.edits; down = c.down.items; up = c.up.items; sending = record { acknowledged = c.acknowledged; next = c.next }; room = c.held.room } };
 
-    ghost invariant = { λ c. (vec_len c.held ≤ c.room) × (c.room ≤ vec_capacity c.held) × (MAX_PACKETS ≤ vec_capacity c.down) × (MAX_PACKETS ≤ vec_capacity c.up) };
+    ghost invariant = { λ c. (MAX_PACKETS ≤ vec_capacity c.down) × (MAX_PACKETS ≤ vec_capacity c.up) };
 }
 
 impl Centre {
@@ -55,12 +55,11 @@ impl Centre {
         ensures { IfOk result (λ c. c ≡ record { held = []; down = []; up = []; sending = new_centre.sending; room = room }) }
     {
         Ok(Centre {
-            held: Vec::with_capacity(alloc, room)?,
+            held: EditList::open(alloc, room)?,
             down: Vec::with_capacity(alloc, MAX_PACKETS)?,
             up: Vec::with_capacity(alloc, MAX_PACKETS)?,
             acknowledged: 0,
             next: 0,
-            room,
         })
     }
 
@@ -72,18 +71,18 @@ impl Centre {
         self.held.len()
     }
 
-    /// The frame, which is a row, that the centre has under a name.
-    pub(crate) fn frame(&self, name: FrameName) -> Option<Row>
-        ensures { result ≡ frame_at self.now.held name }
+    /// The last record of a name that the centre has taken.
+    pub(crate) fn last_of(&self, name: FrameName) -> Option<&Record>
+        ensures { option_copied result ≡ edit_at self.now.held name }
     {
-        last_frame(&self.held, name)
+        self.held.last_of(name)
     }
 
     /// The packet of an index that was made for this centre.
-    pub(crate) fn packet(&self, index: u64) -> Option<Packet>
-        ensures { result ≡ slice_get self.now.down index }
+    pub(crate) fn packet(&self, index: u64) -> Option<&Packet>
+        ensures { option_copied result ≡ slice_get self.now.down index }
     {
-        self.down.get(index as usize).copied()
+        self.down.get(index as usize)
     }
 
     /// The number that is sent next, of those below the front.
@@ -101,14 +100,17 @@ impl Centre {
     }
 
     /// Packs a record, and answers the packet's index.
-    pub(crate) fn pack(&mut self, number: u64, edit: Record) -> u64
+    pub(crate) fn pack(&mut self, number: u64, edit: &Record) -> u64
         requires room { length self.old.down < MAX_PACKETS }
         requires next { number + 1 < 2 ^ 64 }
         ensures index { result ≡ length self.old.down }
-        ensures packed { self.new ≡ with_down self.old number edit }
+        ensures packed { self.new ≡ with_down self.old number edit.now }
     {
         let index = self.down.len() as u64;
-        self.down.push_reserved(Packet { number, edit });
+        self.down.push_reserved(Packet {
+            number,
+            edit: *edit,
+        });
         self.next = number + 1;
         index
     }
@@ -119,7 +121,7 @@ impl Centre {
     {
         let count = self.held.len() as u64;
         if number == count {
-            if self.room as u64 <= count {
+            if self.held.room() as u64 <= count {
                 Arrival::Full
             } else {
                 Arrival::Taken
@@ -131,12 +133,13 @@ impl Centre {
         }
     }
 
-    /// Takes a record.
-    pub(crate) fn take(&mut self, edit: Record)
-        requires { length self.old.held < self.old.room }
-        ensures { self.new ≡ with_held self.old edit }
+    /// Takes the record of the packet of an index.
+    pub(crate) fn take(&mut self, index: u64)
+        requires made { index < length self.old.down }
+        requires room { length self.old.held < self.old.room }
+        ensures { (packet : Packet) → slice_get self.old.down index ≡ Some packet → self.new ≡ with_held self.old packet.edit }
     {
-        self.held.push_reserved(edit);
+        self.held.push(&self.down[index as usize].edit);
     }
 
     /// Makes an acknowledgement of all that was taken, and answers its index.
@@ -151,17 +154,6 @@ impl Centre {
     }
 }
 
-/// The frame, which is a row, that a list of edits gives a name: that of the last record of the name.
-pub(crate) fn last_frame(edits: &[Record], name: FrameName) -> Option<Row>
-    ensures { result ≡ frame_at edits.now name }
-{
-    edits
-        .iter()
-        .rev()
-        .find(|edit| edit.name == name)
-        .map(|edit| edit.row)
-}
-
 /// So many centres that nothing has reached, each with room for so many records.
 pub(crate) fn open_centres(alloc: Global, count: u8, room: usize) -> Result<Vec<Centre>, AllocError>
     ensures { IfOk result (λ centres. centres.items ≡ replicate count (kept_centre [] room new_centre)) }
@@ -174,23 +166,25 @@ pub(crate) fn open_centres(alloc: Global, count: u8, room: usize) -> Result<Vec<
 }
 
 /// Packs a record for a centre.
-pub(crate) fn pack_at(centres: &mut [Centre], centre: usize, number: u64, edit: Record) -> u64
+pub(crate) fn pack_at(centres: &mut [Centre], centre: usize, number: u64, edit: &Record) -> u64
     requires there { centre < length centres.old }
     requires room { length (kept_at centres.old centre).down < MAX_PACKETS }
     requires next { number + 1 < 2 ^ 64 }
     ensures index { result ≡ length (kept_at centres.old centre).down }
-    ensures packed { centres.new ≡ slice_set centres.old centre (with_down (kept_at centres.old centre) number edit) }
+    ensures packed { centres.new ≡ slice_set centres.old centre (with_down (kept_at centres.old centre) number edit.now) }
 {
     centres[centre].pack(number, edit)
 }
 
-/// A centre takes a record.
-pub(crate) fn take_at(centres: &mut [Centre], centre: usize, edit: Record)
+/// A centre takes the record of a packet that was made for it.
+pub(crate) fn take_at(centres: &mut [Centre], centre: usize, index: u64)
     requires there { centre < length centres.old }
+    requires made { index < length (kept_at centres.old centre).down }
     requires room { length (kept_at centres.old centre).held < (kept_at centres.old centre).room }
-    ensures { centres.new ≡ slice_set centres.old centre (with_held (kept_at centres.old centre) edit) }
+    ensures { (packet : Packet) → slice_get (kept_at centres.old centre).down index ≡ Some packet
+        → centres.new ≡ slice_set centres.old centre (with_held (kept_at centres.old centre) packet.edit) }
 {
-    centres[centre].take(edit);
+    centres[centre].take(index);
 }
 
 /// A centre makes an acknowledgement.

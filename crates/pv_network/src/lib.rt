@@ -19,7 +19,7 @@
 #![tactic(auto)]
 
 mod centre;
-mod composing;
+mod edit_list;
 mod event;
 mod laws;
 mod network;

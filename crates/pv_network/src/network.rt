@@ -1,21 +1,23 @@
-ghost use Rattle.std.specs.Prelude.{◌≡◌, ℕ, ◌+◌, ◌<◌, ◌≤◌, ◌^◌, List, length, slice_set, IsOk, IfOk, is_none, None};
+ghost use Rattle.std.specs.Prelude.{◌≡◌, ℕ, ◌+◌, ◌<◌, ◌≤◌, ◌^◌, List, length, slice_get, slice_set, IsOk, IfOk, is_none, None, Some};
 ghost use Rattle.pv_screen.specs.Grid.{IsRow};
+ghost use Rattle.pv_network.specs.declared.packet.Packet.{Packet};
 ghost use Rattle.pv_network.specs.declared.packet.TheConstants.{MAX_PACKETS};
 ghost use Rattle.pv_network.specs.Edits.{frame_at};
+ghost use Rattle.pv_network.specs.Frames.{frame_of_row};
 ghost use Rattle.pv_network.specs.World.{start};
 ghost use Rattle.pv_network.specs.Step.{seeded, sent, delivered, viewed, with_acknowledgement, happens};
 ghost use Rattle.pv_network.specs.Standing.{StandsFor, Performs, CanHappen, kept_at, with_down, with_held, with_up, with_record, refusal_of};
 
-use crate::centre::{Arrival, Centre, acknowledge_at, last_frame, open_centres, pack_at, take_at};
-use crate::composing::compose;
+use crate::centre::{Arrival, Centre, acknowledge_at, open_centres, pack_at, take_at};
+use crate::edit_list::EditList;
 use crate::event::Event;
 use crate::outcome::{Outcome, Turn};
 use crate::packet::MAX_PACKETS;
-use crate::record::{OPERATOR, Record, Row};
+use crate::record::{CheckedFrame, OPERATOR, Record};
 use crate::text::Text;
 use pv_outside::Limits;
 use pv_page::{AccountNo, FrameName};
-use pv_screen::Screen;
+use pv_screen::{Screen, compose};
 use std::alloc::{AllocError, Global};
 use std::marker::Model;
 
@@ -23,7 +25,7 @@ use std::marker::Model;
 #[derive(Debug, Drop)]
 pub struct Network {
     limits: Limits,
-    edits: Vec<Record>,
+    edits: EditList,
     // How many names have a frame, and how many packets were made.
     frames: u32,
     packets: usize,
@@ -37,7 +39,7 @@ impl Model for Network {
 
     ghost use Rattle.pv_network.specs.Counting.{IsCounted};
 
-    ghost view = { λ n. record { edits = n.edits.items; frame_limit = n.limits.frames; record_limit = n.limits.records; centres = n.centres.items } };
+    ghost view = { λ n. record { edits = n.edits.edits; frame_limit = n.limits.frames; record_limit = n.limits.records; centres = n.centres.items } };
 
     ghost invariant = { IsCounted };
 }
@@ -52,7 +54,7 @@ impl Network {
         ensures centres { IfOk result (λ network. length network.centres ≡ centres) }
     {
         let records = limits.records as usize;
-        let edits = Vec::with_capacity(alloc, records)?;
+        let edits = EditList::open(alloc, records)?;
         let centres = open_centres(alloc, centres, records)?;
         Ok(Network {
             limits,
@@ -84,14 +86,14 @@ impl Network {
     /// The operator puts a row under a name.
     fn seed(&mut self, name: FrameName, row: &[u8; 40]) -> Outcome
         requires { IsRow row.now }
-        ensures performs { Performs self.old self.new result (λ w. seeded w name row.now) }
+        ensures performs { Performs self.old self.new result (λ w. seeded w name (frame_of_row row.now)) }
         ensures centres { length self.new.centres ≡ length self.old.centres }
     {
-        let is_new = last_frame(&self.edits, name).is_none();
+        let is_new = self.edits.last_of(name).is_none();
         match self.refusal(is_new) {
             Some(reply) => Outcome::Reply(reply),
             None => {
-                let place = self.store(name, row, is_new);
+                let place = self.store(name, CheckedFrame::of_row(row), is_new);
                 Outcome::Reply(Text::stored(place))
             }
         }
@@ -111,19 +113,18 @@ impl Network {
     }
 
     /// Stores the operator's next record, and answers its place.
-    fn store(&mut self, name: FrameName, row: &[u8; 40], is_new: bool) -> u64
-        requires row { IsRow row.now }
+    fn store(&mut self, name: FrameName, frame: CheckedFrame, is_new: bool) -> u64
         requires new { is_new ≡ is_none (frame_at self.old.edits name) }
         requires taken { refusal_of self.old is_new ≡ None }
         ensures place { result ≡ length self.old.edits }
-        ensures stored { self.new ≡ with_record self.old name row.now }
+        ensures stored { self.new ≡ with_record self.old name frame }
     {
         let place = self.edits.len();
-        self.edits.push_reserved(Record {
+        self.edits.push(&Record {
             editor: AccountNo::of_number(OPERATOR).unwrap(),
             number: place as u32 + 1,
             name,
-            row: Row::new(row),
+            frame,
         });
         self.frames += u32::from(is_new);
         place as u64
@@ -142,7 +143,7 @@ impl Network {
         let Some(number) = self.centres[centre].next_number(front) else {
             return Outcome::Idle;
         };
-        let edit = self.edits[number as usize];
+        let edit = self.edits.get(number as usize);
         let index = pack_at(&mut self.centres, centre, number, edit);
         self.packets += 1;
         Outcome::SentRecord { index, number }
@@ -160,7 +161,7 @@ impl Network {
         let number = packet.number;
         match self.centres[centre].arrival(number) {
             Arrival::Taken => {
-                self.take(centre, packet.edit);
+                self.take(centre, index);
                 let ack = self.acknowledge(centre);
                 Outcome::Taken { number, ack }
             }
@@ -184,22 +185,25 @@ impl Network {
         requires { centre < length self.now.centres }
         ensures { Performs self.now self.now result (λ w. viewed w centre name) }
     {
-        match self.centres[centre].frame(name) {
-            Some(row) => Outcome::Shown(Turn {
-                screen: Screen::Whole(compose(name, row.cells())),
+        match self.centres[centre].last_of(name) {
+            Some(edit) => Outcome::Shown(Turn {
+                screen: Screen::Whole(compose(edit.frame.frame(), name)),
                 ended: None,
             }),
             None => Outcome::NotHeld,
         }
     }
 
-    /// A centre takes a record that is the next one for it.
-    fn take(&mut self, centre: usize, edit: Record)
+    /// A centre takes the record of a packet, which is the next one for it.
+    fn take(&mut self, centre: usize, index: u64)
         requires there { centre < length self.old.centres }
         requires room { length (kept_at self.old.centres centre).held < (kept_at self.old.centres centre).room }
-        ensures { self.new ≡ record self.old { centres = slice_set self.old.centres centre (with_held (kept_at self.old.centres centre) edit) } }
+        requires made { index < length (kept_at self.old.centres centre).down }
+        ensures taken { (packet : Packet) → slice_get (kept_at self.old.centres centre).down index ≡ Some packet
+            → self.new ≡ record self.old { centres = slice_set self.old.centres centre (with_held (kept_at self.old.centres centre) packet.edit) } }
+        ensures centres { length self.new.centres ≡ length self.old.centres }
     {
-        take_at(&mut self.centres, centre, edit);
+        take_at(&mut self.centres, centre, index);
     }
 
     /// A centre acknowledges what it has taken, unless no packet can be made, and the acknowledgement's

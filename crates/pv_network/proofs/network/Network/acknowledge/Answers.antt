@@ -1,4 +1,4 @@
-use Rattle.std.proofs.Common.{◌≡◌, ◌<◌, List, length, Some, ap, subst, ◌∙◌, arith}
+use Rattle.std.proofs.Common.{◌≡◌, ◌<◌, List, length, Some, subst, ◌∙◌, arith}
 use Rattle.std.specs.List.{sum_by}
 use Rattle.std.specs.Vec.{with_items}
 use Rattle.std.proofs.lemmas.List.{with_items_is}
@@ -18,6 +18,6 @@ returns-clause-performs c =
     let index = rw c.deref_mut.ensures.value at c.acknowledge_at-index.ensures.index in
     let there = rw (← c.self.view_is) at c.requires in
     let room : sum_by packets_of vec.items < MAX_PACKETS = omega (arith, c.self.invariant.packets) in
-    let state : State = record { edits = c.self.inside.edits.items; frame_limit = c.self.inside.limits.frames; record_limit = c.self.inside.limits.records; centres = vec.items } in
+    let state : State = record { edits = c.self.inside.edits.edits; frame_limit = c.self.inside.limits.frames; record_limit = c.self.inside.limits.records; centres = vec.items } in
     subst (λ (s : State). Performs s (record state { centres = new }) (Some c.acknowledge_at-index.result) (λ w. with_acknowledgement w c.args.centre)) c.self.view_is
     (acknowledges state c.args.centre there c.acknowledge_at-index.result new room index made)

@@ -1,7 +1,5 @@
 use Rattle.std.proofs.Common.{◌≡◌, ℕ, ◌+◌, ◌-◌, ◌≤◌, List, ◌++◌, length, ap, refl, ◌∙◌, arith}
-use borrow.Rule.Slice.PartMut.{put_mid}
 use Rattle.pv_network.specs.declared.text.TheConstants.{ROOM}
-use Rattle.pv_network.specs.Texts.{IsZeroed, shown}
 use Rattle.pv_network.proofs.Pushes.{shown_more, zeroed_more, still_fits}
 use Rattle.pv_network.proofs.text.Text.push.Goals as goal
 

@@ -1,0 +1,93 @@
+ghost use Rattle.std.specs.Prelude.{◌≡◌, ◌<◌, ◌≤◌, List, [], ◌∷◌, ◌++◌, length, map, option_copied, Some, slice_get, IfOk};
+ghost use Rattle.pv_network.specs.Edits.{edit_at};
+
+use crate::record::Record;
+use pv_page::FrameName;
+use std::alloc::{AllocError, Global};
+use std::marker::Model;
+
+/// A list of records in the order in which they were stored, in room that is taken when it is opened. The names of
+/// the frames stand beside the records, so that a search for a name does not go through the frames.
+#[derive(Debug, Drop)]
+pub(crate) struct EditList {
+    records: Vec<Record>,
+    names: Vec<FrameName>,
+    room: usize,
+}
+
+impl Model for EditList {
+    ghost use Rattle.pv_network.specs.Listing.{Listing, IsListed};
+
+    ghost Value = { Listing };
+
+    ghost view = { λ l. record { edits = l.records.items; room = l.room } };
+
+    ghost invariant = { IsListed };
+}
+
+impl EditList {
+    /// A list of no records, with room for so many.
+    pub(crate) fn open(alloc: Global, room: usize) -> Result<EditList, AllocError>
+        ensures { IfOk result (λ list. list ≡ record { edits = []; room = room }) }
+    {
+        Ok(EditList {
+            records: Vec::with_capacity(alloc, room)?,
+            names: Vec::with_capacity(alloc, room)?,
+            room,
+        })
+    }
+
+    /// How many records it has.
+    pub(crate) fn len(&self) -> usize
+        ensures value { result ≡ length self.now.edits }
+        ensures within { length self.now.edits ≤ self.now.room }
+    {
+        self.records.len()
+    }
+
+    /// How many records it may have.
+    pub(crate) fn room(&self) -> usize
+        ensures { result ≡ self.now.room }
+    {
+        self.room
+    }
+
+    /// The record at a place.
+    pub(crate) fn get(&self, place: usize) -> &Record
+        requires { place < length self.now.edits }
+        ensures { slice_get self.now.edits place ≡ Some result.now }
+    {
+        &self.records[place]
+    }
+
+    /// The last record of a name.
+    pub(crate) fn last_of(&self, name: FrameName) -> Option<&Record>
+        ensures { option_copied result ≡ edit_at self.now.edits name }
+    {
+        last_of(&self.records, &self.names, name)
+    }
+
+    /// Puts a record behind the others.
+    pub(crate) fn push(&mut self, edit: &Record)
+        requires { length self.old.edits < self.old.room }
+        ensures { self.new ≡ record self.old { edits = self.old.edits ++ edit.now ∷ [] } }
+    {
+        self.records.push_reserved(*edit);
+        self.names.push_reserved(edit.name);
+    }
+}
+
+/// The last record of a name, of records whose names are these.
+fn last_of<'a>(records: &'a [Record], names: &[FrameName], name: FrameName) -> Option<&'a Record>
+    requires { names.now ≡ map (λ edit. edit.name) records.now }
+    ensures { option_copied result ≡ edit_at records.now name }
+{
+    let mut place = names.len();
+    while place > 0 {
+        place -= 1;
+        if names[place] == name {
+            return Some(&records[place]);
+        }
+    }
+    None
+}
