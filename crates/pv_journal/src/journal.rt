@@ -84,7 +84,7 @@ impl<D: Disk> Journal<D> {
     }
 
     /// Reads the next body into the front of `into` and answers its size, or None behind the last one;
-    /// from then on the journal can append.
+    /// from then on the journal can append. It makes one call of the disk, and none once it is at rest.
     pub fn next(&mut self, into: &mut [u8; MAX_BODY]) -> Result<Option<usize>, OpenFault<D>>
         requires { IsNoneInHand self.old.phase }
 
@@ -107,6 +107,7 @@ impl<D: Disk> Journal<D> {
         ensures shown { (bodies : List (List ℕ)) → IsReading ⟦<D as Disk>⟧ self.old bodies → IfSome (D.reads self.old.disk) (λ text. NextShows text self.old into.new result) }
         ensures spelled { (bodies more : List (List ℕ)) → IsReading ⟦<D as Disk>⟧ self.old bodies → DiskSpells ⟦<D as Disk>⟧ self.old.disk (bodies ++ more) → NextSpells more into.new result }
         ensures failed { IfErr result (λ fault. IsDiskFault fault → Rose (D.faults self.old.disk) (D.faults self.new.disk)) }
+        ensures calls { D.clock self.new.disk ≤ D.clock self.old.disk + 1 }
         ensures passes { IfErr result (λ fault. (room : ℕ) → IsEndless room (D.budget self.old.disk) → IsDiskFault fault → ⊥) }
     {
         let Phase::Reading { end } = self.phase else {

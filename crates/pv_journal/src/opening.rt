@@ -70,6 +70,7 @@ pub(crate) fn read_block<D: Disk>(
     ensures bytes { IfOk result (λ held. IfSome (D.reads disk.old) (λ text. take held into.new ≡ take MAX_BLOCK (drop gate text))) }
     ensures durable { IsDurable ⟦<D as Disk>⟧ disk.old → IsDurable ⟦<D as Disk>⟧ disk.new }
     ensures synced { IsSynced ⟦<D as Disk>⟧ disk.old → IsSynced ⟦<D as Disk>⟧ disk.new }
+    ensures calls { D.clock disk.new ≤ D.clock disk.old + 1 }
     ensures failed { IsErr result → Rose (D.faults disk.old) (D.faults disk.new) }
     ensures passes { IsErr result → (room : ℕ) → IsEndless room (D.budget disk.old) → ⊥ }
 {
