@@ -9,7 +9,7 @@
 //!   in hand    -> in hand     settle    a call of the disk failed
 //!   in hand    -> at rest     settle    whether the body in hand is stored
 //! ```
-ghost use Rattle.std.specs.Prelude.{◌≡◌, ◌⊎◌, ◌↔◌, ℕ, ◌+◌, ◌*◌, List, [], ◌∷◌, ◌++◌, take, Option, Some, None, Ok, true, false, ◌≤◌, IfOk, IfErr, IfSome, OnOk, OnErr, IsErr, IsOk};
+ghost use Rattle.std.specs.Prelude.{◌≡◌, ◌⊎◌, ◌↔◌, ℕ, ◌+◌, ◌*◌, List, [], ◌∷◌, ◌++◌, length, take, Option, Some, None, Ok, true, false, ◌≤◌, IfOk, IfErr, IfSome, OnOk, OnErr, IsErr, IsOk};
 ghost use Rattle.std.specs.Option.{option_map};
 ghost use Rattle.pv_outside.specs.Counts.{Rose};
 ghost use Rattle.pv_outside.specs.Disk.{CallsPassed, HasCalls, IsEndless};
@@ -143,6 +143,7 @@ impl<D: Disk> Journal<D> {
         ensures still_at_rest { OnOk result (IsAtRest self.new) }
         ensures stored { OnOk result ((bodies : List (List ℕ)) → Holds ⟦<D as Disk>⟧ self.old bodies → Holds ⟦<D as Disk>⟧ self.new (bodies ++ body.now ∷ [])) }
         ensures in_hand { IfErr result (λ fault. IsAppendDiskFault fault → (bodies : List (List ℕ)) → Holds ⟦<D as Disk>⟧ self.old bodies → HoldsInHand ⟦<D as Disk>⟧ self.new bodies body.now) }
+        ensures size_in_hand { IfErr result (λ fault. IsAppendDiskFault fault → self.new.phase ≡ Phase.InHand (length body.now)) }
 
         // Until two calls of the disk have succeeded, each image spells the list without the body.
         ensures early { OnErr result ((bodies : List (List ℕ)) → Holds ⟦<D as Disk>⟧ self.old bodies
@@ -182,6 +183,7 @@ impl<D: Disk> Journal<D> {
         ensures stored { result ≡ Ok (Some true) → (bodies : List (List ℕ)) (body : List ℕ) → HoldsInHand ⟦<D as Disk>⟧ self.old bodies body → Holds ⟦<D as Disk>⟧ self.new (bodies ++ body ∷ []) }
         ensures dropped { result ≡ Ok (Some false) → (bodies : List (List ℕ)) (body : List ℕ) → HoldsInHand ⟦<D as Disk>⟧ self.old bodies body → Holds ⟦<D as Disk>⟧ self.new bodies }
         ensures in_hand { OnErr result ((bodies : List (List ℕ)) (body : List ℕ) → HoldsInHand ⟦<D as Disk>⟧ self.old bodies body → HoldsInHand ⟦<D as Disk>⟧ self.new bodies body) }
+        ensures stays { OnErr result (self.new.phase ≡ self.old.phase) }
         ensures same { Remains ⟦<D as Disk>⟧ self.old.disk self.new.disk }
         ensures limit { self.new.limit ≡ self.old.limit }
         ensures failed { IsErr result → Rose (D.faults self.old.disk) (D.faults self.new.disk) }
