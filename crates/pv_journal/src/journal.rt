@@ -9,12 +9,12 @@
 //!   in hand    -> in hand     settle    a call of the disk failed
 //!   in hand    -> at rest     settle    whether the body in hand is stored
 //! ```
-ghost use Rattle.std.specs.Prelude.{◌≡◌, ◌⊎◌, ◌↔◌, ℕ, ◌+◌, ◌*◌, List, [], ◌∷◌, ◌++◌, length, take, Option, Some, None, Ok, true, false, ◌≤◌, IfOk, IfErr, IfSome, OnOk, OnErr, IsErr, IsOk};
+ghost use Rattle.std.specs.Prelude.{◌≡◌, ◌⊎◌, ◌↔◌, ℕ, ◌+◌, ◌*◌, List, [], ◌∷◌, ◌++◌, length, take, Option, Some, None, Ok, true, false, ◌<◌, ◌≤◌, IfOk, IfErr, IfSome, OnOk, OnErr, IsErr, IsOk};
 ghost use Rattle.std.specs.Option.{option_map};
 ghost use Rattle.pv_outside.specs.Counts.{Rose};
 ghost use Rattle.pv_outside.specs.Disk.{CallsPassed, HasCalls, IsEndless};
 ghost use Rattle.pv_journal.specs.Text.{IsBody, Spells};
-ghost use Rattle.pv_journal.specs.Log.{IsAtRest, IsNoneInHand, IsStillReading};
+ghost use Rattle.pv_journal.specs.Log.{most, IsAtRest, IsNoneInHand, IsStillReading};
 ghost use Rattle.pv_journal.specs.Journal.{EachImage, DiskSpells, Remains, IsFused, IsReading, Holds, HoldsInHand};
 ghost use Rattle.pv_journal.specs.Faults.{IsDiskFault, IsStartFault, StartFaultShows, IsNext, NextShows, NextSpells, IsAppendDiskFault, IsFull};
 
@@ -151,7 +151,7 @@ impl<D: Disk> Journal<D> {
 
         // It is full exactly where it has as many bodies as the limit, and then nothing changes.
         ensures full { IfErr result (IsFull self.old self.new) }
-        ensures room { OnOk result (self.old.count ≡ self.old.limit → ⊥) }
+        ensures room { OnOk result (self.old.count < self.old.limit) }
         ensures limit { self.new.limit ≡ self.old.limit }
 
         ensures failed { IfErr result (λ fault. IsAppendDiskFault fault → Rose (D.faults self.old.disk) (D.faults self.new.disk)) }
@@ -204,9 +204,10 @@ impl<D: Disk> Journal<D> {
         Ok(Some(true))
     }
 
-    /// How many bodies were read, or there are.
+    /// How many bodies were read, or there are. With one in hand they are within the limit.
     pub fn count(&self) -> u64
-        ensures { result ≡ self.now.count }
+        ensures count { result ≡ self.now.count }
+        ensures within { most self.now.phase self.now.count ≤ self.now.limit }
     {
         self.count
     }
