@@ -9,12 +9,12 @@
 //!   in hand    -> in hand     settle    a call of the disk failed
 //!   in hand    -> at rest     settle    whether the body in hand is stored
 //! ```
-ghost use Rattle.std.specs.Prelude.{◌≡◌, ◌⊎◌, ◌↔◌, ℕ, ◌+◌, ◌*◌, List, [], ◌∷◌, ◌++◌, take, Option, Some, None, Ok, true, false, ◌≤◌, IfOk, IfErr, IfSome, OnOk, OnErr, IsErr, IsOk};
+ghost use Rattle.std.specs.Prelude.{◌≡◌, ◌⊎◌, ◌↔◌, ℕ, ◌+◌, ◌*◌, List, [], ◌∷◌, ◌++◌, length, take, Option, Some, None, Ok, true, false, ◌<◌, ◌≤◌, IfOk, IfErr, IfSome, OnOk, OnErr, IsErr, IsOk};
 ghost use Rattle.std.specs.Option.{option_map};
 ghost use Rattle.pv_outside.specs.Counts.{Rose};
 ghost use Rattle.pv_outside.specs.Disk.{CallsPassed, HasCalls, IsEndless};
 ghost use Rattle.pv_journal.specs.Text.{IsBody, Spells};
-ghost use Rattle.pv_journal.specs.Log.{IsAtRest, IsNoneInHand, IsStillReading};
+ghost use Rattle.pv_journal.specs.Log.{most, IsAtRest, IsNoneInHand, IsStillReading};
 ghost use Rattle.pv_journal.specs.Journal.{EachImage, DiskSpells, Remains, IsFused, IsReading, Holds, HoldsInHand};
 ghost use Rattle.pv_journal.specs.Faults.{IsDiskFault, IsStartFault, StartFaultShows, IsNext, NextShows, NextSpells, IsAppendDiskFault, IsFull};
 
@@ -147,6 +147,7 @@ impl<D: Disk> Journal<D> {
         ensures still_at_rest { OnOk result (IsAtRest self.new) }
         ensures stored { OnOk result ((bodies : List (List ℕ)) → Holds ⟦<D as Disk>⟧ self.old bodies → Holds ⟦<D as Disk>⟧ self.new (bodies ++ body.now ∷ [])) }
         ensures in_hand { IfErr result (λ fault. IsAppendDiskFault fault → (bodies : List (List ℕ)) → Holds ⟦<D as Disk>⟧ self.old bodies → HoldsInHand ⟦<D as Disk>⟧ self.new bodies body.now) }
+        ensures size_in_hand { IfErr result (λ fault. IsAppendDiskFault fault → self.new.phase ≡ Phase.InHand (length body.now)) }
 
         // Until two calls of the disk have succeeded, each image spells the list without the body.
         ensures early { OnErr result ((bodies : List (List ℕ)) → Holds ⟦<D as Disk>⟧ self.old bodies
@@ -154,7 +155,7 @@ impl<D: Disk> Journal<D> {
 
         // It is full exactly where it has as many bodies as the limit, and then nothing changes.
         ensures full { IfErr result (IsFull self.old self.new) }
-        ensures room { OnOk result (self.old.count ≡ self.old.limit → ⊥) }
+        ensures room { OnOk result (self.old.count < self.old.limit) }
         ensures limit { self.new.limit ≡ self.old.limit }
 
         ensures failed { IfErr result (λ fault. IsAppendDiskFault fault → Rose (D.faults self.old.disk) (D.faults self.new.disk)) }
@@ -193,6 +194,7 @@ impl<D: Disk> Journal<D> {
 
         ensures kept { OnErr result (self.new ≡ record self.old { disk = self.new.disk }) }
         ensures in_hand { OnErr result ((bodies : List (List ℕ)) (body : List ℕ) → HoldsInHand ⟦<D as Disk>⟧ self.old bodies body → HoldsInHand ⟦<D as Disk>⟧ self.new bodies body) }
+        ensures stays { OnErr result (self.new.phase ≡ self.old.phase) }
         ensures same { Remains ⟦<D as Disk>⟧ self.old.disk self.new.disk }
         ensures limit { self.new.limit ≡ self.old.limit }
         ensures failed { IsErr result → Rose (D.faults self.old.disk) (D.faults self.new.disk) }
@@ -214,9 +216,10 @@ impl<D: Disk> Journal<D> {
         Ok(Some(true))
     }
 
-    /// How many bodies were read, or there are.
+    /// How many bodies were read, or there are. With one in hand they are within the limit.
     pub fn count(&self) -> u64
-        ensures { result ≡ self.now.count }
+        ensures count { result ≡ self.now.count }
+        ensures within { most self.now.phase self.now.count ≤ self.now.limit }
     {
         self.count
     }

@@ -1,0 +1,130 @@
+-- Records that are read from a journal into a state.
+use Rattle.std.proofs.Common.{◌≡◌, ℕ, ◌+◌, ◌<◌, ◌≤◌, List, [], ◌∷◌, ◌++◌, length, map, All, Option, None, Some, Ok, Err, refl, sym, ◌∙◌, ap, subst, arith, append_assoc}
+use Rattle.std.proofs.lemmas.List.{map_push, map-append, append-nil, length-append, length-map}
+use Rattle.std.proofs.lemmas.List.Elements.{All-push}
+use Rattle.pv_outside.specs.declared.disk.Disk as disk
+use Rattle.pv_journal.specs.Text.{Spells}
+use Rattle.pv_journal.specs.Log.{Log}
+use Rattle.pv_journal.specs.Journal.{DiskSpells, IsReading, Remains}
+use Rattle.pv_journal.specs.Faults.{NextSpells, IsNext}
+use Rattle.pv_journal.specs.declared.fault.OpenFault.{OpenFault}
+use Rattle.pv_journal.specs.declared.fault.OpenFault.TheVariants.{Disk, NotFormatted, Broken, TooMany}
+use Rattle.pv_node.specs.declared.rules.Rules as rules
+use Rattle.pv_node.specs.Standing.{DiskStands, EachHasRoom, Stands}
+use Rattle.pv_node.specs.Opening.{fault_of, IsOutside, IsDiskFault, HasRead, ComesNext, AreAll}
+use Rattle.pv_node.specs.declared.fault.NodeFault.{NodeFault}
+use Rattle.pv_outside.specs.declared.limits.Limits.{Limits}
+use Rattle.pv_node.proofs.Records.{all_at, first_of, none_of}
+
+module _ {S State Request Rec Reply D F : Type 0} (r : rules.Ghosts S State Request Rec Reply) (d : disk.Ghosts D F) where
+  -- how many records were read
+  pub read_count : (log : Log D) (state : State) (records : List Rec) → HasRead r d log state records → log.count ≡ length records
+  read_count log state records read = read.journal.counted.count ∙ length-map records r.spelling
+
+  -- a disk that stands for records spells their spellings
+  pub disk_spells : (disk : D) (records more : List Rec) → DiskStands r d disk (records ++ more) → DiskSpells d disk (map r.spelling records ++ map r.spelling more)
+  disk_spells disk records more stands = (stands.0, stands.1, subst (λ (l : List (List ℕ)). Spells stands.0 l) (map-append r.spelling records more) stands.2.text)
+
+  -- one record more was read
+  pub read_more : (grows : (state : State) (records : List Rec) (rec : Rec) → r.stands state records → r.is_record rec → r.fits state rec → length records < (r.limits_of state).records → r.stands (r.after state rec (length records)) (records ++ rec ∷ []))
+      (old new : Log D) (state after : State) (records : List Rec) (rec : Rec) (body : List ℕ) → HasRead r d old state records
+      → IsReading d new (map r.spelling records ++ body ∷ []) → r.is_record rec → r.spelling rec ≡ body → r.fits state rec → after ≡ r.after state rec old.count → old.count < (r.limits_of state).records
+      → HasRead r d new after (records ++ rec ∷ [])
+  read_more grows old new state after records rec body read reading spelled is fits absorbed room =
+      let count = read_count old state records read in
+      let room_for : length records < (r.limits_of state).records = omega (arith, count, room) in
+      let stood : r.stands (r.after state rec (length records)) (records ++ rec ∷ []) = grows state records rec read.stood spelled fits room_for in
+      record {
+        journal = subst (λ (l : List (List ℕ)). IsReading d new l) (sym (map_push r.spelling records rec ∙ ap (λ (b : List ℕ). map r.spelling records ++ b ∷ []) is)) reading;
+        each = All-push r.is_record records rec read.each spelled;
+        stood = subst (λ (s : State). r.stands s (records ++ rec ∷ [])) (sym (absorbed ∙ ap (r.after state rec) count)) stood;
+      }
+
+  -- where a disk stands for those that were read and for more, the next body is the spelling of the first of these
+  pub next_is : (one_meaning : (one other : Rec) → r.is_record one → r.is_record other → r.spelling one ≡ r.spelling other → one ≡ other)
+      (disk : D) (records more : List Rec) (rec : Rec) (body : List ℕ) (others : List (List ℕ)) → DiskStands r d disk (records ++ more) → map r.spelling more ≡ body ∷ others
+      → r.is_record rec → r.spelling rec ≡ body → (rest : List Rec) × (more ≡ rec ∷ rest)
+  next_is one_meaning disk records more rec body others stands e is spelled =
+      let f = first_of r.spelling more body others e in
+      let all : All r.is_record (records ++ f.0 ∷ f.1) = subst (λ (l : List Rec). All r.is_record (records ++ l)) f.2 stands.2.each in
+      let same : f.0 ≡ rec = one_meaning f.0 rec (all_at r.is_record records f.0 f.1 all) is (f.3 ∙ sym spelled) in
+      (f.1, f.2 ∙ ap (λ (x : Rec). x ∷ f.1) same)
+
+  -- and it has room
+  pub next_fits : (disk : D) (state : State) (records more : List Rec) (body : List ℕ) (others : List (List ℕ)) → r.stands state records → DiskStands r d disk (records ++ more) → EachHasRoom r (r.limits_of state) (records ++ more) → map r.spelling more ≡ body ∷ others
+      → (rec : Rec) × r.is_record rec × (r.spelling rec ≡ body) × r.fits state rec
+  next_fits disk state records more body others stood stands room e =
+      let f = first_of r.spelling more body others e in
+      let all : All r.is_record (records ++ f.0 ∷ f.1) = subst (λ (l : List Rec). All r.is_record (records ++ l)) f.2 stands.2.each in
+      (f.0, all_at r.is_record records f.0 f.1 all, f.3, room records f.1 f.0 state (ap (λ (l : List Rec). records ++ l) f.2) stood refl)
+
+  -- a fault of the journal is then one of the disk
+  pub only_outside : (old : Log D) (state : State) (records more : List Rec) (into : List ℕ) (fault : OpenFault D F) → HasRead r d old state records → length (records ++ more) ≤ old.limit
+      → IsNext old (Err fault) → NextSpells (map r.spelling more) into (Err fault) → IsOutside (fault_of fault)
+  only_outside old state records more into (Disk failure) read within known spells = tt
+  only_outside old state records more into (NotFormatted kept) read within known spells = spells
+  only_outside old state records more into (Broken at) read within known spells = spells
+  only_outside old state records more into (TooMany count) read within known spells =
+      absurd (omega (arith, read_count old state records read, known.1, spells, within, length-append records more, length-map more r.spelling))
+
+  -- a fault of the disk is told as one
+  pub disk_fault : (fault : OpenFault D F) → IsDiskFault (fault_of fault) → Rattle.pv_journal.specs.Faults.IsDiskFault fault
+  disk_fault (Disk failure) is = tt
+  disk_fault (NotFormatted kept) is = is
+  disk_fault (Broken at) is = is
+  disk_fault (TooMany count) is = is
+
+  -- a disk that remains twice remains
+  pub remains_then : (first second third : D) → Remains d first second → Remains d second third → Remains d first third
+  remains_then first second third a b = record {
+    reads = b.reads ∙ a.reads;
+    images = λ image left. a.images image (b.images image left);
+    endless = λ room endless. b.endless room (a.endless room endless);
+    counted = omega (arith, a.counted, b.counted);
+  }
+
+  -- a disk that remains stands for what it stood for
+  pub stands_still : (first now : D) (records : List Rec) → Remains d first now → DiskStands r d first records → DiskStands r d now records
+  stands_still first now records same stands = (stands.0, same.reads ∙ stands.1, stands.2)
+
+  -- a replay that began so has read some records, which are the first of any that the disk stands for
+  pub record GoesOn (began now : Log D) (first state : State) : Type 0 where
+    pub records : List Rec
+    pub read : HasRead r d now state records
+    pub limit : now.limit ≡ began.limit
+    pub limits : r.limits_of state ≡ r.limits_of first
+    pub same : Remains d began.disk now.disk
+    pub begins : (all : List Rec) → DiskStands r d began.disk all → (more : List Rec) × (all ≡ records ++ more)
+
+  -- it goes on with the next record
+  pub goes_on : (began old new : Log D) (first state after : State) (rec : Rec) (so_far : GoesOn began old first state) → HasRead r d new after (so_far.records ++ rec ∷ []) → ComesNext r d old.disk so_far.records rec
+      → new.limit ≡ old.limit → r.limits_of after ≡ r.limits_of state → Remains d old.disk new.disk → GoesOn began new first after
+  goes_on began old new first state after rec so_far read next limit limits same = record {
+    records = so_far.records ++ rec ∷ [];
+    read = read;
+    limit = limit ∙ so_far.limit;
+    limits = limits ∙ so_far.limits;
+    same = remains_then began.disk old.disk new.disk so_far.same same;
+    begins = λ all stands.
+        let b = so_far.begins all stands in
+        let n = next b.0 (subst (λ (l : List Rec). DiskStands r d old.disk l) b.1 (stands_still began.disk old.disk all so_far.same stands)) in
+        (n.0, b.1 ∙ ap (λ (l : List Rec). so_far.records ++ l) n.1 ∙ sym (append_assoc so_far.records (rec ∷ []) n.0));
+  }
+
+  -- behind the last record it has read all
+  pub all_of : (began old : Log D) (first state : State) (so_far : GoesOn began old first state) → AreAll r d old.disk so_far.records
+      → (all : List Rec) → DiskStands r d began.disk all → all ≡ so_far.records
+  all_of began old first state so_far are_all all stands =
+      let b = so_far.begins all stands in
+      b.1 ∙ ap (λ (l : List Rec). so_far.records ++ l) (are_all b.0 (subst (λ (l : List Rec). DiskStands r d old.disk l) b.1 (stands_still began.disk old.disk all so_far.same stands))) ∙ append-nil so_far.records
+
+  -- where the disk stands for records that have room, a fault of the next step is none that the bytes show
+  pub fails_outside : (began old : Log D) (first state : State) (so_far : GoesOn began old first state) (fault : NodeFault D F)
+      → ((records more : List Rec) → HasRead r d old state records → DiskStands r d old.disk (records ++ more) → length (records ++ more) ≤ old.limit → EachHasRoom r (r.limits_of state) (records ++ more) → IsOutside fault)
+      → (all : List Rec) → DiskStands r d began.disk all → length all ≤ began.limit → EachHasRoom r (r.limits_of first) all → IsOutside fault
+  fails_outside began old first state so_far fault outside all stands within room =
+      let b = so_far.begins all stands in
+      let still : DiskStands r d old.disk (so_far.records ++ b.0) = subst (λ (l : List Rec). DiskStands r d old.disk l) b.1 (stands_still began.disk old.disk all so_far.same stands) in
+      let short : length (so_far.records ++ b.0) ≤ old.limit = omega (arith, within, so_far.limit, ap length b.1) in
+      let fits : EachHasRoom r (r.limits_of state) (so_far.records ++ b.0) = subst (λ (l : List Rec). EachHasRoom r (r.limits_of state) l) b.1 (subst (λ (limits : Limits). EachHasRoom r limits all) (sym so_far.limits) room) in
+      outside so_far.records b.0 so_far.read still short fits

@@ -1,0 +1,23 @@
+-- Lists of records and of their spellings.
+use Rattle.std.proofs.Common.{◌≡◌, ℕ, ◌<◌, List, [], ◌∷◌, ◌++◌, length, get_or, map, All, refl, sym, ap, subst}
+use Rattle.std.proofs.lemmas.List.{map_push, map-append, length_push, length-map}
+use Rattle.std.proofs.lemmas.List.Elements.{All-push, All-head, All-tail}
+use Rattle.pv_journal.specs.Text.{Spells}
+use Rattle.pv_node.specs.declared.rules.Rules as rules
+use Rattle.pv_node.specs.Standing.{Stands}
+
+-- what all elements of a list have, the one at the seam has
+pub all_at : {X : Type 0} (P : X → Type 0) (before : List X) (x : X) (behind : List X) → All P (before ++ x ∷ behind) → P x
+all_at P [] x behind all = All-head P x behind all
+all_at P (y ∷ before) x behind all = all_at P before x behind (All-tail P y (before ++ x ∷ behind) all)
+
+-- where the spellings of some records begin with a body, it is the spelling of the first
+pub first_of : {X : Type 0} (f : X → List ℕ) (more : List X) (body : List ℕ) (others : List (List ℕ)) → map f more ≡ body ∷ others
+    → (x : X) × (rest : List X) × (more ≡ x ∷ rest) × (f x ≡ body)
+first_of f [] body others e = cc
+first_of f (x ∷ rest) body others e = (x, rest, refl, ap (λ (l : List (List ℕ)). get_or l 0 []) e)
+
+-- where there are none, there are no records
+pub none_of : {X : Type 0} (f : X → List ℕ) (more : List X) → map f more ≡ [] → more ≡ []
+none_of f [] e = refl
+none_of f (x ∷ rest) e = cc

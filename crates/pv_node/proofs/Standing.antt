@@ -1,0 +1,68 @@
+-- Which records a node stands for, once it has stored one more.
+use Rattle.std.proofs.Common.{◌≡◌, ℕ, ◌+◌, ◌<◌, ◌≤◌, List, [], ◌∷◌, ◌++◌, length, map, All, Option, None, Some, refl, sym, ◌∙◌, ap, subst, arith, rules, ◌⊎◌, inl, inr}
+use Rattle.std.proofs.lemmas.List.{map_push, length_push, length-map}
+use Rattle.std.proofs.lemmas.List.Elements.{All-push}
+use Rattle.pv_outside.specs.declared.disk.Disk as disk
+use Rattle.pv_journal.specs.declared.journal.Phase.{Phase}
+use Rattle.pv_journal.specs.declared.journal.Phase.TheVariants.{Reading, Resting, InHand}
+use Rattle.pv_journal.specs.Log.{Log, most}
+use Rattle.pv_journal.specs.Journal.{EachImage, Holds, HoldsInHand}
+use Rattle.pv_journal.specs.Text.{Spells}
+use Rattle.pv_node.specs.declared.rules.Rules as rules
+use Rattle.pv_node.specs.Parts.{Parts}
+use Rattle.pv_node.specs.Standing.{Stands, Keeps, StandsFor}
+use Rattle.pv_node.specs.Asking.{IsSettled}
+
+-- what a journal has counted is within its limit
+pub count_within : (phase : Phase) (count limit : ℕ) → most phase count ≤ limit → count ≤ limit
+count_within (Reading end) count limit within = within
+count_within Resting count limit within = within
+count_within (InHand size) count limit within = omega (arith, within)
+
+-- an option is not both
+none_or_some : {X : Type 0} (x : X) → None ≡ Some x → ⊥
+none_or_some x e = search rules
+
+module _ {S State Request Rec Reply D F : Type 0} (r : rules.Ghosts S State Request Rec Reply) (d : disk.Ghosts D F) where
+  -- a node with nothing in hand stands for the records whose spellings its journal holds and for which its state stands
+  pub stands_at_rest : (log : Log D) (state : State) (records : List Rec) → Holds d log (map r.spelling records) → All r.is_record records → r.stands state records
+      → StandsFor r d (record { journal = log; state = state; hand = None }) records
+  stands_at_rest log state records holds each stood = record {
+    state = stood;
+    count = holds.counted.count ∙ length-map records r.spelling;
+    each = each;
+    journal = holds;
+    images = λ told image left. record { text = holds.images told image left; each = each };
+  }
+
+  -- a record that the journal has stored joins those that the node stood for
+  pub gained : (grows : (state : State) (records : List Rec) (rec : Rec) → r.stands state records → r.is_record rec → r.fits state rec → length records < (r.limits_of state).records → r.stands (r.after state rec (length records)) (records ++ rec ∷ []))
+      (old : Parts D State Rec) (log : Log D) (state : State) (hand : Option Rec) (rec : Rec) (records : List Rec) → hand ≡ None → StandsFor r d old records → Holds d log (map r.spelling records ++ r.spelling rec ∷ [])
+      → r.is_record rec → r.fits old.state rec → state ≡ r.after old.state rec old.journal.count → old.journal.count < (r.limits_of old.state).records
+      → StandsFor r d (record { journal = log; state = state; hand = hand }) (records ++ rec ∷ [])
+  gained grows old log state hand rec records none stands holds spelled fits absorbed room =
+      let room_for : length records < (r.limits_of old.state).records = omega (arith, stands.count, room) in
+      let stood : r.stands (r.after old.state rec (length records)) (records ++ rec ∷ []) = grows old.state records rec stands.state spelled fits room_for in
+      subst (λ (h : Option Rec). StandsFor r d (record { journal = log; state = state; hand = h }) (records ++ rec ∷ [])) (sym none)
+      (stands_at_rest log state (records ++ rec ∷ [])
+      (subst (λ (l : List (List ℕ)). Holds d log l) (sym (map_push r.spelling records rec)) holds)
+      (All-push r.is_record records rec stands.each spelled)
+      (subst (λ (s : State). r.stands s (records ++ rec ∷ [])) (sym (absorbed ∙ ap (r.after old.state rec) stands.count)) stood))
+
+  -- what the journal of a node holds that has nothing in hand
+  pub holds_at_rest : (node : Parts D State Rec) (records : List Rec) → StandsFor r d node records → node.hand ≡ None → Holds d node.journal (map r.spelling records)
+  holds_at_rest node records stands none = subst (λ (h : Option Rec). Keeps r d node.journal records h) none stands.journal
+
+  -- what it holds that has a record in hand
+  pub holds_in_hand : (node : Parts D State Rec) (records : List Rec) (rec : Rec) → StandsFor r d node records → node.hand ≡ Some rec → HoldsInHand d node.journal (map r.spelling records) (r.spelling rec)
+  holds_in_hand node records rec stands some = subst (λ (h : Option Rec). Keeps r d node.journal records h) some stands.journal
+
+  -- images that spell the spellings of records stand for these
+  pub images_stand : {A : Type 0} (disk : D) (records : List Rec) → All r.is_record records → A ⊎ EachImage d disk (λ image. Spells image (map r.spelling records)) → A ⊎ EachImage d disk (λ image. Stands r image records)
+  images_stand disk records each (inl late) = inl late
+  images_stand disk records each (inr images) = inr (λ told image left. record { text = images told image left; each = each })
+
+  -- a settling at which nothing was in hand changes nothing
+  pub settled_same : (old new : Parts D State Rec) (stored : Option Rec) → IsSettled r d old new stored → old.hand ≡ None → new ≡ old
+  settled_same old new None settled none = settled.same none
+  settled_same old new (Some rec) settled none = absurd (none_or_some rec (sym none ∙ settled.was))

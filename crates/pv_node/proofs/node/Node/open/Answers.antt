@@ -1,0 +1,21 @@
+use Rattle.std.proofs.Common.{◌≡◌, ℕ, refl, sym, ◌∙◌, ap, subst, rules}
+use Rattle.pv_journal.specs.Journal.{Remains}
+use Rattle.pv_node.specs.Opening.{IsDiskFault}
+use Rattle.pv_node.proofs.Reading.{disk_fault, remains_then}
+use Rattle.pv_node.proofs.node.Node.open.Goals as goal
+
+pub returns-in-Err-clause-passes : goal.returns-in-Err-clause-passes
+returns-in-Err-clause-passes g c = λ room endless is.
+    c.in-Err.ensures.passes room endless (disk_fault g.R.Rules g.D.Disk c.in-Err.fault (subst IsDiskFault c.told_by_node.ensures is))
+
+pub returns-in-Err-replay-clause-handed_back : goal.returns-in-Err-replay-clause-handed_back
+returns-in-Err-replay-clause-handed_back g c =
+    let same = remains_then g.R.Rules g.D.Disk _ _ _ c.in-Ok-start.ensures.same c.replay.ensures.same in
+    subst (λ disk. Remains g.D.Disk c.args.disk disk) (sym c.into_disk.ensures) same
+
+pub returns-in-Err-replay-clause-passes : goal.returns-in-Err-replay-clause-passes
+returns-in-Err-replay-clause-passes g c = λ room endless is.
+    c.in-Err-replay.ensures.passes room (c.in-Ok-start.ensures.same.endless room endless) is
+
+pub returns-clause-same : goal.returns-clause-same
+returns-clause-same g c = remains_then g.R.Rules g.D.Disk _ _ _ c.in-Ok-start.ensures.same c.replay.ensures.same

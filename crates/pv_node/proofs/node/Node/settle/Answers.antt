@@ -1,0 +1,32 @@
+use Rattle.std.proofs.Common.{◌≡◌, ℕ, ◌+◌, ◌<◌, ◌≤◌, List, [], ◌∷◌, ◌++◌, length, map, take, true, Option, None, Some, Result, Ok, Err, IsOk, refl, sym, ◌∙◌, ap, subst, arith, rules}
+use Rattle.std.proofs.lemmas.Bool.{false≢true}
+use Rattle.pv_outside.specs.Disk.{IsEndless}
+use Rattle.pv_journal.specs.Log.{most}
+use Rattle.pv_node.specs.Parts.{IsInStep}
+use Rattle.pv_node.specs.Standing.{StandsFor}
+use Rattle.pv_node.proofs.Standing.{gained, holds_in_hand}
+use Rattle.pv_node.proofs.node.Node.settle.Goals as goal
+
+pub returns-in_err-stored-clause-passes : goal.returns-in_err-stored-clause-passes
+returns-in_err-stored-clause-passes g c = λ room endless.
+    let ok : IsOk c.settle.result = c.settle.ensures.passes room (subst (λ v. IsEndless room (g.D.Disk.budget v.journal.disk)) (sym c.self.view_is) endless) in
+    let never = subst IsOk c.in_err-stored.was ok in
+    absurd (false≢true never)
+
+pub returns-in-Some-true-clause-settled : goal.returns-in-Some-true-clause-settled
+returns-in-Some-true-clause-settled g c =
+    let was : c.self.inside.hand ≡ Some c.in-Some.rec = c.in-Some.is in
+    let step = subst (λ (h : Option g.row.R-Rec.Denot). IsInStep g.R.Rules c.self.inside.state h c.self.inside.journal.phase) was c.self.invariant.hand in
+    let within = subst (λ phase. most phase c.self.inside.journal.count ≤ c.self.inside.journal.limit) step.0 c.count-place.ensures.within in
+    let stored : c.settle.result ≡ Ok (Some true) = c.in_ok-stored.was ∙ ap Ok (c.in-Some-true.is ∙ ap Some c.in-Some-true.field-0-test) in
+    let absorbed : c.absorb.new.state ≡ g.R.Rules.after c.self.inside.state c.in-Some.rec c.self.inside.journal.count =
+    c.absorb.ensures ∙ ap (g.R.Rules.after c.self.inside.state c.in-Some.rec) c.count-place.ensures.count in
+    record {
+      was = ap (λ v. v.hand) (sym c.self.view_is) ∙ was;
+      hand = refl;
+      state = subst (λ v. c.absorb.new.state ≡ g.R.Rules.after v.state c.in-Some.rec v.journal.count) c.self.view_is absorbed;
+      records = λ records stands_now.
+          let stands = subst (λ v. StandsFor g.R.Rules g.D.Disk v records) (sym c.self.view_is) stands_now in
+          let holds = c.settle.ensures.stored stored (map g.R.Rules.spelling records) (g.R.Rules.spelling c.in-Some.rec) (holds_in_hand g.R.Rules g.D.Disk _ records c.in-Some.rec stands was) in
+          gained g.R.Rules g.D.Disk g.met.R.Rules.grows _ c.settle.new.self c.absorb.new.state None c.in-Some.rec records refl stands holds step.1 step.2 absorbed (omega (arith, within, c.self.invariant.limit));
+    }

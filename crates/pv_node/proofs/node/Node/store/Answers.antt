@@ -1,0 +1,38 @@
+use Rattle.std.proofs.Common.{◌≡◌, ℕ, ◌+◌, ◌<◌, ◌⊎◌, List, [], ◌∷◌, ◌++◌, length, map, take, Option, None, Some, refl, sym, ◌∙◌, ap, subst, arith, rules}
+use Rattle.pv_outside.specs.Disk.{IsEndless, CallsPassed}
+use Rattle.pv_journal.specs.Journal.{EachImage, Holds}
+use Rattle.pv_node.specs.Standing.{Stands, StandsFor}
+use Rattle.pv_node.proofs.Standing.{gained, holds_at_rest, images_stand}
+use Rattle.pv_node.proofs.node.Node.store.Goals as goal
+
+pub returns-in-Ok-clause-stored : goal.returns-in-Ok-clause-stored
+returns-in-Ok-clause-stored g c =
+    let none : c.self.inside.hand ≡ None = ap (λ v. v.hand) c.self.view_is ∙ c.requires.at_rest in
+    let absorbed : c.absorb.new.state ≡ g.R.Rules.after c.self.inside.state c.args.rec c.self.inside.journal.count =
+    c.absorb.ensures ∙ ap (g.R.Rules.after c.self.inside.state c.args.rec) c.in-Ok.ensures.place in
+    let room : c.self.inside.journal.count < (g.R.Rules.limits_of c.self.inside.state).records = omega (arith, c.in-Ok.ensures.room, c.self.invariant.limit) in
+    record {
+      room = subst (λ v. v.journal.count < (g.R.Rules.limits_of v.state).records) c.self.view_is room;
+      hand = none;
+      state = subst (λ v. c.absorb.new.state ≡ g.R.Rules.after v.state c.args.rec v.journal.count) c.self.view_is absorbed;
+      records = λ records stands_now.
+          let stands = subst (λ v. StandsFor g.R.Rules g.D.Disk v records) (sym c.self.view_is) stands_now in
+          let holds = c.in-Ok.ensures.stored (map g.R.Rules.spelling records) (holds_at_rest g.R.Rules g.D.Disk _ records stands none) in
+          gained g.R.Rules g.D.Disk g.met.R.Rules.grows _ c.append.new.self c.absorb.new.state c.self.inside.hand c.args.rec records none stands
+          (subst (λ (b : List ℕ). Holds g.D.Disk c.append.new.self (map g.R.Rules.spelling records ++ b ∷ [])) c.spell-size.ensures.spelled holds)
+          c.requires.spelled (subst (λ v. g.R.Rules.fits v.state c.args.rec) (sym c.self.view_is) c.requires.room) absorbed room;
+    }
+
+pub returns-in-Ok-clause-endless : goal.returns-in-Ok-clause-endless
+returns-in-Ok-clause-endless g c = λ room endless. c.append.ensures.endless room (subst (λ v. IsEndless room (g.D.Disk.budget v.journal.disk)) (sym c.self.view_is) endless)
+
+pub returns-in-Err-Disk-clause-endless : goal.returns-in-Err-Disk-clause-endless
+returns-in-Err-Disk-clause-endless g c = λ room endless. c.append.ensures.endless room (subst (λ v. IsEndless room (g.D.Disk.budget v.journal.disk)) (sym c.self.view_is) endless)
+
+pub returns-in-Err-Disk-clause-early : goal.returns-in-Err-Disk-clause-early
+returns-in-Err-Disk-clause-early g c = λ records stands_now.
+    let stands = subst (λ v. StandsFor g.R.Rules g.D.Disk v records) (sym c.self.view_is) stands_now in
+    let none : c.self.inside.hand ≡ None = ap (λ v. v.hand) c.self.view_is ∙ c.requires.at_rest in
+    let early = c.in-Err-Disk.ensures.early (map g.R.Rules.spelling records) (holds_at_rest g.R.Rules g.D.Disk _ records stands none) in
+    subst (λ v. CallsPassed 2 (g.D.Disk.clock v.journal.disk) (g.D.Disk.clock c.append.new.self.disk) ⊎ EachImage g.D.Disk c.append.new.self.disk (λ image. Stands g.R.Rules image records)) c.self.view_is
+    (images_stand g.R.Rules g.D.Disk c.append.new.self.disk records stands.each early)

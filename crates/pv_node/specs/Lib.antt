@@ -1,0 +1,9 @@
+pub mod Asking
+pub mod Opening
+pub mod Parts
+pub mod Standing
+pub use Rattle.pv_journal.specs.Journal
+pub use Rattle.pv_journal.specs.Log
+pub use Rattle.pv_journal.specs.Text
+pub use Rattle.pv_outside.specs.Counts
+pub use Rattle.pv_outside.specs.Disk

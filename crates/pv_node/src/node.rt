@@ -1,0 +1,258 @@
+//! What a node may do next, and the call that makes each transition.
+//!
+//! ```text
+//!                 open        a formatted disk becomes a node that is at rest
+//!   at rest    -> at rest     ask       a reply, or Full
+//!   at rest    -> in hand     ask       a call of the disk failed while a record was being stored
+//!   in hand    -> in hand     ask       a call of the disk failed in the settling, or with another record
+//!   in hand    -> at rest     ask       a reply, or Full; the record that was in hand is stored or is not
+//!   in hand    -> in hand     settle    a call of the disk failed
+//!   in hand    -> at rest     settle    the record, if it is stored
+//! ```
+ghost use Rattle.std.specs.Prelude.{◌≡◌, ◌⊎◌, ◌↔◌, ℕ, ◌+◌, ◌*◌, ◌<◌, ◌≤◌, List, [], ◌∷◌, ◌++◌, length, take, Option, Some, None, Ok, IfOk, IfErr, IfSome, OnOk, OnErr, IsErr, IsOk};
+ghost use Rattle.pv_outside.specs.Counts.{Rose};
+ghost use Rattle.pv_outside.specs.Disk.{CallsPassed, HasCalls, IsEndless};
+ghost use Rattle.pv_journal.specs.Log.{IsAtRest};
+ghost use Rattle.pv_journal.specs.Journal.{EachImage, Remains, IsFused};
+ghost use Rattle.pv_node.specs.Standing.{Stands, StandsEither, DiskStands, EachHasRoom, StandsFor};
+ghost use Rattle.pv_node.specs.Opening.{IsOutside, IsOpenFault, FaultShows, IsDiskFault as IsOpenDiskFault};
+ghost use Rattle.pv_node.specs.Asking.{IsDiskFault, IsSettled, IsUnsettled, IsRefused, CanStore, IsKept, IsTaken, CarriesOut, Asks};
+
+use crate::decision::{Decision, Told};
+use crate::fault::{AskFault, NodeFault};
+use crate::replay::{replay, told_by_node};
+use crate::rules::Rules;
+use pv_fields::Out;
+use pv_journal::{AppendFault, Journal, MAX_BODY};
+use pv_outside::{Disk, Fused, Limits};
+use std::alloc::Global;
+use std::marker::Model;
+
+/// Rules over a journal: a state that is what the records on a disk come to.
+#[derive(Drop)]
+pub struct Node<R: Rules, D: Disk> {
+    state: R::State,
+    journal: Journal<D>,
+    hand: Option<R::Rec>,
+    body: [u8; MAX_BODY],
+}
+
+impl<R: Rules, D: Disk> Model for Node<R, D> {
+    ghost use Rattle.pv_node.specs.Parts.{Parts, IsNode};
+
+    ghost Value = { Parts D R.State R.Rec };
+
+    ghost view = { λ n. record { journal = n.journal; state = n.state; hand = n.hand } };
+
+    ghost invariant = { λ n. IsNode R.Rules (record { journal = n.journal; state = n.state; hand = n.hand }) };
+}
+
+/// Puts the spelling of a record into the front, and answers how many bytes it has.
+fn spell<R: Rules>(rec: &R::Rec, into: &mut [u8; MAX_BODY]) -> usize
+    requires { R.is_record rec.now }
+    ensures within { result ≤ MAX_BODY }
+    ensures spelled { take result into.new ≡ R.spelling rec.now }
+{
+    let mut out = Out::new(into);
+    // A spelling has at most as many bytes as there is room, so it is never refused.
+    let _ = R::encode(rec, &mut out);
+    out.written()
+}
+
+impl<R: Rules, D: Disk> Node<R, D> {
+    /// Opens a formatted disk: reads its records, in order, into a state of these limits. A disk that is
+    /// refused is handed back. This call alone takes memory.
+    pub fn open(alloc: Global, disk: D, limits: Limits) -> Result<Node<R, D>, (NodeFault<D>, D)>
+        // The node stands for the records that the disk stands for, and has none in hand.
+        ensures opened { IfOk result (λ node. (records : List R.Rec) × StandsFor ⟦<R as Rules>⟧ ⟦<D as Disk>⟧ node records) }
+        ensures found { IfOk result (λ node. (records : List R.Rec) → DiskStands ⟦<R as Rules>⟧ ⟦<D as Disk>⟧ disk records → StandsFor ⟦<R as Rules>⟧ ⟦<D as Disk>⟧ node records) }
+        ensures none_in_hand { IfOk result (λ node. node.hand ≡ None) }
+        ensures limits { IfOk result (λ node. R.limits_of node.state ≡ limits) }
+        ensures same { IfOk result (λ node. Remains ⟦<D as Disk>⟧ disk node.journal.disk) }
+
+        // On a disk that stands for records within the limits, only want of memory or the disk is in the way.
+        ensures opens { IfErr result (λ e. (records : List R.Rec) → DiskStands ⟦<R as Rules>⟧ ⟦<D as Disk>⟧ disk records
+            → length records ≤ limits.records → EachHasRoom ⟦<R as Rules>⟧ limits records → IsOutside e.0) }
+
+        // Each fault has its cause, and on a disk that tells its bytes these show which it is.
+        ensures refused { IfErr result (λ e. IsOpenFault limits e.0) }
+        ensures shown { IfErr result (λ e. IfSome (D.reads disk) (λ text. FaultShows ⟦<R as Rules>⟧ limits text e.0)) }
+        ensures handed_back { IfErr result (λ e. Remains ⟦<D as Disk>⟧ disk e.1) }
+        ensures failed { IfErr result (λ e. IsOpenDiskFault e.0 → Rose (D.faults disk) (D.faults e.1)) }
+        ensures passes { IfErr result (λ e. (room : ℕ) → IsEndless room (D.budget disk) → IsOpenDiskFault e.0 → ⊥) }
+    {
+        let Ok(mut state) = R::open(alloc, limits) else {
+            return Err((NodeFault::Memory, disk));
+        };
+        let mut journal = match Journal::start(disk, limits) {
+            Ok(journal) => journal,
+            Err((fault, disk)) => return Err((told_by_node(fault), disk)),
+        };
+        let mut body = [0; MAX_BODY];
+        if let Err(fault) = replay::<R, D>(&mut state, &mut journal, &mut body) {
+            return Err((fault, journal.into_disk()));
+        }
+        Ok(Node {
+            state,
+            journal,
+            hand: None,
+            body,
+        })
+    }
+
+    /// Answers a request. It first settles what is in hand, then decides, and then stores what is to be
+    /// stored: the reply is told once each crash leaves the record. After a failure of the disk a record
+    /// may be in hand, and the state is as it was but for a record that was settled.
+    pub fn ask(&mut self, request: &R::Request) -> Result<Told<R::Reply>, AskFault<D>>
+        requires { R.is_request request.now }
+
+        ensures asked { Asks ⟦<R as Rules>⟧ ⟦<D as Disk>⟧ request.now self.old self.new result }
+        ensures answers { self.old.hand ≡ None → CarriesOut ⟦<R as Rules>⟧ ⟦<D as Disk>⟧ (R.judgement self.old.state request.now) self.old self.new result }
+        ensures none_in_hand { OnOk result (self.new.hand ≡ None) }
+        ensures limits { R.limits_of self.new.state ≡ R.limits_of self.old.state }
+
+        // Until two calls of the disk have succeeded, each image stands for the records without the new one.
+        ensures early { self.old.hand ≡ None → OnErr result ((records : List R.Rec) → StandsFor ⟦<R as Rules>⟧ ⟦<D as Disk>⟧ self.old records
+            → CallsPassed 2 (D.clock self.old.journal.disk) (D.clock self.new.journal.disk) ⊎ EachImage ⟦<D as Disk>⟧ self.new.journal.disk (λ image. Stands ⟦<R as Rules>⟧ image records)) }
+
+        ensures failed { IfErr result (λ fault. IsDiskFault fault → Rose (D.faults self.old.journal.disk) (D.faults self.new.journal.disk)) }
+        ensures counted { D.faults self.old.journal.disk ≤ D.faults self.new.journal.disk }
+        ensures endless { (room : ℕ) → IsEndless room (D.budget self.old.journal.disk) → IsEndless room (D.budget self.new.journal.disk) }
+        ensures passes { IfErr result (λ fault. (records : List R.Rec) → StandsFor ⟦<R as Rules>⟧ ⟦<D as Disk>⟧ self.old records
+            → self.old.hand ≡ None → HasCalls 4 (9 + 2051 * (R.limits_of self.old.state).records) (D.budget self.old.journal.disk) → IsDiskFault fault → ⊥) }
+    {
+        match self.settle() {
+            Ok(_) => {
+                let decision = R::decide(&self.state, request);
+                self.carry_out(decision)
+            }
+            Err(failure) => Err(AskFault::Disk(failure)),
+        }
+    }
+
+    /// Does what was decided, and answers the reply.
+    fn carry_out(
+        &mut self,
+        decision: Decision<R::Rec, R::Reply>,
+    ) -> Result<Told<R::Reply>, AskFault<D>>
+        requires none_in_hand { self.old.hand ≡ None }
+        requires can { CanStore ⟦<R as Rules>⟧ self.old.state decision }
+
+        ensures carried_out { CarriesOut ⟦<R as Rules>⟧ ⟦<D as Disk>⟧ decision self.old self.new result }
+        ensures early { OnErr result ((records : List R.Rec) → StandsFor ⟦<R as Rules>⟧ ⟦<D as Disk>⟧ self.old records
+            → CallsPassed 2 (D.clock self.old.journal.disk) (D.clock self.new.journal.disk) ⊎ EachImage ⟦<D as Disk>⟧ self.new.journal.disk (λ image. Stands ⟦<R as Rules>⟧ image records)) }
+        ensures none_in_hand { OnOk result (self.new.hand ≡ None) }
+        ensures limits { R.limits_of self.new.state ≡ R.limits_of self.old.state }
+
+        ensures failed { IfErr result (λ fault. IsDiskFault fault → Rose (D.faults self.old.journal.disk) (D.faults self.new.journal.disk)) }
+        ensures counted { D.faults self.old.journal.disk ≤ D.faults self.new.journal.disk }
+        ensures endless { (room : ℕ) → IsEndless room (D.budget self.old.journal.disk) → IsEndless room (D.budget self.new.journal.disk) }
+        ensures passes { IfErr result (λ fault. (records : List R.Rec) → StandsFor ⟦<R as Rules>⟧ ⟦<D as Disk>⟧ self.old records
+            → HasCalls 4 (9 + 2051 * (R.limits_of self.old.state).records) (D.budget self.old.journal.disk) → IsDiskFault fault → ⊥) }
+    {
+        match decision {
+            Decision::Answer(reply) => Ok(Told {
+                reply,
+                number: None,
+            }),
+            Decision::Store(rec, reply) => {
+                let number = Some(self.store(rec)?);
+                Ok(Told { reply, number })
+            }
+        }
+    }
+
+    /// Stores a record and takes it into the state. Answers its place.
+    fn store(&mut self, rec: R::Rec) -> Result<u64, AskFault<D>>
+        requires at_rest { self.old.hand ≡ None }
+        requires spelled { R.is_record rec }
+        requires room { R.fits self.old.state rec }
+
+        ensures place { IfOk result (λ number. number ≡ self.old.journal.count) }
+        ensures stored { OnOk result (IsKept ⟦<R as Rules>⟧ ⟦<D as Disk>⟧ self.old self.new rec) }
+        ensures in_hand { IfErr result (λ fault. IsDiskFault fault → IsTaken ⟦<R as Rules>⟧ ⟦<D as Disk>⟧ self.old self.new rec) }
+        ensures early { OnErr result ((records : List R.Rec) → StandsFor ⟦<R as Rules>⟧ ⟦<D as Disk>⟧ self.old records
+            → CallsPassed 2 (D.clock self.old.journal.disk) (D.clock self.new.journal.disk) ⊎ EachImage ⟦<D as Disk>⟧ self.new.journal.disk (λ image. Stands ⟦<R as Rules>⟧ image records)) }
+        ensures full { IfErr result (λ fault. IsRefused ⟦<R as Rules>⟧ self.old self.new fault) }
+        ensures limits { R.limits_of self.new.state ≡ R.limits_of self.old.state }
+
+        ensures failed { IfErr result (λ fault. IsDiskFault fault → Rose (D.faults self.old.journal.disk) (D.faults self.new.journal.disk)) }
+        ensures counted { D.faults self.old.journal.disk ≤ D.faults self.new.journal.disk }
+        ensures endless { (room : ℕ) → IsEndless room (D.budget self.old.journal.disk) → IsEndless room (D.budget self.new.journal.disk) }
+        ensures passes { IfErr result (λ fault. (records : List R.Rec) → StandsFor ⟦<R as Rules>⟧ ⟦<D as Disk>⟧ self.old records
+            → HasCalls 4 (9 + 2051 * (R.limits_of self.old.state).records) (D.budget self.old.journal.disk) → IsDiskFault fault → ⊥) }
+    {
+        let size = spell::<R>(&rec, &mut self.body);
+        match self.journal.append(&self.body[..size]) {
+            Ok(place) => {
+                R::absorb(&mut self.state, &rec, place);
+                Ok(place)
+            }
+            Err(AppendFault::Full { count }) => Err(AskFault::Full { count }),
+            Err(AppendFault::Disk(failure)) => {
+                self.hand = Some(rec);
+                Err(AskFault::Disk(failure))
+            }
+        }
+    }
+
+    /// Finds out whether the record in hand is stored, takes it into the state if it is, and answers it
+    /// then. Afterwards nothing is in hand. It is the settling that `ask` begins with.
+    pub fn settle(&mut self) -> Result<Option<R::Rec>, D::Failure>
+        ensures settled { IfOk result (IsSettled ⟦<R as Rules>⟧ ⟦<D as Disk>⟧ self.old self.new) }
+        ensures unsettled { OnErr result (IsUnsettled ⟦<R as Rules>⟧ ⟦<D as Disk>⟧ self.old self.new) }
+        ensures limits { R.limits_of self.new.state ≡ R.limits_of self.old.state }
+        ensures same { Remains ⟦<D as Disk>⟧ self.old.journal.disk self.new.journal.disk }
+        ensures failed { IsErr result → Rose (D.faults self.old.journal.disk) (D.faults self.new.journal.disk) }
+        ensures passes { (room : ℕ) → IsEndless room (D.budget self.old.journal.disk) → IsOk result }
+    {
+        let Some(rec) = self.hand else {
+            return Ok(None);
+        };
+        let place = self.journal.count();
+        let stored = self.journal.settle()?;
+        self.hand = None;
+        match stored {
+            Some(true) => {
+                R::absorb(&mut self.state, &rec, place);
+                Ok(Some(rec))
+            }
+            _ => Ok(None),
+        }
+    }
+
+    /// The state of the records.
+    pub fn state(&self) -> &R::State
+        ensures { result.now ≡ self.now.state }
+    {
+        &self.state
+    }
+
+    /// How many records there are, without one in hand.
+    pub fn count(&self) -> u64
+        ensures count { result ≡ self.now.journal.count }
+        ensures records { (records : List R.Rec) → StandsFor ⟦<R as Rules>⟧ ⟦<D as Disk>⟧ self.now records → result ≡ length records }
+        ensures within { result ≤ (R.limits_of self.now.state).records }
+    {
+        self.journal.count()
+    }
+
+    /// The disk.
+    pub fn into_disk(self) -> D
+        ensures disk { result ≡ self.journal.disk }
+        ensures images { (records : List R.Rec) → StandsFor ⟦<R as Rules>⟧ ⟦<D as Disk>⟧ self records → EachImage ⟦<D as Disk>⟧ result (StandsEither ⟦<R as Rules>⟧ records self.hand) }
+    {
+        self.journal.into_disk()
+    }
+}
+
+impl<R: Rules, D: Fused> Node<R, D> {
+    /// Lets so many further calls of the disk pass, and then none. Nothing else changes.
+    pub fn fuse(&mut self, calls: u32)
+        ensures disk { IsFused ⟦<D as Disk>⟧ calls self.old.journal.disk self.new.journal.disk }
+        ensures same { self.new ≡ record self.old { journal = record self.old.journal { disk = self.new.journal.disk } } }
+        ensures records { (records : List R.Rec) → StandsFor ⟦<R as Rules>⟧ ⟦<D as Disk>⟧ self.old records → StandsFor ⟦<R as Rules>⟧ ⟦<D as Disk>⟧ self.new records }
+    {
+        self.journal.fuse(calls);
+    }
+}

@@ -1,0 +1,111 @@
+ghost use Rattle.std.specs.Prelude.{◌≡◌, ◌<◌, ◌≤◌, ℕ, ◌+◌, List, [], ◌∷◌, ◌++◌, length, map, All, true, false, Ok, IfOk, IfErr, IfSome, OnOk};
+ghost use Rattle.pv_outside.specs.Counts.{Rose};
+ghost use Rattle.pv_outside.specs.Disk.{IsEndless};
+ghost use Rattle.pv_journal.specs.Log.{IsAtRest};
+ghost use Rattle.pv_journal.specs.Journal.{Remains, Holds};
+ghost use Rattle.pv_node.specs.Standing.{DiskStands, EachHasRoom};
+ghost use Rattle.pv_node.specs.Opening.{fault_of, IsDiskFault, IsOutside, IsOpenFault, IsUnreadable, Begins, StopShows, FaultShows, HasRead, HasAll, ComesNext, AreAll};
+
+use crate::fault::NodeFault;
+use crate::rules::Rules;
+use pv_journal::{Journal, MAX_BODY, OpenFault};
+use pv_outside::Disk;
+
+/// A journal's fault, told by a node.
+pub(crate) fn told_by_node<D: Disk>(fault: OpenFault<D>) -> NodeFault<D>
+    ensures { result ≡ fault_of fault }
+{
+    match fault {
+        OpenFault::Disk(failure) => NodeFault::Disk(failure),
+        OpenFault::NotFormatted(kept) => NodeFault::NotFormatted(kept),
+        OpenFault::Broken { at } => NodeFault::Broken { at },
+        OpenFault::TooMany { count } => NodeFault::TooMany { count },
+    }
+}
+
+/// Takes the record that is spelled so into the state, at this place: whether there is one and it has
+/// room.
+fn absorb_spelled<R: Rules>(state: &mut R::State, bytes: &[u8], place: u64) -> bool
+    ensures took { result ≡ true → (rec : R.Rec) × R.is_record rec × (R.spelling rec ≡ bytes.now)
+        × R.fits state.old rec × (state.new ≡ R.after state.old rec place) }
+    ensures refused { result ≡ false → IsUnreadable ⟦<R as Rules>⟧ state.old bytes.now }
+    ensures same { result ≡ false → state.new ≡ state.old }
+{
+    let Some(rec) = R::decode(bytes) else {
+        return false;
+    };
+    if !R::has_room(state, &rec) {
+        return false;
+    }
+    R::absorb(state, &rec, place);
+    true
+}
+
+/// Takes the next record of the journal into the state: whether there was a further one.
+fn take_next<R: Rules, D: Disk>(
+    state: &mut R::State,
+    journal: &mut Journal<D>,
+    body: &mut [u8; MAX_BODY],
+) -> Result<bool, NodeFault<D>>
+    requires limit { journal.old.limit ≡ (R.limits_of state.old).records }
+    requires so_far { (records : List R.Rec) × HasRead ⟦<R as Rules>⟧ ⟦<D as Disk>⟧ journal.old state.old records }
+
+    // The next record joins those that were read, and behind the last one these are all.
+    ensures took { result ≡ Ok true → (records : List R.Rec) → HasRead ⟦<R as Rules>⟧ ⟦<D as Disk>⟧ journal.old state.old records
+        → (rec : R.Rec) × HasRead ⟦<R as Rules>⟧ ⟦<D as Disk>⟧ journal.new state.new (records ++ rec ∷ [])
+        × ComesNext ⟦<R as Rules>⟧ ⟦<D as Disk>⟧ journal.old.disk records rec }
+    ensures ended { result ≡ Ok false → (records : List R.Rec) → HasRead ⟦<R as Rules>⟧ ⟦<D as Disk>⟧ journal.old state.old records
+        → HasAll ⟦<R as Rules>⟧ ⟦<D as Disk>⟧ journal.new state.new records × AreAll ⟦<R as Rules>⟧ ⟦<D as Disk>⟧ journal.old.disk records }
+    ensures at_rest { result ≡ Ok false → IsAtRest journal.new }
+    ensures counts { result ≡ Ok true → (journal.old.count < journal.old.limit) × (journal.new.count ≡ journal.old.count + 1) }
+    ensures limits { R.limits_of state.new ≡ R.limits_of state.old }
+    ensures limit { journal.new.limit ≡ journal.old.limit }
+    ensures same { Remains ⟦<D as Disk>⟧ journal.old.disk journal.new.disk }
+
+    // On a disk that stands for records that have room, only want of memory or the disk is in the way.
+    ensures opens { IfErr result (λ fault. (records more : List R.Rec) → HasRead ⟦<R as Rules>⟧ ⟦<D as Disk>⟧ journal.old state.old records
+        → DiskStands ⟦<R as Rules>⟧ ⟦<D as Disk>⟧ journal.old.disk (records ++ more)
+        → length (records ++ more) ≤ journal.old.limit → EachHasRoom ⟦<R as Rules>⟧ (R.limits_of state.old) (records ++ more) → IsOutside fault) }
+    ensures known { IfErr result (IsOpenFault (R.limits_of state.old)) }
+    ensures shown { IfErr result (λ fault. (records : List R.Rec) → HasRead ⟦<R as Rules>⟧ ⟦<D as Disk>⟧ journal.old state.old records
+        → IfSome (D.reads journal.old.disk) (λ text. StopShows ⟦<R as Rules>⟧ (R.limits_of state.old) text records state.old journal.old.gate fault)) }
+    ensures failed { IfErr result (λ fault. IsDiskFault fault → Rose (D.faults journal.old.disk) (D.faults journal.new.disk)) }
+    ensures passes { IfErr result (λ fault. (room : ℕ) → IsEndless room (D.budget journal.old.disk) → IsDiskFault fault → ⊥) }
+{
+    let number = journal.count();
+    match journal.next(body) {
+        Ok(Some(size)) if absorb_spelled::<R>(state, &body[..size], number) => Ok(true),
+        Ok(Some(_)) => Err(NodeFault::Unreadable { number }),
+        Ok(None) => Ok(false),
+        Err(fault) => Err(told_by_node(fault)),
+    }
+}
+
+/// Takes all further records of the journal into the state.
+pub(crate) fn replay<R: Rules, D: Disk>(
+    state: &mut R::State,
+    journal: &mut Journal<D>,
+    body: &mut [u8; MAX_BODY],
+) -> Result<(), NodeFault<D>>
+    requires limit { journal.old.limit ≡ (R.limits_of state.old).records }
+    requires reading { HasRead ⟦<R as Rules>⟧ ⟦<D as Disk>⟧ journal.old state.old [] }
+
+    ensures read { OnOk result ((records : List R.Rec) × HasAll ⟦<R as Rules>⟧ ⟦<D as Disk>⟧ journal.new state.new records) }
+    ensures at_rest { OnOk result (IsAtRest journal.new) }
+    ensures limits { R.limits_of state.new ≡ R.limits_of state.old }
+    ensures limit { journal.new.limit ≡ journal.old.limit }
+    ensures same { Remains ⟦<D as Disk>⟧ journal.old.disk journal.new.disk }
+
+    // On a disk that stands for records, these are the ones, and only want of memory or the disk is in their way.
+    ensures found { OnOk result ((records : List R.Rec) → DiskStands ⟦<R as Rules>⟧ ⟦<D as Disk>⟧ journal.old.disk records
+        → HasAll ⟦<R as Rules>⟧ ⟦<D as Disk>⟧ journal.new state.new records) }
+    ensures opens { IfErr result (λ fault. (records : List R.Rec) → DiskStands ⟦<R as Rules>⟧ ⟦<D as Disk>⟧ journal.old.disk records
+        → length records ≤ journal.old.limit → EachHasRoom ⟦<R as Rules>⟧ (R.limits_of state.old) records → IsOutside fault) }
+    ensures known { IfErr result (IsOpenFault (R.limits_of state.old)) }
+    ensures shown { IfErr result (λ fault. IfSome (D.reads journal.old.disk) (λ text. FaultShows ⟦<R as Rules>⟧ (R.limits_of state.old) text fault)) }
+    ensures failed { IfErr result (λ fault. IsDiskFault fault → Rose (D.faults journal.old.disk) (D.faults journal.new.disk)) }
+    ensures passes { IfErr result (λ fault. (room : ℕ) → IsEndless room (D.budget journal.old.disk) → IsDiskFault fault → ⊥) }
+{
+    while take_next::<R, D>(state, journal, body)? {}
+    Ok(())
+}
