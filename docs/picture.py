@@ -110,6 +110,9 @@ class Seen:
         return self.style.mosaics and not 0x40 <= self.cell <= 0x5F
 
 
+NOTHING = Seen(SPACE, Style())
+
+
 def set_at(style: Style, attribute: int) -> Style:
     """What an attribute changes in its own cell already."""
     changes = {0x0C: {"double": False}, 0x19: {"separated": False}, 0x1A: {"separated": True}, 0x1C: {"background": BLACK}, 0x1D: {"background": style.colour}, 0x1E: {"hold": True}}
@@ -126,18 +129,25 @@ def set_after(style: Style, attribute: int) -> Style:
     return replace(style, **changes.get(attribute, {}))
 
 
+def still(held: Seen, before: Style, after: Style) -> Seen:
+    """The mosaic that is held, which is lost where letters or another height begin."""
+    return held if (before.mosaics, before.double) == (after.mosaics, after.double) else NOTHING
+
+
 def seen_in(row: list[int]) -> list[Seen]:
     """What is seen in each cell of a row."""
-    style, held, seen = Style(), Seen(SPACE, Style()), []
+    style, held, seen = Style(), NOTHING, []
     for cell in row:
         if cell >= SPACE:
             here = Seen(cell, style)
             held = here if here.is_mosaic() else held
         else:
-            style = set_at(style, cell)
-            is_held = style.hold and style.mosaics
-            here = Seen(held.cell, replace(style, separated=held.style.separated)) if is_held else Seen(SPACE, replace(style, mosaics=False))
-            style = set_after(style, cell)
+            now = set_at(style, cell)
+            held = still(held, style, now)
+            is_held = now.hold and now.mosaics
+            here = Seen(held.cell, replace(now, separated=held.style.separated)) if is_held else Seen(SPACE, replace(now, mosaics=False))
+            style = set_after(now, cell)
+            held = still(held, now, style)
         seen.append(here)
     return seen
 

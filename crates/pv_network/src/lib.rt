@@ -1,9 +1,10 @@
 //! All nodes of the viewdata network as one machine that goes by events.
 //!
 //! A [`Network`] has one Update Centre, which keeps the list of all edits, and one to four retrieval
-//! centres, each of which has taken the first so many of them. An [`Event`] happens to it, one at a
-//! time, and an [`Outcome`] says what came of it. Packets are numbered in the order in which they were
-//! made; any of them may be delivered at any time, never, or again.
+//! centres, each of which has taken the first so many of them. Each edit puts a whole frame under a
+//! name. An [`Event`] happens to the network, one at a time, and an [`Outcome`] says what came of it.
+//! Packets are numbered in the order in which they were made; any of them may be delivered at any time,
+//! never, or again.
 //!
 //! ```text
 //! let mut network = Network::open(alloc, 1, limits)?;
