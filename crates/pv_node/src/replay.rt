@@ -74,8 +74,13 @@ fn take_next<R: Rules, D: Disk>(
 {
     let number = journal.count();
     match journal.next(body) {
-        Ok(Some(size)) if absorb_spelled::<R>(state, &body[..size], number) => Ok(true),
-        Ok(Some(_)) => Err(NodeFault::Unreadable { number }),
+        Ok(Some(size)) => {
+            if absorb_spelled::<R>(state, &body[..size], number) {
+                Ok(true)
+            } else {
+                Err(NodeFault::Unreadable { number })
+            }
+        }
         Ok(None) => Ok(false),
         Err(fault) => Err(told_by_node(fault)),
     }

@@ -6,8 +6,8 @@ use Rattle.pv_node.proofs.Records.{none_of}
 use Rattle.pv_node.proofs.Reading.{read_count, disk_spells, read_more, next_is, next_fits, only_outside, disk_fault}
 use Rattle.pv_node.proofs.replay.take_next.Goals as goal
 
-pub returns-in-Ok-Some-clause-took : goal.returns-in-Ok-Some-clause-took
-returns-in-Ok-Some-clause-took g c = λ _ records read.
+pub returns-then-absorb_spelled-clause-took : goal.returns-then-absorb_spelled-clause-took
+returns-then-absorb_spelled-clause-took g c = λ _ records read.
     let t = c.absorb_spelled.ensures.took c.if-absorb_spelled.true in
     let at = rw c.in-Ok-Some.field-0-is at c.in-Ok-Some.ensures in
     let below : c.args.journal.now.count < (g.R.Rules.limits_of c.args.state.now).records = omega (arith, at.answer.2, c.requires.limit) in (
@@ -19,15 +19,15 @@ returns-in-Ok-Some-clause-took g c = λ _ records read.
           next_is g.R.Rules g.D.Disk g.met.R.Rules.one_meaning _ records more t.0 _ spells.0 stands spells.1 t.1 t.2,
     )
 
-pub returns-in-Ok-Some-2-clause-opens : goal.returns-in-Ok-Some-2-clause-opens
-returns-in-Ok-Some-2-clause-opens g c = λ records more read stands meets.
+pub returns-else-absorb_spelled-clause-opens : goal.returns-else-absorb_spelled-clause-opens
+returns-else-absorb_spelled-clause-opens g c = λ records more read stands meets.
     let at = rw c.in-Ok-Some.field-0-is at c.in-Ok-Some.ensures in
     let spells = at.spelled (map g.R.Rules.spelling records) (map g.R.Rules.spelling more) read.journal (disk_spells g.R.Rules g.D.Disk _ records more stands) in
     let f = next_fits g.R.Rules g.D.Disk _ _ records more _ spells.0 read.stood stands meets.room spells.1 in
     c.absorb_spelled.ensures.refused c.if-absorb_spelled.false f.0 f.1 f.2 f.3
 
-pub returns-in-Ok-Some-2-clause-shown : goal.returns-in-Ok-Some-2-clause-shown
-returns-in-Ok-Some-2-clause-shown g c = λ records read.
+pub returns-else-absorb_spelled-clause-shown : goal.returns-else-absorb_spelled-clause-shown
+returns-else-absorb_spelled-clause-shown g c = λ records read.
     let at = rw c.in-Ok-Some.field-0-is at c.in-Ok-Some.ensures in
     let number : length records ≡ c.count-number.result = sym (read_count g.R.Rules g.D.Disk _ _ records read) ∙ sym c.count-number.ensures.count in
     IfSome_then _ (at.shown (map g.R.Rules.spelling records) read.journal) (λ text has.
