@@ -1,3 +1,4 @@
 pub mod Records
+pub mod Rooms
 pub mod Reading
 pub mod Standing

@@ -1,5 +1,5 @@
 -- Records that are read from a journal into a state.
-use Rattle.std.proofs.Common.{◌≡◌, ℕ, ◌+◌, ◌<◌, ◌≤◌, List, [], ◌∷◌, ◌++◌, length, map, All, Option, None, Some, Ok, Err, refl, sym, ◌∙◌, ap, subst, arith, append_assoc}
+use Rattle.std.proofs.Common.{◌≡◌, ℕ, ◌<◌, ◌≤◌, List, [], ◌∷◌, ◌++◌, length, map, All, Err, refl, sym, ◌∙◌, ap, subst, arith, append_assoc}
 use Rattle.std.proofs.lemmas.List.{map_push, map-append, append-nil, length-append, length-map}
 use Rattle.std.proofs.lemmas.List.Elements.{All-push}
 use Rattle.pv_outside.specs.declared.disk.Disk as disk
@@ -10,11 +10,12 @@ use Rattle.pv_journal.specs.Faults.{NextSpells, IsNext}
 use Rattle.pv_journal.specs.declared.fault.OpenFault.{OpenFault}
 use Rattle.pv_journal.specs.declared.fault.OpenFault.TheVariants.{Disk, NotFormatted, Broken, TooMany}
 use Rattle.pv_node.specs.declared.rules.Rules as rules
-use Rattle.pv_node.specs.Standing.{DiskStands, EachHasRoom, Stands}
+use Rattle.pv_node.specs.Standing.{DiskStands, EachHasRoom, Meets}
 use Rattle.pv_node.specs.Opening.{fault_of, IsOutside, IsDiskFault, HasRead, ComesNext, AreAll}
 use Rattle.pv_node.specs.declared.fault.NodeFault.{NodeFault}
 use Rattle.pv_outside.specs.declared.limits.Limits.{Limits}
-use Rattle.pv_node.proofs.Records.{all_at, first_of, none_of}
+use Rattle.pv_node.proofs.Rooms.{meets_more}
+use Rattle.pv_node.proofs.Records.{all_at, first_of}
 
 module _ {S State Request Rec Reply D F : Type 0} (r : rules.Ghosts S State Request Rec Reply) (d : disk.Ghosts D F) where
   -- how many records were read
@@ -27,16 +28,20 @@ module _ {S State Request Rec Reply D F : Type 0} (r : rules.Ghosts S State Requ
 
   -- one record more was read
   pub read_more : (grows : (state : State) (records : List Rec) (rec : Rec) → r.stands state records → r.is_record rec → r.fits state rec → length records < (r.limits_of state).records → r.stands (r.after state rec (length records)) (records ++ rec ∷ []))
+      (same_room : (one other : State) (records : List Rec) (rec : Rec) → r.stands one records → r.stands other records → r.limits_of one ≡ r.limits_of other → r.fits one rec → r.fits other rec)
+      (limits_stay : (state : State) (rec : Rec) (place : ℕ) → r.limits_of (r.after state rec place) ≡ r.limits_of state)
       (old new : Log D) (state after : State) (records : List Rec) (rec : Rec) (body : List ℕ) → HasRead r d old state records
       → IsReading d new (map r.spelling records ++ body ∷ []) → r.is_record rec → r.spelling rec ≡ body → r.fits state rec → after ≡ r.after state rec old.count → old.count < (r.limits_of state).records
       → HasRead r d new after (records ++ rec ∷ [])
-  read_more grows old new state after records rec body read reading spelled is fits absorbed room =
+  read_more grows same_room limits_stay old new state after records rec body read reading spelled is fits absorbed room =
       let count = read_count old state records read in
       let room_for : length records < (r.limits_of state).records = omega (arith, count, room) in
       let stood : r.stands (r.after state rec (length records)) (records ++ rec ∷ []) = grows state records rec read.stood spelled fits room_for in
       record {
         journal = subst (λ (l : List (List ℕ)). IsReading d new l) (sym (map_push r.spelling records rec ∙ ap (λ (b : List ℕ). map r.spelling records ++ b ∷ []) is)) reading;
         each = All-push r.is_record records rec read.each spelled;
+        meets = subst (λ (limits : Limits). Meets r limits (records ++ rec ∷ [])) (sym (ap r.limits_of absorbed ∙ limits_stay state rec old.count))
+            (meets_more r same_room (r.limits_of state) state records rec read.meets read.stood refl fits room_for);
         stood = subst (λ (s : State). r.stands s (records ++ rec ∷ [])) (sym (absorbed ∙ ap (r.after state rec) count)) stood;
       }
 
@@ -120,11 +125,10 @@ module _ {S State Request Rec Reply D F : Type 0} (r : rules.Ghosts S State Requ
 
   -- where the disk stands for records that have room, a fault of the next step is none that the bytes show
   pub fails_outside : (began old : Log D) (first state : State) (so_far : GoesOn began old first state) (fault : NodeFault D F)
-      → ((records more : List Rec) → HasRead r d old state records → DiskStands r d old.disk (records ++ more) → length (records ++ more) ≤ old.limit → EachHasRoom r (r.limits_of state) (records ++ more) → IsOutside fault)
-      → (all : List Rec) → DiskStands r d began.disk all → length all ≤ began.limit → EachHasRoom r (r.limits_of first) all → IsOutside fault
-  fails_outside began old first state so_far fault outside all stands within room =
+      → ((records more : List Rec) → HasRead r d old state records → DiskStands r d old.disk (records ++ more) → Meets r (r.limits_of state) (records ++ more) → IsOutside fault)
+      → (all : List Rec) → DiskStands r d began.disk all → Meets r (r.limits_of first) all → IsOutside fault
+  fails_outside began old first state so_far fault outside all stands meets =
       let b = so_far.begins all stands in
       let still : DiskStands r d old.disk (so_far.records ++ b.0) = subst (λ (l : List Rec). DiskStands r d old.disk l) b.1 (stands_still began.disk old.disk all so_far.same stands) in
-      let short : length (so_far.records ++ b.0) ≤ old.limit = omega (arith, within, so_far.limit, ap length b.1) in
-      let fits : EachHasRoom r (r.limits_of state) (so_far.records ++ b.0) = subst (λ (l : List Rec). EachHasRoom r (r.limits_of state) l) b.1 (subst (λ (limits : Limits). EachHasRoom r limits all) (sym so_far.limits) room) in
-      outside so_far.records b.0 so_far.read still short fits
+      let meeting : Meets r (r.limits_of state) (so_far.records ++ b.0) = subst (λ (l : List Rec). Meets r (r.limits_of state) l) b.1 (subst (λ (limits : Limits). Meets r limits all) (sym so_far.limits) meets) in
+      outside so_far.records b.0 so_far.read still meeting

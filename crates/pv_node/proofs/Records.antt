@@ -1,10 +1,6 @@
 -- Lists of records and of their spellings.
-use Rattle.std.proofs.Common.{◌≡◌, ℕ, ◌<◌, List, [], ◌∷◌, ◌++◌, length, get_or, map, All, refl, sym, ap, subst}
-use Rattle.std.proofs.lemmas.List.{map_push, map-append, length_push, length-map}
-use Rattle.std.proofs.lemmas.List.Elements.{All-push, All-head, All-tail}
-use Rattle.pv_journal.specs.Text.{Spells}
-use Rattle.pv_node.specs.declared.rules.Rules as rules
-use Rattle.pv_node.specs.Standing.{Stands}
+use Rattle.std.proofs.Common.{◌≡◌, ℕ, List, [], ◌∷◌, ◌++◌, get_or, map, All, refl, ap}
+use Rattle.std.proofs.lemmas.List.Elements.{All-head, All-tail}
 
 -- what all elements of a list have, the one at the seam has
 pub all_at : {X : Type 0} (P : X → Type 0) (before : List X) (x : X) (behind : List X) → All P (before ++ x ∷ behind) → P x

@@ -9,7 +9,7 @@ use Rattle.pv_journal.specs.declared.block.TheConstants.{MARK}
 use Rattle.pv_journal.specs.declared.fault.OpenFault.{OpenFault}
 use Rattle.pv_journal.specs.declared.fault.OpenFault.TheVariants.{Disk as JournalDisk, NotFormatted as JournalNotFormatted, Broken as JournalBroken, TooMany as JournalTooMany}
 use Rattle.pv_node.specs.declared.rules.Rules as rules
-use Rattle.pv_node.specs.Standing.{DiskStands}
+use Rattle.pv_node.specs.Standing.{Meets, DiskStands}
 use Rattle.pv_node.specs.declared.fault.NodeFault.{NodeFault}
 use Rattle.pv_node.specs.declared.fault.NodeFault.TheVariants.{Memory, Disk, NotFormatted, Broken, TooMany, Unreadable}
 
@@ -82,12 +82,14 @@ module _ {S State Request Rec Reply D F : Type 0} (r : rules.Ghosts S State Requ
   pub record HasRead (log : Log D) (state : State) (records : List Rec) : Type 0 where
     pub journal : IsReading g log (map r.spelling records)
     pub each : All r.is_record records
+    pub meets : Meets r (r.limits_of state) records
     pub stood : r.stands state records
 
   -- all records of the journal were read
   pub record HasAll (log : Log D) (state : State) (records : List Rec) : Type 0 where
     pub journal : Holds g log (map r.spelling records)
     pub each : All r.is_record records
+    pub meets : Meets r (r.limits_of state) records
     pub stood : r.stands state records
 
   -- where the disk stands for records that begin with these, the next one is this

@@ -1,5 +1,5 @@
 -- What a contract sees of a node.
-use Rattle.std.specs.Prelude.{◌≡◌, ℕ, length, Option, Some, None}
+use Rattle.std.specs.Prelude.{◌≡◌, length, Option, Some, None}
 use Rattle.pv_journal.specs.Log.{Log}
 use Rattle.pv_journal.specs.declared.journal.Phase.{Phase}
 use Rattle.pv_journal.specs.declared.journal.Phase.TheVariants.{Resting, InHand}

@@ -1,5 +1,5 @@
 -- Which records an image, a disk and a node stand for.
-use Rattle.std.specs.Prelude.{◌≡◌, ◌⊎◌, ℕ, List, [], ◌∷◌, ◌++◌, length, map, All, Option, Some, None}
+use Rattle.std.specs.Prelude.{◌≡◌, ◌⊎◌, ℕ, ◌≤◌, List, [], ◌∷◌, ◌++◌, length, map, All, Option, Some, None}
 use Rattle.pv_outside.specs.declared.disk.Disk as disk
 use Rattle.pv_outside.specs.declared.limits.Limits.{Limits}
 use Rattle.pv_journal.specs.Text.{Spells}
@@ -24,6 +24,16 @@ module _ {S State Request Rec Reply : Type 0} (r : rules.Ghosts S State Request 
   EachHasRoom limits records = (before behind : List Rec) (rec : Rec) (state : State) → records ≡ before ++ rec ∷ behind
       → r.stands state before → r.limits_of state ≡ limits → r.fits state rec
 
+  -- The records meet these limits: there are no more than these, and each had room.
+  pub record Meets (limits : Limits) (records : List Rec) : Type 0 where
+    pub count : length records ≤ limits.records
+    pub room : EachHasRoom limits records
+
+  -- the records meet these limits, also with the one that is in hand
+  abbrev pub MeetsBoth : Limits → List Rec → Option Rec → Type 0
+  MeetsBoth limits records None = Meets limits records
+  MeetsBoth limits records (Some rec) = Meets limits records × Meets limits (records ++ rec ∷ [])
+
 module _ {S State Request Rec Reply D F : Type 0} (r : rules.Ghosts S State Request Rec Reply) (g : disk.Ghosts D F) where
   -- the disk tells what it reads, and that stands for these records
   abbrev pub DiskStands : D → List Rec → Type 0
@@ -40,6 +50,7 @@ module _ {S State Request Rec Reply D F : Type 0} (r : rules.Ghosts S State Requ
     pub state : r.stands node.state records
     pub count : node.journal.count ≡ length records
     pub each : All r.is_record records
+    pub meets : MeetsBoth r (r.limits_of node.state) records node.hand
     pub journal : Keeps node.journal records node.hand
     pub images : EachImage g node.journal.disk (StandsEither r records node.hand)
 

@@ -31,3 +31,6 @@ pub use decision::{Decision, Told};
 pub use fault::{AskFault, NodeFault};
 pub use node::Node;
 pub use rules::Rules;
+
+#[cfg(test)]
+mod tests;

@@ -14,7 +14,7 @@ ghost use Rattle.pv_outside.specs.Counts.{Rose};
 ghost use Rattle.pv_outside.specs.Disk.{CallsPassed, HasCalls, IsEndless};
 ghost use Rattle.pv_journal.specs.Log.{IsAtRest};
 ghost use Rattle.pv_journal.specs.Journal.{EachImage, Remains, IsFused};
-ghost use Rattle.pv_node.specs.Standing.{Stands, StandsEither, DiskStands, EachHasRoom, StandsFor};
+ghost use Rattle.pv_node.specs.Standing.{Stands, StandsEither, Meets, MeetsBoth, DiskStands, StandsFor};
 ghost use Rattle.pv_node.specs.Opening.{IsOutside, IsOpenFault, FaultShows, IsDiskFault as IsOpenDiskFault};
 ghost use Rattle.pv_node.specs.Asking.{IsDiskFault, IsSettled, IsUnsettled, IsRefused, CanStore, IsKept, IsTaken, CarriesOut, Asks};
 
@@ -72,7 +72,7 @@ impl<R: Rules, D: Disk> Node<R, D> {
 
         // On a disk that stands for records within the limits, only want of memory or the disk is in the way.
         ensures opens { IfErr result (λ e. (records : List R.Rec) → DiskStands ⟦<R as Rules>⟧ ⟦<D as Disk>⟧ disk records
-            → length records ≤ limits.records → EachHasRoom ⟦<R as Rules>⟧ limits records → IsOutside e.0) }
+            → Meets ⟦<R as Rules>⟧ limits records → IsOutside e.0) }
 
         // Each fault has its cause, and on a disk that tells its bytes these show which it is.
         ensures refused { IfErr result (λ e. IsOpenFault limits e.0) }
@@ -184,9 +184,9 @@ impl<R: Rules, D: Disk> Node<R, D> {
     {
         let size = spell::<R>(&rec, &mut self.body);
         match self.journal.append(&self.body[..size]) {
-            Ok(place) => {
-                R::absorb(&mut self.state, &rec, place);
-                Ok(place)
+            Ok(number) => {
+                R::absorb(&mut self.state, &rec, number);
+                Ok(number)
             }
             Err(AppendFault::Full { count }) => Err(AskFault::Full { count }),
             Err(AppendFault::Disk(failure)) => {
@@ -241,6 +241,7 @@ impl<R: Rules, D: Disk> Node<R, D> {
     pub fn into_disk(self) -> D
         ensures disk { result ≡ self.journal.disk }
         ensures images { (records : List R.Rec) → StandsFor ⟦<R as Rules>⟧ ⟦<D as Disk>⟧ self records → EachImage ⟦<D as Disk>⟧ result (StandsEither ⟦<R as Rules>⟧ records self.hand) }
+        ensures meets { (records : List R.Rec) → StandsFor ⟦<R as Rules>⟧ ⟦<D as Disk>⟧ self records → MeetsBoth ⟦<R as Rules>⟧ (R.limits_of self.state) records self.hand }
     {
         self.journal.into_disk()
     }

@@ -3,7 +3,7 @@ ghost use Rattle.pv_outside.specs.Counts.{Rose};
 ghost use Rattle.pv_outside.specs.Disk.{IsEndless};
 ghost use Rattle.pv_journal.specs.Log.{IsAtRest};
 ghost use Rattle.pv_journal.specs.Journal.{Remains, Holds};
-ghost use Rattle.pv_node.specs.Standing.{DiskStands, EachHasRoom};
+ghost use Rattle.pv_node.specs.Standing.{Meets, DiskStands};
 ghost use Rattle.pv_node.specs.Opening.{fault_of, IsDiskFault, IsOutside, IsOpenFault, IsUnreadable, Begins, StopShows, FaultShows, HasRead, HasAll, ComesNext, AreAll};
 
 use crate::fault::NodeFault;
@@ -65,7 +65,7 @@ fn take_next<R: Rules, D: Disk>(
     // On a disk that stands for records that have room, only want of memory or the disk is in the way.
     ensures opens { IfErr result (λ fault. (records more : List R.Rec) → HasRead ⟦<R as Rules>⟧ ⟦<D as Disk>⟧ journal.old state.old records
         → DiskStands ⟦<R as Rules>⟧ ⟦<D as Disk>⟧ journal.old.disk (records ++ more)
-        → length (records ++ more) ≤ journal.old.limit → EachHasRoom ⟦<R as Rules>⟧ (R.limits_of state.old) (records ++ more) → IsOutside fault) }
+        → Meets ⟦<R as Rules>⟧ (R.limits_of state.old) (records ++ more) → IsOutside fault) }
     ensures known { IfErr result (IsOpenFault (R.limits_of state.old)) }
     ensures shown { IfErr result (λ fault. (records : List R.Rec) → HasRead ⟦<R as Rules>⟧ ⟦<D as Disk>⟧ journal.old state.old records
         → IfSome (D.reads journal.old.disk) (λ text. StopShows ⟦<R as Rules>⟧ (R.limits_of state.old) text records state.old journal.old.gate fault)) }
@@ -74,8 +74,13 @@ fn take_next<R: Rules, D: Disk>(
 {
     let number = journal.count();
     match journal.next(body) {
-        Ok(Some(size)) if absorb_spelled::<R>(state, &body[..size], number) => Ok(true),
-        Ok(Some(_)) => Err(NodeFault::Unreadable { number }),
+        Ok(Some(size)) => {
+            if absorb_spelled::<R>(state, &body[..size], number) {
+                Ok(true)
+            } else {
+                Err(NodeFault::Unreadable { number })
+            }
+        }
         Ok(None) => Ok(false),
         Err(fault) => Err(told_by_node(fault)),
     }
@@ -100,7 +105,7 @@ pub(crate) fn replay<R: Rules, D: Disk>(
     ensures found { OnOk result ((records : List R.Rec) → DiskStands ⟦<R as Rules>⟧ ⟦<D as Disk>⟧ journal.old.disk records
         → HasAll ⟦<R as Rules>⟧ ⟦<D as Disk>⟧ journal.new state.new records) }
     ensures opens { IfErr result (λ fault. (records : List R.Rec) → DiskStands ⟦<R as Rules>⟧ ⟦<D as Disk>⟧ journal.old.disk records
-        → length records ≤ journal.old.limit → EachHasRoom ⟦<R as Rules>⟧ (R.limits_of state.old) records → IsOutside fault) }
+        → Meets ⟦<R as Rules>⟧ (R.limits_of state.old) records → IsOutside fault) }
     ensures known { IfErr result (IsOpenFault (R.limits_of state.old)) }
     ensures shown { IfErr result (λ fault. IfSome (D.reads journal.old.disk) (λ text. FaultShows ⟦<R as Rules>⟧ (R.limits_of state.old) text fault)) }
     ensures failed { IfErr result (λ fault. IsDiskFault fault → Rose (D.faults journal.old.disk) (D.faults journal.new.disk)) }

@@ -97,6 +97,10 @@ pub trait Rules {
         → stands state records → is_record rec → fits state rec → length records < (limits_of state).records
         → stands (after state rec (length records)) (records ++ rec ∷ []) };
 
+    /// States of the same limits that stand for one list have room for the same records.
+    ghost same_room: { (one other : Self.State) (records : List Self.Rec) (rec : Self.Rec)
+        → stands one records → stands other records → limits_of one ≡ limits_of other → fits one rec → fits other rec };
+
     /// The limits of a state stay.
     ghost limits_stay: { (state : Self.State) (rec : Self.Rec) (place : ℕ) → limits_of (after state rec place) ≡ limits_of state };
 }

@@ -1,9 +1,9 @@
-use Rattle.std.proofs.Common.{◌≡◌, ℕ, ◌+◌, ◌≤◌, List, [], ◌∷◌, ◌++◌, length, true, false, IfErr, Ok, Err, refl, sym, ◌∙◌, ap, subst, arith, rules}
+use Rattle.std.proofs.Common.{◌≡◌, ℕ, List, true, false, Ok, sym, ◌∙◌, ap, subst, rules}
 use Rattle.std.proofs.lemmas.Result.{err_from_is_err_and}
 use Rattle.pv_outside.specs.Disk.{IsEndless}
-use Rattle.pv_node.specs.Standing.{DiskStands, EachHasRoom}
+use Rattle.pv_node.specs.Standing.{DiskStands, Meets}
 use Rattle.pv_node.specs.Opening.{HasAll, IsOutside, IsDiskFault}
-use Rattle.pv_node.proofs.Reading.{remains_then, stands_still, goes_on, all_of, fails_outside}
+use Rattle.pv_node.proofs.Reading.{remains_then, goes_on, all_of, fails_outside}
 use Rattle.pv_node.proofs.replay.replay.Goals as goal
 
 pub returns-in_err-take_next-clause-same : goal.returns-in_err-take_next-clause-same
@@ -12,10 +12,10 @@ returns-in_err-take_next-clause-same g c = remains_then g.R.Rules g.D.Disk _ _ _
 pub returns-in_err-take_next-clause-opens : goal.returns-in_err-take_next-clause-opens
 returns-in_err-take_next-clause-opens g c =
     let so_far = c.loop.invariant in
-    let outside : (records : List g.row.R-Rec.Denot) → DiskStands g.R.Rules g.D.Disk c.args.journal.now.disk records → length records ≤ c.args.journal.now.limit
-    → EachHasRoom g.R.Rules (g.R.Rules.limits_of c.args.state.now) records → IsOutside c.in_err-take_next.field-0.0 =
-    λ records stands within room.
-    fails_outside g.R.Rules g.D.Disk c.args.journal.now _ c.args.state.now _ so_far c.in_err-take_next.field-0.0 c.in_err-take_next.ensures.opens records stands within room in
+    let outside : (records : List g.row.R-Rec.Denot) → DiskStands g.R.Rules g.D.Disk c.args.journal.now.disk records
+    → Meets g.R.Rules (g.R.Rules.limits_of c.args.state.now) records → IsOutside c.in_err-take_next.field-0.0 =
+    λ records stands meets.
+    fails_outside g.R.Rules g.D.Disk c.args.journal.now _ c.args.state.now _ so_far c.in_err-take_next.field-0.0 c.in_err-take_next.ensures.opens records stands meets in
     search rules
 
 pub returns-in_err-take_next-clause-passes : goal.returns-in_err-take_next-clause-passes

@@ -1,33 +1,33 @@
-use Rattle.std.proofs.Common.{◌≡◌, ℕ, ◌+◌, ◌<◌, ◌≤◌, List, [], ◌∷◌, ◌++◌, length, map, take, drop, Option, Some, None, Ok, Err, refl, sym, ◌∙◌, ap, subst, arith, rules}
+use Rattle.std.proofs.Common.{◌≡◌, ℕ, ◌<◌, ◌≤◌, List, ◌++◌, length, map, take, drop, refl, sym, ◌∙◌, ap, subst, arith}
 use Rattle.std.proofs.lemmas.Option.{IfSome_then}
 use Rattle.pv_journal.specs.Text.{HasBlock}
-use Rattle.pv_node.specs.Opening.{fault_of, IsOutside, IsUnreadable, HasRead, IsDiskFault}
+use Rattle.pv_node.specs.Opening.{IsOutside, IsUnreadable, IsDiskFault}
 use Rattle.pv_node.proofs.Records.{none_of}
 use Rattle.pv_node.proofs.Reading.{read_count, disk_spells, read_more, next_is, next_fits, only_outside, disk_fault}
 use Rattle.pv_node.proofs.replay.take_next.Goals as goal
 
-pub returns-in-Ok-Some-clause-took : goal.returns-in-Ok-Some-clause-took
-returns-in-Ok-Some-clause-took g c = λ _ records read.
+pub returns-then-absorb_spelled-clause-took : goal.returns-then-absorb_spelled-clause-took
+returns-then-absorb_spelled-clause-took g c = λ _ records read.
     let t = c.absorb_spelled.ensures.took c.if-absorb_spelled.true in
     let at = rw c.in-Ok-Some.field-0-is at c.in-Ok-Some.ensures in
     let below : c.args.journal.now.count < (g.R.Rules.limits_of c.args.state.now).records = omega (arith, at.answer.2, c.requires.limit) in (
       t.0,
-      read_more g.R.Rules g.D.Disk g.met.R.Rules.grows _ _ _ _ records t.0 (take c.in-Ok-Some.size c.next.new.into) read (at.found (map g.R.Rules.spelling records) read.journal) t.1 t.2 t.3
+      read_more g.R.Rules g.D.Disk g.met.R.Rules.grows g.met.R.Rules.same_room g.met.R.Rules.limits_stay _ _ _ _ records t.0 (take c.in-Ok-Some.size c.next.new.into) read (at.found (map g.R.Rules.spelling records) read.journal) t.1 t.2 t.3
           (t.4 ∙ ap (g.R.Rules.after c.args.state.now t.0) c.count-number.ensures.count) below,
       λ more stands.
           let spells = at.spelled (map g.R.Rules.spelling records) (map g.R.Rules.spelling more) read.journal (disk_spells g.R.Rules g.D.Disk _ records more stands) in
           next_is g.R.Rules g.D.Disk g.met.R.Rules.one_meaning _ records more t.0 _ spells.0 stands spells.1 t.1 t.2,
     )
 
-pub returns-in-Ok-Some-2-clause-opens : goal.returns-in-Ok-Some-2-clause-opens
-returns-in-Ok-Some-2-clause-opens g c = λ records more read stands within room.
+pub returns-else-absorb_spelled-clause-opens : goal.returns-else-absorb_spelled-clause-opens
+returns-else-absorb_spelled-clause-opens g c = λ records more read stands meets.
     let at = rw c.in-Ok-Some.field-0-is at c.in-Ok-Some.ensures in
     let spells = at.spelled (map g.R.Rules.spelling records) (map g.R.Rules.spelling more) read.journal (disk_spells g.R.Rules g.D.Disk _ records more stands) in
-    let f = next_fits g.R.Rules g.D.Disk _ _ records more _ spells.0 read.stood stands room spells.1 in
+    let f = next_fits g.R.Rules g.D.Disk _ _ records more _ spells.0 read.stood stands meets.room spells.1 in
     c.absorb_spelled.ensures.refused c.if-absorb_spelled.false f.0 f.1 f.2 f.3
 
-pub returns-in-Ok-Some-2-clause-shown : goal.returns-in-Ok-Some-2-clause-shown
-returns-in-Ok-Some-2-clause-shown g c = λ records read.
+pub returns-else-absorb_spelled-clause-shown : goal.returns-else-absorb_spelled-clause-shown
+returns-else-absorb_spelled-clause-shown g c = λ records read.
     let at = rw c.in-Ok-Some.field-0-is at c.in-Ok-Some.ensures in
     let number : length records ≡ c.count-number.result = sym (read_count g.R.Rules g.D.Disk _ _ records read) ∙ sym c.count-number.ensures.count in
     IfSome_then _ (at.shown (map g.R.Rules.spelling records) read.journal) (λ text has.
@@ -40,13 +40,15 @@ returns-in-Ok-None-clause-ended g c = λ same records read.
       record {
         journal = at.ended refl (map g.R.Rules.spelling records) read.journal;
         each = read.each;
+        meets = read.meets;
         stood = read.stood;
       },
       λ more stands. none_of g.R.Rules.spelling more (at.spelled (map g.R.Rules.spelling records) (map g.R.Rules.spelling more) read.journal (disk_spells g.R.Rules g.D.Disk _ records more stands)),
     )
 
 pub returns-in-Err-clause-opens : goal.returns-in-Err-clause-opens
-returns-in-Err-clause-opens g c = λ records more read stands within room.
+returns-in-Err-clause-opens g c = λ records more read stands meets.
+    let within : length (records ++ more) ≤ c.args.journal.now.limit = omega (arith, meets.count, c.requires.limit) in
     subst IsOutside (sym c.told_by_node.ensures)
     (only_outside g.R.Rules g.D.Disk _ _ records more c.next.new.into c.in-Err.fault read within c.in-Err.ensures.answer
     (c.in-Err.ensures.spelled (map g.R.Rules.spelling records) (map g.R.Rules.spelling more) read.journal (disk_spells g.R.Rules g.D.Disk _ records more stands)))

@@ -1,4 +1,4 @@
-use Rattle.std.proofs.Common.{◌≡◌, ℕ, ◌⊎◌, inl, inr, Option, None, Some, Ok, refl, sym, ◌∙◌, ap, subst, rules}
+use Rattle.std.proofs.Common.{inr, ◌∙◌, ap, subst}
 use Rattle.pv_node.specs.Asking.{CarriesOut}
 use Rattle.pv_node.proofs.Standing.{settled_same}
 use Rattle.pv_node.proofs.node.Node.ask.Goals as goal

@@ -1,4 +1,4 @@
-use Rattle.std.proofs.Common.{◌≡◌, ℕ, ◌≤◌, subst, arith}
+use Rattle.std.proofs.Common.{◌≤◌, subst, arith}
 use Rattle.pv_node.proofs.Standing.{count_within}
 use Rattle.pv_node.proofs.node.Node.count.Goals as goal
 

@@ -1,8 +1,17 @@
-use Rattle.std.proofs.Common.{◌≡◌, ℕ, refl, sym, ◌∙◌, ap, subst, rules}
+use Rattle.std.proofs.Common.{sym, subst, rules}
 use Rattle.pv_journal.specs.Journal.{Remains}
 use Rattle.pv_node.specs.Opening.{IsDiskFault}
+use Rattle.pv_node.proofs.Rooms.{meets_none}
 use Rattle.pv_node.proofs.Reading.{disk_fault, remains_then}
 use Rattle.pv_node.proofs.node.Node.open.Goals as goal
+
+pub replay-requires-clause-reading : goal.replay-requires-clause-reading
+replay-requires-clause-reading g c κs within = record {
+  journal = c.in-Ok-start.ensures.reading;
+  each = search rules;
+  meets = meets_none g.R.Rules (g.R.Rules.limits_of c.in-Ok.state);
+  stood = c.in-Ok.ensures.nothing;
+}
 
 pub returns-in-Err-clause-passes : goal.returns-in-Err-clause-passes
 returns-in-Err-clause-passes g c = λ room endless is.

@@ -1,4 +1,4 @@
-use Rattle.std.proofs.Common.{◌≡◌, ℕ, ◌+◌, ◌<◌, ◌≤◌, List, [], ◌∷◌, ◌++◌, length, map, take, true, Option, None, Some, Result, Ok, Err, IsOk, refl, sym, ◌∙◌, ap, subst, arith, rules}
+use Rattle.std.proofs.Common.{◌≡◌, ◌≤◌, map, true, Option, None, Some, Ok, IsOk, refl, sym, ◌∙◌, ap, subst, arith}
 use Rattle.std.proofs.lemmas.Bool.{false≢true}
 use Rattle.pv_outside.specs.Disk.{IsEndless}
 use Rattle.pv_journal.specs.Log.{most}
@@ -28,5 +28,5 @@ returns-in-Some-true-clause-settled g c =
       records = λ records stands_now.
           let stands = subst (λ v. StandsFor g.R.Rules g.D.Disk v records) (sym c.self.view_is) stands_now in
           let holds = c.settle.ensures.stored stored (map g.R.Rules.spelling records) (g.R.Rules.spelling c.in-Some.rec) (holds_in_hand g.R.Rules g.D.Disk _ records c.in-Some.rec stands was) in
-          gained g.R.Rules g.D.Disk g.met.R.Rules.grows _ c.settle.new.self c.absorb.new.state None c.in-Some.rec records refl stands holds step.1 step.2 absorbed (omega (arith, within, c.self.invariant.limit));
+          gained g.R.Rules g.D.Disk g.met.R.Rules.grows g.met.R.Rules.same_room g.met.R.Rules.limits_stay _ c.settle.new.self c.absorb.new.state None c.in-Some.rec records refl stands holds step.1 step.2 absorbed (omega (arith, within, c.self.invariant.limit));
     }

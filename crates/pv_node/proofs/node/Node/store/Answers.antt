@@ -1,8 +1,8 @@
-use Rattle.std.proofs.Common.{◌≡◌, ℕ, ◌+◌, ◌<◌, ◌⊎◌, List, [], ◌∷◌, ◌++◌, length, map, take, Option, None, Some, refl, sym, ◌∙◌, ap, subst, arith, rules}
+use Rattle.std.proofs.Common.{◌≡◌, ℕ, ◌<◌, ◌⊎◌, List, [], ◌∷◌, ◌++◌, map, None, refl, sym, ◌∙◌, ap, subst, arith}
 use Rattle.pv_outside.specs.Disk.{IsEndless, CallsPassed}
-use Rattle.pv_journal.specs.Journal.{EachImage, Holds}
+use Rattle.pv_journal.specs.Journal.{EachImage, Holds, HoldsInHand}
 use Rattle.pv_node.specs.Standing.{Stands, StandsFor}
-use Rattle.pv_node.proofs.Standing.{gained, holds_at_rest, images_stand}
+use Rattle.pv_node.proofs.Standing.{gained, holds_at_rest, images_stand, meets_alone, taken}
 use Rattle.pv_node.proofs.node.Node.store.Goals as goal
 
 pub returns-in-Ok-clause-stored : goal.returns-in-Ok-clause-stored
@@ -18,7 +18,7 @@ returns-in-Ok-clause-stored g c =
       records = λ records stands_now.
           let stands = subst (λ v. StandsFor g.R.Rules g.D.Disk v records) (sym c.self.view_is) stands_now in
           let holds = c.in-Ok.ensures.stored (map g.R.Rules.spelling records) (holds_at_rest g.R.Rules g.D.Disk _ records stands none) in
-          gained g.R.Rules g.D.Disk g.met.R.Rules.grows _ c.append.new.self c.absorb.new.state c.self.inside.hand c.args.rec records none stands
+          gained g.R.Rules g.D.Disk g.met.R.Rules.grows g.met.R.Rules.same_room g.met.R.Rules.limits_stay _ c.append.new.self c.absorb.new.state c.self.inside.hand c.args.rec records none stands
           (subst (λ (b : List ℕ). Holds g.D.Disk c.append.new.self (map g.R.Rules.spelling records ++ b ∷ [])) c.spell-size.ensures.spelled holds)
           c.requires.spelled (subst (λ v. g.R.Rules.fits v.state c.args.rec) (sym c.self.view_is) c.requires.room) absorbed room;
     }
@@ -36,3 +36,20 @@ returns-in-Err-Disk-clause-early g c = λ records stands_now.
     let early = c.in-Err-Disk.ensures.early (map g.R.Rules.spelling records) (holds_at_rest g.R.Rules g.D.Disk _ records stands none) in
     subst (λ v. CallsPassed 2 (g.D.Disk.clock v.journal.disk) (g.D.Disk.clock c.append.new.self.disk) ⊎ EachImage g.D.Disk c.append.new.self.disk (λ image. Stands g.R.Rules image records)) c.self.view_is
     (images_stand g.R.Rules g.D.Disk c.append.new.self.disk records stands.each early)
+
+pub returns-in-Err-Disk-clause-in_hand : goal.returns-in-Err-Disk-clause-in_hand
+returns-in-Err-Disk-clause-in_hand g c = λ _.
+    let none : c.self.inside.hand ≡ None = ap (λ v. v.hand) c.self.view_is ∙ c.requires.at_rest in
+    let at = rw c.in-Err-Disk.field-0-is at c.in-Err-Disk.ensures in
+    record {
+      hand = refl;
+      state = ap (λ v. v.state) c.self.view_is;
+      records = λ records stands_now.
+          let stands = subst (λ v. StandsFor g.R.Rules g.D.Disk v records) (sym c.self.view_is) stands_now in
+          let holds = at.in_hand tt (map g.R.Rules.spelling records) (holds_at_rest g.R.Rules g.D.Disk _ records stands none) in
+          let meets = meets_alone g.R.Rules g.D.Disk _ records _ stands.meets in
+          let below : c.self.inside.journal.count < (g.R.Rules.limits_of c.self.inside.state).records = omega (arith, at.full, c.self.invariant.limit, stands.count, meets.count) in
+          taken g.R.Rules g.D.Disk g.met.R.Rules.same_room _ c.append.new.self c.args.rec records stands
+          (subst (λ (b : List ℕ). HoldsInHand g.D.Disk c.append.new.self (map g.R.Rules.spelling records) b) c.spell-size.ensures.spelled holds)
+          c.requires.spelled (subst (λ v. g.R.Rules.fits v.state c.args.rec) (sym c.self.view_is) c.requires.room) below;
+    }

@@ -1,0 +1,265 @@
+ghost use Rattle.std.specs.Prelude.{◌≡◌, ◌+◌, ◌<◌, length, ◌∷◌, []};
+ghost use Rattle.pv_node.specs.Counting.{judged, sized, one_meaning, stored, counts_more, has_room_too};
+ghost use Rattle.std.proofs.Common.{refl, sym, ap, ◌∙◌};
+
+use super::*;
+use pv_fields::{NoRoom, Out};
+use pv_journal::format;
+use pv_memory::MemDisk;
+use pv_outside::{Disk, Limits};
+use std::alloc::{AllocError, Global};
+use std::test::Fail;
+
+/// Rules that store a byte below 128 while there is room for it, and answer how many there were.
+struct Counting;
+
+/// How many bytes were stored, and for how many there is room.
+#[derive(Drop)]
+struct Count {
+    limits: Limits,
+    count: u64,
+}
+
+impl Rules for Counting {
+    type State = Count;
+
+    type Request = u8;
+
+    type Rec = u8;
+
+    type Reply = u64;
+
+    ghost limits_of = { λ state. state.limits };
+
+    ghost stands = { λ state records. state.count ≡ length records };
+
+    ghost after = { λ state rec place. record state { count = state.count + 1 } };
+
+    ghost fits = { λ state rec. state.count < state.limits.frames };
+
+    ghost is_request = { λ request. Unit {0} };
+
+    ghost judgement = { λ state request. judged state.limits.frames state.count request };
+
+    ghost is_record = { λ rec. rec < 128 };
+
+    ghost spelling = { λ rec. rec ∷ [] };
+
+    ghost sized = { sized };
+
+    ghost one_meaning = { one_meaning };
+
+    ghost stored = { λ state request rec reply is judged. stored state.limits.frames state.count request rec reply judged };
+
+    ghost grows = { λ state records rec stands is room within. counts_more state.count records rec stands };
+
+    ghost same_room = { λ one other records rec stands same limits room. has_room_too one.count other.count one.limits.frames other.limits.frames (stands ∙ sym same) (ap (λ l. l.frames) limits) room };
+
+    ghost limits_stay = { λ state rec place. refl };
+
+    fn open(_alloc: Global, limits: Limits) -> Result<Count, AllocError> {
+        Ok(Count { limits, count: 0 })
+    }
+
+    fn decide(state: &Count, request: &u8) -> Decision<u8, u64> {
+        if *request < 128 && state.count < state.limits.frames as u64 {
+            Decision::Store(*request, state.count)
+        } else {
+            Decision::Answer(state.count)
+        }
+    }
+
+    fn has_room(state: &Count, _rec: &u8) -> bool {
+        state.count < state.limits.frames as u64
+    }
+
+    fn absorb(state: &mut Count, _rec: &u8, _place: u64) {
+        state.count += 1;
+    }
+
+    fn encode(rec: &u8, out: &mut Out) -> Result<(), NoRoom> {
+        out.u8(*rec)
+    }
+
+    fn decode(bytes: &[u8]) -> Option<u8> {
+        match bytes {
+            [rec] if *rec < 128 => Some(*rec),
+            _ => None,
+        }
+    }
+}
+
+/// Room for three bytes, and for as many records.
+const LIMITS: Limits = Limits {
+    frames: 3,
+    records: 3,
+};
+
+/// A journal with the records `A` and `B`.
+const TWO: &[u8] = b"PVJOURN1\x01\x00\x01A\x01\x00\x01B\x00";
+
+/// A fault of opening, without the disk's own failure.
+#[derive(Clone, Copy, Debug, PartialEq, Eq)]
+enum Fault {
+    Memory,
+    Disk,
+    NotFormatted([u8; 8]),
+    Broken { at: u64 },
+    TooMany { count: u64 },
+    Unreadable { number: u64 },
+}
+
+fn plain(fault: NodeFault<MemDisk>) -> Fault {
+    match fault {
+        NodeFault::Memory => Fault::Memory,
+        NodeFault::Disk(_) => Fault::Disk,
+        NodeFault::NotFormatted(first) => Fault::NotFormatted(first),
+        NodeFault::Broken { at } => Fault::Broken { at },
+        NodeFault::TooMany { count } => Fault::TooMany { count },
+        NodeFault::Unreadable { number } => Fault::Unreadable { number },
+    }
+}
+
+/// A node over such a disk, or why it is not opened.
+fn open(alloc: Global, disk: MemDisk, limits: Limits) -> Result<Node<Counting, MemDisk>, Fault> {
+    match Node::open(alloc, disk, limits) {
+        Ok(node) => Ok(node),
+        Err((fault, _)) => Err(plain(fault)),
+    }
+}
+
+/// A disk of these bytes, all of them synced, of which the calls of these numbers fail: the first two
+/// were made, and opening a node over it makes four more where it has no records.
+fn disk_of(alloc: Global, bytes: &[u8], fails: &[u64]) -> Result<MemDisk, Fail> {
+    let mut disk = MemDisk::new(alloc, 10_000, fails)?;
+    disk.write(0, bytes)?;
+    disk.sync()?;
+    Ok(disk)
+}
+
+/// A node without records, whose disk is to fail at the calls of these numbers.
+fn empty(alloc: Global, fails: &[u64]) -> Result<Node<Counting, MemDisk>, Fail> {
+    let disk = disk_of(alloc, b"PVJOURN1\x00", fails)?;
+    open(alloc, disk, LIMITS).map_err(|_| Fail::from("not opened"))
+}
+
+/// The reply, and the place of the record that was stored; or the count at which the node is full.
+fn ask(node: &mut Node<Counting, MemDisk>, byte: u8) -> Result<(u64, Option<u64>), Option<u64>> {
+    match node.ask(&byte) {
+        Ok(told) => Ok((told.reply, told.number)),
+        Err(AskFault::Full { count }) => Err(Some(count)),
+        Err(AskFault::Disk(_)) => Err(None),
+    }
+}
+
+#[test]
+fn what_was_stored_is_there_when_the_disk_is_opened_again(rt: HostRuntime) -> Result<(), Fail> {
+    let mut disk = MemDisk::new(rt.alloc(), 10_000, &[])?;
+    format(&mut disk)?;
+    let mut node = open(rt.alloc(), disk, LIMITS).map_err(|_| Fail::from("not opened"))?;
+    assert_eq!(rt; ask(&mut node, 65), Ok((0, Some(0))));
+    assert_eq!(rt; ask(&mut node, 200), Ok((1, None)));
+    assert_eq!(rt; ask(&mut node, 66), Ok((1, Some(1))));
+    assert_eq!(rt; node.state().count, 2);
+    let disk = node.into_disk();
+    assert_eq!(rt; disk.bytes(), TWO);
+    let node = open(rt.alloc(), disk, LIMITS).map_err(|_| Fail::from("not opened"))?;
+    assert_eq!(rt; node.count(), 2);
+    assert_eq!(rt; node.state().count, 2);
+    Ok(())
+}
+
+#[test]
+fn a_node_is_full_at_its_limit_and_not_before(rt: HostRuntime) -> Result<(), Fail> {
+    let many = Limits {
+        frames: 9,
+        records: 2,
+    };
+    let disk = disk_of(rt.alloc(), b"PVJOURN1\x00", &[])?;
+    let mut node = open(rt.alloc(), disk, many).map_err(|_| Fail::from("not opened"))?;
+    assert_eq!(rt; ask(&mut node, 65), Ok((0, Some(0))));
+    assert_eq!(rt; ask(&mut node, 66), Ok((1, Some(1))));
+    assert_eq!(rt; ask(&mut node, 67), Err(Some(2)));
+    assert_eq!(rt; ask(&mut node, 200), Ok((2, None)));
+    assert_eq!(rt; node.count(), 2);
+    Ok(())
+}
+
+#[test]
+fn bodies_that_are_no_records_are_unreadable(rt: HostRuntime) -> Result<(), Fail> {
+    let three = b"PVJOURN1\x01\x00\x01A\x01\x00\x01B\x01\x00\x01C\x00";
+    let wide = Limits {
+        frames: 9,
+        records: 2,
+    };
+    let narrow = Limits {
+        frames: 2,
+        records: 9,
+    };
+    let table: [(&[u8], Limits, Fault); 5] = [
+        (&[0; 9], LIMITS, Fault::NotFormatted([0; 8])),
+        (
+            b"PVJOURN1\x01\x00\x02AB\x00",
+            LIMITS,
+            Fault::Unreadable { number: 0 },
+        ),
+        (
+            b"PVJOURN1\x01\x00\x01A\x01\x00\x01\x80\x00",
+            LIMITS,
+            Fault::Unreadable { number: 1 },
+        ),
+        (three, narrow, Fault::Unreadable { number: 2 }),
+        (three, wide, Fault::TooMany { count: 2 }),
+    ];
+    for (bytes, limits, fault) in table {
+        let disk = disk_of(rt.alloc(), bytes, &[])?;
+        let Err(found) = open(rt.alloc(), disk, limits) else {
+            return Err("opened".into());
+        };
+        assert_eq!(rt; found, fault);
+    }
+    Ok(())
+}
+
+#[test]
+fn a_record_in_hand_is_settled_before_the_next_judgement(rt: HostRuntime) -> Result<(), Fail> {
+    // The calls 6 to 9 are those of the append: two writes, each with its sync.
+    for (failing, stored) in [(6, 0), (7, 0), (8, 0), (9, 1)] {
+        let mut node = empty(rt.alloc(), &[failing])?;
+        assert_eq!(rt; ask(&mut node, 65), Err(None), "call {failing} failed");
+        assert_eq!(rt; node.state().count, 0);
+        assert_eq!(rt; ask(&mut node, 66), Ok((stored, Some(stored))));
+        let mut other = empty(rt.alloc(), &[failing])?;
+        assert_eq!(rt; ask(&mut other, 65), Err(None));
+        assert_eq!(rt; other.settle()?, if stored == 1 { Some(65) } else { None });
+        assert_eq!(rt; other.settle()?, None);
+        assert_eq!(rt; other.count(), stored);
+    }
+    Ok(())
+}
+
+#[test]
+fn a_stop_at_each_call_of_an_ask_leaves_the_records_before_or_the_new_one_too(
+    rt: HostRuntime,
+) -> Result<(), Fail> {
+    for calls in 0..5 {
+        // The gate at place 8 becomes 97 in image 7 and 1 in image 103.
+        for (image, opens) in [(0, false), (1, true), (7, false), (103, true)] {
+            let mut node = empty(rt.alloc(), &[])?;
+            node.fuse(calls);
+            let told = ask(&mut node, 65);
+            let mut disk = node.into_disk();
+            disk.crash(image);
+            let mut node = open(rt.alloc(), disk, LIMITS).map_err(|_| Fail::from("not opened"))?;
+            let there = (calls == 4 || calls == 3 && opens) as u64;
+            assert_eq!(rt; told.is_ok(), calls == 4);
+            assert_eq!(rt;
+                node.state().count,
+                there,
+                "image {image} after {calls} calls"
+            );
+            assert_eq!(rt; ask(&mut node, 66), Ok((there, Some(there))));
+        }
+    }
+    Ok(())
+}
