@@ -1,11 +1,13 @@
-ghost use Rattle.std.specs.Prelude.{◌≡◌, ◌==◌, ◌&&◌, ◌≤◌, nat_lt, false, IsErr, None};
+ghost use Rattle.std.specs.Prelude.{◌≡◌, ◌==◌, ◌&&◌, ◌≤◌, nat_lt, false, IsErr, OnOk, None};
+ghost use Rattle.std.specs.Io.KnownBytes.{Appends};
 ghost use Rattle.pv_outside.specs.Counts.{Rose};
+ghost use Rattle.pv_outside.specs.Sink.{Writes};
 
 use pv_outside::{Failed, Sink, Source};
 use std::io::{Read, Write};
 
-/// A reader of the process as a source. It counts its faults and whether it has ended, and tells no
-/// bytes, since nothing is known of what a terminal or a pipe gives.
+/// A reader of the process as a source. It counts its faults and whether it has ended, and tells what is
+/// left where the reader does: a slice does, a terminal and a pipe do not.
 #[derive(Drop)]
 pub struct StandardInput<R: Read + Drop> {
     reader: R,
@@ -34,7 +36,7 @@ impl<R: Read + Drop> Source for StandardInput<R> {
 
     ghost taken = { λ _. None };
 
-    ghost left = { λ _. None };
+    ghost left = { λ s. R.remaining s.reader };
 
     fn read(&mut self, into: &mut [u8]) -> Result<usize, Failed> {
         match self.reader.read(into) {
@@ -57,7 +59,8 @@ fn is_end(count: usize, room: usize) -> bool
     count == 0 && room > 0
 }
 
-/// A writer of the process as a sink. It counts its faults and tells no bytes.
+/// A writer of the process as a sink. It counts its faults and tells no bytes, since after a fault a
+/// writer does not say what it took.
 #[derive(Drop)]
 pub struct StandardOutput<W: Write + Drop> {
     writer: W,
@@ -90,7 +93,14 @@ impl<W: Write + Drop> Sink for StandardOutput<W> {
 
     ghost written = { λ _. None };
 
-    fn write_all(&mut self, bytes: &[u8]) -> Result<(), Failed> {
+    fn write_all(&mut self, bytes: &[u8]) -> Result<(), Failed>
+        ensures written { Writes None None result bytes.now }
+        ensures counted { self.old.faults ≤ self.new.faults }
+        ensures failed { IsErr result → Rose self.old.faults self.new.faults }
+
+        // Where the writer tells what it holds, it was given the bytes.
+        ensures given { OnOk result (Appends (W.contents self.old.writer) (W.contents self.new.writer) bytes.now) }
+    {
         if self.writer.write_all(bytes).is_err() {
             self.faults = self.faults.saturating_add(1);
             return Err(Failed);
