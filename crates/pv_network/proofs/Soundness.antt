@@ -1,12 +1,14 @@
 -- What an event makes of a sound world is sound.
-use Rattle.std.proofs.Common.{◌≡◌, ℕ, zero, suc, ◌+◌, ◌<◌, ◌≤◌, Bool, true, false, cond, not, ◌&&◌, ltb, leb, eqb, List, [], ◌∷◌, ◌++◌, length, Option, Some, None, refl, sym, ap, ◌∙◌, arith, inl, inr}
+use Rattle.std.proofs.Common.{◌≡◌, ℕ, zero, suc, ◌+◌, ◌<◌, ◌≤◌, Bool, true, false, cond, not, ◌&&◌, ltb, leb, eqb, List, [], ◌∷◌, ◌++◌, length, Option, Some, None, take, refl, sym, ap, subst, ◌∙◌, arith, inl, inr}
 use Rattle.std.specs.Prelude.{is_none, slice_get, replicate}
 use Rattle.std.specs.List.{AllByRecursion, list_any}
 use Rattle.std.proofs.lemmas.Bool.{leb-false, eqb-true}
-use Rattle.std.proofs.lemmas.List.{length-append}
+use Rattle.std.proofs.lemmas.List.{length-append, take-append-le}
+use Rattle.std.proofs.Math.Seq.{take-append_seam}
 use Rattle.std.proofs.lemmas.Option.{slice_get_within}
 use Rattle.pv_page.specs.Names.{Name}
 use Rattle.pv_frame.specs.Content.{Content}
+use Rattle.pv_frame.specs.Sound.{IsSound as HasMeaning}
 use Rattle.pv_network.specs.declared.centre.Arrival.{Arrival}
 use Rattle.pv_network.specs.declared.centre.Arrival.TheVariants as arrivals
 use Rattle.pv_network.specs.declared.event.Event.{Event}
@@ -19,8 +21,10 @@ use Rattle.pv_network.specs.Frames.{frame_of_row}
 use Rattle.pv_network.specs.World.{World, Centre, Acknowledged, new_centre, start, centre_at, with_centre}
 use Rattle.pv_network.specs.Step.{is_packets_full, next_edit, with_edit, is_frames_full, seeded, next_number, with_packet, packed, sent_number, sent, arrival_of, with_acknowledgement, with_taken, arrived, delivered_packet, delivered, happens, after}
 use Rattle.pv_network.specs.OneList.{IsKept, receipt, receipts_from, OneList}
+use Rattle.pv_network.specs.Run.{MayFollow, IsRun, PutsCells}
 use Rattle.pv_network.specs.Sound.{IsGenuine, IsSoundCentre, IsSound}
 use Rattle.pv_network.proofs.Counts.{none-frame_at, frame_count-push, last_number-run}
+use Rattle.pv_network.proofs.Framing.{IsSound-frame_of_row}
 use Rattle.pv_network.proofs.Lists.{all_push, all_set, all_at, all_get, all_weaken, get_front, get_push, get_last}
 
 -- what a test chooses is sound where each side is
@@ -31,7 +35,7 @@ choice false x y here there = there refl
 -- ---- a centre
 
 sound_new : (edits : List Record) → IsSoundCentre edits new_centre
-sound_new edits = record { within = omega arith; packets = tt; acknowledged = tt }
+sound_new edits = record { within = omega arith; packets = tt; acknowledged = tt; heard = omega arith }
 
 pub sound_at : (w : World) (c : ℕ) → IsSound w → IsSoundCentre w.edits (centre_at w c)
 sound_at w c sound = all_at (IsSoundCentre w.edits) w.centres c new_centre sound.centres (sound_new w.edits)
@@ -40,6 +44,7 @@ sound_at w c sound = all_at (IsSoundCentre w.edits) w.centres c new_centre sound
 sound_with : (w : World) (c : ℕ) (centre : Centre) → IsSound w → IsSoundCentre w.edits centre → IsSound (with_centre w c centre)
 sound_with w c centre sound here = record {
   run = sound.run;
+  numbered = sound.numbered;
   records = sound.records;
   frames = sound.frames;
   acknowledged = sound.acknowledged;
@@ -61,14 +66,33 @@ centre_longer edits more centre sound = record {
   within = omega (arith, sound.within, length-append edits more);
   packets = all_weaken (IsGenuine edits) (IsGenuine (edits ++ more)) (genuine_longer edits more) centre.down sound.packets;
   acknowledged = sound.acknowledged;
+  heard = sound.heard;
 }
 
-run_push : (edits : List Record) (edit : Record) → IsNumbered edits → edit.editor ≡ OPERATOR → edit.number ≡ length edits + 1 → IsNumbered (edits ++ edit ∷ [])
-run_push edits edit run editor number place found is =
+numbered_push : (edits : List Record) (edit : Record) → IsNumbered edits → edit.editor ≡ OPERATOR → edit.number ≡ length edits + 1 → IsNumbered (edits ++ edit ∷ [])
+numbered_push edits edit run editor number place found is =
     elim (get_push edits edit place found is) [
       | inl before ↦ run place found before
       | inr here ↦ (ap (λ (e : Record). e.editor) (sym here.1) ∙ editor, ap (λ (e : Record). e.number) (sym here.1) ∙ number ∙ ap (λ (n : ℕ). n + 1) (sym here.0))
     ]
+
+-- a list that is one record longer, which may follow, is a run still
+run_push : (frames records : ℕ) (edits : List Record) (edit : Record) → IsRun frames records edits → MayFollow frames records edits edit → IsRun frames records (edits ++ edit ∷ [])
+run_push frames records edits edit run follows place found is =
+    elim (get_push edits edit place found is) [
+      | inl before ↦
+          let within : place ≤ length edits = omega (arith, slice_get_within edits place found before) in
+          subst (λ (front : List Record). MayFollow frames records front found) (sym (take-append-le place edits (edit ∷ []) within)) (run place found before)
+      | inr here ↦
+          let front : take place (edits ++ edit ∷ []) ≡ edits = ap (λ (n : ℕ). take n (edits ++ edit ∷ [])) here.0 ∙ take-append_seam edits (edit ∷ []) in
+          subst (λ (last : Record). MayFollow frames records (take place (edits ++ edit ∷ [])) last) here.1
+          (subst (λ (front : List Record). MayFollow frames records front edit) (sym front) follows)
+    ]
+
+-- there is room for the frame of a new name where there are fewer than may be
+room_for : (edits : List Record) (name : Name) (limit : ℕ) → (is_none (frame_at edits name) && leb limit (frame_count edits)) ≡ false → frame_at edits name ≡ None → frame_count edits < limit
+room_for edits name limit room new =
+    leb-false limit (frame_count edits) (ap (λ (frame : Option Content). is_none frame && leb limit (frame_count edits)) (sym new) ∙ room)
 
 -- a new name may have a frame where there are fewer than may
 frames_push : (edits : List Record) (edit : Record) (limit : ℕ) → frame_count edits ≤ limit → (is_none (frame_at edits edit.name) && leb limit (frame_count edits)) ≡ false → frame_count (edits ++ edit ∷ []) ≤ limit
@@ -86,12 +110,19 @@ receipts-push place [] edit = ap (λ (n : ℕ). receipt edit n ∷ []) (omega ar
 receipts-push place (first ∷ later) edit =
     ap (λ (l : List Acknowledged). receipt first place ∷ l) (receipts-push (place + 1) later edit ∙ ap (λ (n : ℕ). receipts_from (place + 1) later ++ receipt edit n ∷ []) (omega arith))
 
-sound_edit : (w : World) (name : Name) (frame : Content) → IsSound w → is_frames_full w name ≡ false → leb w.record_limit (length w.edits) ≡ false → IsSound (with_edit w (next_edit w name frame))
-sound_edit w name frame sound frames records =
+sound_edit : (w : World) (name : Name) (frame : Content) → HasMeaning frame → IsSound w → is_frames_full w name ≡ false → leb w.record_limit (length w.edits) ≡ false → IsSound (with_edit w (next_edit w name frame))
+sound_edit w name frame meaning sound frames records =
     let edit = next_edit w name frame in
-    let number : edit.number ≡ length w.edits + 1 = ap (λ (n : ℕ). n + 1) (last_number-run w.edits sound.run) in
+    let number : edit.number ≡ length w.edits + 1 = ap (λ (n : ℕ). n + 1) (last_number-run w.edits sound.numbered) in
     record {
-      run = run_push w.edits edit sound.run refl number;
+      run = run_push w.frame_limit w.record_limit w.edits edit sound.run (record {
+        editor = refl;
+        number = refl;
+        meaning = meaning;
+        frame_room = room_for w.edits name w.frame_limit frames;
+        record_room = leb-false w.record_limit (length w.edits) records;
+      });
+      numbered = numbered_push w.edits edit sound.numbered refl number;
       records = omega (arith, leb-false w.record_limit (length w.edits) records, length-append w.edits (edit ∷ []));
       frames = frames_push w.edits edit w.frame_limit sound.frames frames;
       acknowledged = all_push (IsKept (w.edits ++ edit ∷ [])) w.acknowledged (record { editor = edit.editor; number = edit.number; place = length w.edits })
@@ -102,10 +133,10 @@ sound_edit w name frame sound frames records =
       centres = all_weaken (IsSoundCentre w.edits) (IsSoundCentre (w.edits ++ edit ∷ [])) (centre_longer w.edits (edit ∷ [])) w.centres sound.centres;
     }
 
-pub sound_seeded : (w : World) (name : Name) (frame : Content) → IsSound w → IsSound (seeded w name frame).0
-sound_seeded w name frame sound =
+pub sound_seeded : (w : World) (name : Name) (frame : Content) → HasMeaning frame → IsSound w → IsSound (seeded w name frame).0
+sound_seeded w name frame meaning sound =
     choice (is_frames_full w name) _ _ (λ _. sound) (λ frames.
-    choice (leb w.record_limit (length w.edits)) _ _ (λ _. sound) (λ records. sound_edit w name frame sound frames records))
+    choice (leb w.record_limit (length w.edits)) _ _ (λ _. sound) (λ records. sound_edit w name frame meaning sound frames records))
 
 -- ---- send
 
@@ -116,6 +147,7 @@ sound_packet w c number edit sound is =
       within = here.within;
       packets = all_push (IsGenuine w.edits) (centre_at w c).down (record { number = number; edit = edit }) here.packets is;
       acknowledged = here.acknowledged;
+      heard = here.heard;
     })
 
 pub sound_sent : (w : World) (c : ℕ) → IsSound w → IsSound (sent w c).0
@@ -138,6 +170,7 @@ sound_acknowledged w c sound =
       within = here.within;
       packets = here.packets;
       acknowledged = all_push (λ n. n ≤ (centre_at w c).number) (centre_at w c).up (centre_at w c).number here.acknowledged (omega arith);
+      heard = here.heard;
     }))
 
 -- the record that comes next is one of the list's
@@ -148,6 +181,7 @@ sound_taken w c packet sound is next =
       within = omega (arith, slice_get_within w.edits packet.number packet.edit is, next);
       packets = here.packets;
       acknowledged = all_weaken (λ n. n ≤ (centre_at w c).number) (λ n. n ≤ (centre_at w c).number + 1) (λ n le. omega arith) (centre_at w c).up here.acknowledged;
+      heard = omega (arith, here.heard);
     })
 
 -- what is taken is the next one, and there is room for it
@@ -175,19 +209,19 @@ sound_delivered w c index sound = arrives (slice_get (centre_at w c).down index)
 
 -- ---- all
 
-pub sound_happens : (w : World) (event : Event) → IsSound w → IsSound (happens w event).0
-sound_happens w (Seed name row) sound = sound_seeded w name (frame_of_row row) sound
-sound_happens w (Send centre) sound = sound_sent w centre sound
-sound_happens w (Deliver centre index) sound = sound_delivered w centre index sound
-sound_happens w (View centre name) sound = sound
+pub sound_happens : (w : World) (event : Event) → PutsCells event → IsSound w → IsSound (happens w event).0
+sound_happens w (Seed name row) cells sound = sound_seeded w name (frame_of_row row) (IsSound-frame_of_row row cells) sound
+sound_happens w (Send centre) cells sound = sound_sent w centre sound
+sound_happens w (Deliver centre index) cells sound = sound_delivered w centre index sound
+sound_happens w (View centre name) cells sound = sound
 
-pub sound_after : (w : World) (events : List Event) → IsSound w → IsSound (after w events)
-sound_after w [] sound = sound
-sound_after w (event ∷ events) sound = sound_after (happens w event).0 events (sound_happens w event sound)
+pub sound_after : (w : World) (events : List Event) → AllByRecursion PutsCells events → IsSound w → IsSound (after w events)
+sound_after w [] cells sound = sound
+sound_after w (event ∷ events) cells sound = sound_after (happens w event).0 events cells.1 (sound_happens w event cells.0 sound)
 
 -- the start is sound
 pub sound_start : (centres frames records : ℕ) → IsSound (start centres frames records)
-sound_start centres frames records = record { run = λ place edit is. absurd cc; records = omega arith; frames = omega arith; acknowledged = tt; once = refl; centres = new_ones centres }
+sound_start centres frames records = record { run = λ place edit is. absurd cc; numbered = λ place edit is. absurd cc; records = omega arith; frames = omega arith; acknowledged = tt; once = refl; centres = new_ones centres }
   where
     new_ones : (n : ℕ) → AllByRecursion (IsSoundCentre []) (replicate n new_centre)
     new_ones zero = tt
@@ -196,7 +230,8 @@ sound_start centres frames records = record { run = λ place edit is. absurd cc;
 -- a sound world has one list
 pub one_list : (w : World) → IsSound w → OneList w
 one_list w sound = record {
-  numbered = sound.run;
+  run = sound.run;
+  numbered = sound.numbered;
   kept = sound.acknowledged;
   once = sound.once;
   fronts = all_weaken (IsSoundCentre w.edits) (λ centre. centre.number ≤ length w.edits) (λ centre here. here.within) w.centres sound.centres;

@@ -4,6 +4,7 @@ pub mod Frames
 pub mod Listing
 pub mod OneList
 pub mod Replies
+pub mod Run
 pub mod Sound
 pub mod Standing
 pub mod Step

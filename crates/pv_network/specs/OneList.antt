@@ -4,6 +4,7 @@ use Rattle.std.specs.List.{AllByRecursion}
 use Rattle.pv_network.specs.declared.record.Record.{Record}
 use Rattle.pv_network.specs.World.{World, Acknowledged}
 use Rattle.pv_network.specs.Edits.{IsNumbered}
+use Rattle.pv_network.specs.Run.{IsRun}
 
 -- the place holds the editor's record of this number
 abbrev pub IsKept : List Record → Acknowledged → Type 0
@@ -18,9 +19,11 @@ abbrev pub receipts_from : ℕ → List Record → List Acknowledged
 receipts_from place [] = []
 receipts_from place (edit ∷ later) = receipt edit place ∷ receipts_from (place + 1) later
 
--- Each editor's records are numbered in order from 1, each acknowledged edit stands at the place that was told, every
--- record was acknowledged once and in order, and each centre has taken a front of the list.
+-- The edit list is a run from nothing within the limits, each editor's records are numbered in order from 1, each
+-- acknowledged edit stands at the place that was told, every record was acknowledged once and in order, and each centre
+-- has taken a front of the list.
 pub record OneList (w : World) : Type 0 where
+  pub run : IsRun w.frame_limit w.record_limit w.edits
   pub numbered : IsNumbered w.edits
   pub kept : AllByRecursion (IsKept w.edits) w.acknowledged
   pub once : w.acknowledged ≡ receipts_from 0 w.edits

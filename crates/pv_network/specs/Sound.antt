@@ -6,22 +6,25 @@ use Rattle.pv_network.specs.declared.record.Record.{Record}
 use Rattle.pv_network.specs.World.{World, Centre}
 use Rattle.pv_network.specs.OneList.{IsKept, receipts_from}
 use Rattle.pv_network.specs.Edits.{IsNumbered, frame_count}
+use Rattle.pv_network.specs.Run.{IsRun}
 
 -- a packet carries the record that the edit list has at its number
 abbrev pub IsGenuine : List Record → Packet → Type 0
 IsGenuine edits packet = slice_get edits packet.number ≡ Some packet.edit
 
 -- a centre has taken no more than there is, and its packets carry the list's records; what went up acknowledges
--- no more than was taken
+-- no more than was taken, and so does what the sending end knows of it
 pub record IsSoundCentre (edits : List Record) (centre : Centre) : Type 0 where
   pub within : centre.number ≤ length edits
   pub packets : AllByRecursion (IsGenuine edits) centre.down
   pub acknowledged : AllByRecursion (λ n. n ≤ centre.number) centre.up
+  pub heard : centre.sending.acknowledged ≤ centre.number
 
 -- The edit list is a run from nothing within the limits, each place that was acknowledged holds that edit, each record
 -- was acknowledged once and in order, and each centre has a front of the list.
 pub record IsSound (w : World) : Type 0 where
-  pub run : IsNumbered w.edits
+  pub run : IsRun w.frame_limit w.record_limit w.edits
+  pub numbered : IsNumbered w.edits
   pub records : length w.edits ≤ w.record_limit
   pub frames : frame_count w.edits ≤ w.frame_limit
   pub acknowledged : AllByRecursion (IsKept w.edits) w.acknowledged

@@ -17,7 +17,7 @@ made c =
 
 pub invariant_of-result : goal.invariant_of-result
 invariant_of-result c =
-    subst IsSound (sym (made c)) (IsSound-frame_of_row c.args.row.now c.requires (subst IsSound c.blank-frame.ensures.blank c.blank-frame.ensures.sound))
+    subst IsSound (sym (made c)) (IsSound-frame_of_row c.args.row.now c.requires)
 
 pub returns : goal.returns
 returns c = made c
