@@ -39,6 +39,15 @@ module _ {D F : Type 0} where
   IsOutside (TooMany count) = ⊥
   IsOutside (Unreadable number) = ⊥
 
+  -- no memory was asked for
+  abbrev pub IsNotMemory : NodeFault D F → Type 0
+  IsNotMemory Memory = ⊥
+  IsNotMemory (Disk failure) = Unit {0}
+  IsNotMemory (NotFormatted kept) = Unit {0}
+  IsNotMemory (Broken at) = Unit {0}
+  IsNotMemory (TooMany count) = Unit {0}
+  IsNotMemory (Unreadable number) = Unit {0}
+
   -- what is known of a fault, whatever the disk tells
   abbrev pub IsOpenFault : Limits → NodeFault D F → Type 0
   IsOpenFault limits Memory = Unit {0}
@@ -70,7 +79,8 @@ module _ {S State Request Rec Reply : Type 0} (r : rules.Ghosts S State Request 
   StopShows limits text records state gate (TooMany count) = (body : List ℕ) × HasBlock (drop gate text) body × (length records ≡ limits.records)
   StopShows limits text records state gate (Unreadable number) = (body : List ℕ) × HasBlock (drop gate text) body × (length records ≡ number) × IsUnreadable state body
 
-  -- The fault, on a disk of these bytes: they do not begin with the mark, or with these records, behind which stands what it tells.
+  -- What the bytes of a disk show, where a fault is told: they do not begin with the mark; or they begin with some records, and what
+  -- stands behind these is what the fault tells.
   abbrev pub FaultShows : {D F : Type 0} → Limits → List ℕ → NodeFault D F → Type 0
   FaultShows limits text Memory = Unit {0}
   FaultShows limits text (Disk failure) = Unit {0}
