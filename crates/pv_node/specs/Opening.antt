@@ -21,14 +21,14 @@ module _ {D F : Type 0} where
   fault_of (JournalBroken at) = Broken at
   fault_of (JournalTooMany count) = TooMany count
 
-  -- a call of the disk failed
-  abbrev pub IsDiskFault : NodeFault D F → Type 0
-  IsDiskFault Memory = ⊥
-  IsDiskFault (Disk failure) = Unit {0}
-  IsDiskFault (NotFormatted kept) = ⊥
-  IsDiskFault (Broken at) = ⊥
-  IsDiskFault (TooMany count) = ⊥
-  IsDiskFault (Unreadable number) = ⊥
+  -- a call of the disk failed in the opening
+  abbrev pub IsOpenDiskFault : NodeFault D F → Type 0
+  IsOpenDiskFault Memory = ⊥
+  IsOpenDiskFault (Disk failure) = Unit {0}
+  IsOpenDiskFault (NotFormatted kept) = ⊥
+  IsOpenDiskFault (Broken at) = ⊥
+  IsOpenDiskFault (TooMany count) = ⊥
+  IsOpenDiskFault (Unreadable number) = ⊥
 
   -- no memory was found, or a call of the disk failed: what stands on the disk has no part in it
   abbrev pub IsOutside : NodeFault D F → Type 0
@@ -53,11 +53,13 @@ module _ {S State Request Rec Reply : Type 0} (r : rules.Ghosts S State Request 
   abbrev pub IsUnreadable : State → List ℕ → Type 0
   IsUnreadable state body = (rec : Rec) → r.is_record rec → r.spelling rec ≡ body → r.fits state rec → ⊥
 
-  -- The bytes begin with these records, for which this state of these limits stands, up to this place.
+  -- The bytes begin with these records, up to this place: they meet these limits, each of them having had room, and this state of
+  -- these limits stands for them.
   pub record Begins (limits : Limits) (text : List ℕ) (records : List Rec) (state : State) (at : ℕ) : Type 0 where
     pub begins : text ≡ front (map r.spelling records) ++ drop at text
     pub ends : at ≡ length (front (map r.spelling records))
     pub each : All r.is_record records
+    pub meets : Meets r limits records
     pub stood : r.stands state records
     pub limited : r.limits_of state ≡ limits
 
@@ -70,7 +72,8 @@ module _ {S State Request Rec Reply : Type 0} (r : rules.Ghosts S State Request 
   StopShows limits text records state gate (TooMany count) = (body : List ℕ) × HasBlock (drop gate text) body × (length records ≡ limits.records)
   StopShows limits text records state gate (Unreadable number) = (body : List ℕ) × HasBlock (drop gate text) body × (length records ≡ number) × IsUnreadable state body
 
-  -- The fault, on a disk of these bytes: they do not begin with the mark, or with these records, behind which stands what it tells.
+  -- What the bytes of a disk show, where a fault is told: they do not begin with the mark; or they begin with some records, and what
+  -- stands behind these is what the fault tells.
   abbrev pub FaultShows : {D F : Type 0} → Limits → List ℕ → NodeFault D F → Type 0
   FaultShows limits text Memory = Unit {0}
   FaultShows limits text (Disk failure) = Unit {0}
