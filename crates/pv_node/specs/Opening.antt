@@ -39,6 +39,15 @@ module _ {D F : Type 0} where
   IsOutside (TooMany count) = ⊥
   IsOutside (Unreadable number) = ⊥
 
+  -- no memory was asked for
+  abbrev pub IsNotMemory : NodeFault D F → Type 0
+  IsNotMemory Memory = ⊥
+  IsNotMemory (Disk failure) = Unit {0}
+  IsNotMemory (NotFormatted kept) = Unit {0}
+  IsNotMemory (Broken at) = Unit {0}
+  IsNotMemory (TooMany count) = Unit {0}
+  IsNotMemory (Unreadable number) = Unit {0}
+
   -- what is known of a fault, whatever the disk tells
   abbrev pub IsOpenFault : Limits → NodeFault D F → Type 0
   IsOpenFault limits Memory = Unit {0}

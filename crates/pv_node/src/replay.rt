@@ -4,7 +4,7 @@ ghost use Rattle.pv_outside.specs.Disk.{IsEndless};
 ghost use Rattle.pv_journal.specs.Log.{IsAtRest};
 ghost use Rattle.pv_journal.specs.Journal.{Remains, Holds};
 ghost use Rattle.pv_node.specs.Standing.{Meets, DiskStands};
-ghost use Rattle.pv_node.specs.Opening.{fault_of, IsOpenDiskFault, IsOutside, IsOpenFault, IsUnreadable, Begins, StopShows, FaultShows, HasRead, HasAll, ComesNext, AreAll};
+ghost use Rattle.pv_node.specs.Opening.{fault_of, IsOpenDiskFault, IsOutside, IsNotMemory, IsOpenFault, IsUnreadable, Begins, StopShows, FaultShows, HasRead, HasAll, ComesNext, AreAll};
 
 use crate::fault::NodeFault;
 use crate::rules::Rules;
@@ -13,7 +13,8 @@ use pv_outside::Disk;
 
 /// A journal's fault, told by a node.
 pub(crate) fn told_by_node<D: Disk>(fault: OpenFault<D>) -> NodeFault<D>
-    ensures { result ≡ fault_of fault }
+    ensures value { result ≡ fault_of fault }
+    ensures no_memory { IsNotMemory result }
 {
     match fault {
         OpenFault::Disk(failure) => NodeFault::Disk(failure),
@@ -66,6 +67,7 @@ fn take_next<R: Rules, D: Disk>(
     ensures opens { IfErr result (λ fault. (records more : List R.Rec) → HasRead ⟦<R as Rules>⟧ ⟦<D as Disk>⟧ journal.old state.old records
         → DiskStands ⟦<R as Rules>⟧ ⟦<D as Disk>⟧ journal.old.disk (records ++ more)
         → Meets ⟦<R as Rules>⟧ (R.limits_of state.old) (records ++ more) → IsOutside fault) }
+    ensures no_memory { IfErr result IsNotMemory }
     ensures known { IfErr result (IsOpenFault (R.limits_of state.old)) }
     ensures shown { IfErr result (λ fault. (records : List R.Rec) → HasRead ⟦<R as Rules>⟧ ⟦<D as Disk>⟧ journal.old state.old records
         → IfSome (D.reads journal.old.disk) (λ text. StopShows ⟦<R as Rules>⟧ (R.limits_of state.old) text records state.old journal.old.gate fault)) }
@@ -106,6 +108,7 @@ pub(crate) fn replay<R: Rules, D: Disk>(
         → HasAll ⟦<R as Rules>⟧ ⟦<D as Disk>⟧ journal.new state.new records) }
     ensures opens { IfErr result (λ fault. (records : List R.Rec) → DiskStands ⟦<R as Rules>⟧ ⟦<D as Disk>⟧ journal.old.disk records
         → Meets ⟦<R as Rules>⟧ (R.limits_of state.old) records → IsOutside fault) }
+    ensures no_memory { IfErr result IsNotMemory }
     ensures known { IfErr result (IsOpenFault (R.limits_of state.old)) }
     ensures shown { IfErr result (λ fault. IfSome (D.reads journal.old.disk) (λ text. FaultShows ⟦<R as Rules>⟧ (R.limits_of state.old) text fault)) }
     ensures failed { IfErr result (λ fault. IsOpenDiskFault fault → Rose (D.faults journal.old.disk) (D.faults journal.new.disk)) }

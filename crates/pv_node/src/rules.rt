@@ -12,7 +12,11 @@ use std::alloc::{AllocError, Global};
 /// What a node does: what its state is, how a request is judged at it, and how a record is spelled.
 ///
 /// The state is what the records make of it, one after the other. An implementation says which lists of
-/// records a state stands for.
+/// records a state stands for, which records have room in it, and what is decided at it; then it proves
+/// the laws at the end. Contracts see a state as its own model says, and what `absorb` leaves is to be a
+/// function of that, so two states that are equal there stay so.
+///
+/// A node takes memory by `open` alone: a state has all its room from then on.
 pub trait Rules {
     /// What the records so far come to.
     type State: Drop;

@@ -49,10 +49,10 @@ returns-in-Ok-None-clause-ended g c = λ same records read.
 pub returns-in-Err-clause-opens : goal.returns-in-Err-clause-opens
 returns-in-Err-clause-opens g c = λ records more read stands meets.
     let within : length (records ++ more) ≤ c.args.journal.now.limit = omega (arith, meets.count, c.requires.limit) in
-    subst IsOutside (sym c.told_by_node.ensures)
+    subst IsOutside (sym c.told_by_node.ensures.value)
     (only_outside g.R.Rules g.D.Disk _ _ records more c.next.new.into c.in-Err.fault read within c.in-Err.ensures.answer
     (c.in-Err.ensures.spelled (map g.R.Rules.spelling records) (map g.R.Rules.spelling more) read.journal (disk_spells g.R.Rules g.D.Disk _ records more stands)))
 
 pub returns-in-Err-clause-passes : goal.returns-in-Err-clause-passes
 returns-in-Err-clause-passes g c = λ room endless is.
-    c.in-Err.ensures.passes room endless (disk_fault g.R.Rules g.D.Disk c.in-Err.fault (subst IsOpenDiskFault c.told_by_node.ensures is))
+    c.in-Err.ensures.passes room endless (disk_fault g.R.Rules g.D.Disk c.in-Err.fault (subst IsOpenDiskFault c.told_by_node.ensures.value is))

@@ -15,7 +15,7 @@ replay-requires-clause-reading g c κs within = record {
 
 pub returns-in-Err-clause-passes : goal.returns-in-Err-clause-passes
 returns-in-Err-clause-passes g c = λ room endless is.
-    c.in-Err.ensures.passes room endless (disk_fault g.R.Rules g.D.Disk c.in-Err.fault (subst IsOpenDiskFault c.told_by_node.ensures is))
+    c.in-Err.ensures.passes room endless (disk_fault g.R.Rules g.D.Disk c.in-Err.fault (subst IsOpenDiskFault c.told_by_node.ensures.value is))
 
 pub returns-in-Err-replay-clause-handed_back : goal.returns-in-Err-replay-clause-handed_back
 returns-in-Err-replay-clause-handed_back g c =
