@@ -1,4 +1,5 @@
 mod Append
+mod Calls
 mod Counted
 mod Crash
 mod Facts

@@ -1,11 +1,16 @@
 -- What a journal holds, over any disk.
-use Rattle.std.specs.Prelude.{◌≡◌, ◌↔◌, ℕ, ◌≤◌, List, ◌++◌, length, drop, All, Some, IsSome, IfSome}
+use Rattle.std.specs.Prelude.{◌≡◌, ◌↔◌, ℕ, ◌+◌, ◌≤◌, List, ◌++◌, length, drop, All, Option, Some, None, IsSome, IfSome}
 use Rattle.std.specs.Option.{option_map}
-use Rattle.pv_outside.specs.Disk.{NoMore, IsEndless, fused}
+use Rattle.pv_outside.specs.Disk.{NoMore, Budget, HasCalls, IsEndless, fused}
 use Rattle.pv_outside.specs.declared.disk.Disk as disk
 use Rattle.pv_journal.specs.Text.{IsBody, front, Spells, SpellsEither}
 use Rattle.pv_journal.specs.Log.{Log, IsStillReading}
 use Rattle.pv_journal.specs.declared.journal.Phase.TheVariants.{Resting, InHand}
+
+-- the disk tells its budget, and n further calls pass and no more
+abbrev pub HasLeft : ℕ → Option Budget → Type 0
+HasLeft n (Some b) = b.left ≡ Some n
+HasLeft n None = ⊥
 
 module _ {D F : Type 0} (g : disk.Ghosts D F) where
   -- where the disk tells what it reads, each image that a crash now may leave has P
@@ -24,11 +29,18 @@ module _ {D F : Type 0} (g : disk.Ghosts D F) where
   abbrev pub IsSynced : D → Type 0
   IsSynced d = IfSome (g.budget d) (λ b. b.unsynced ≡ 0)
 
-  -- nothing was written: the disk reads as before, a crash may leave no further image, and its calls still have no end
+  -- where n calls were left, m still are, and these and the ones that have succeeded since are at most n
+  abbrev pub IsPaid : D → D → Type 0
+  IsPaid old new = (n : ℕ) → HasLeft n (g.budget old) → (m : ℕ) × HasLeft m (g.budget new) × (g.clock new + m ≤ g.clock old + n)
+
+  -- nothing was written: the disk reads as before, a crash may leave no further image, and it tells its room and its calls
+  -- as before, but for the calls that succeeded
   pub record Remains (old new : D) : Type 0 where
     pub reads : g.reads new ≡ g.reads old
     pub images : NoMore (g.may_leave old) (g.may_leave new)
     pub endless : (room : ℕ) → IsEndless room (g.budget old) → IsEndless room (g.budget new)
+    pub told : (room : ℕ) → HasCalls 0 room (g.budget old) → HasCalls 0 room (g.budget new)
+    pub paid : IsPaid old new
     pub counted : g.faults old ≤ g.faults new
 
   -- so many further calls pass, and nothing else has changed

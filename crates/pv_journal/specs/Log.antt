@@ -48,6 +48,12 @@ IsStillReading (Reading end) = Unit {0}
 IsStillReading Resting = ⊥
 IsStillReading (InHand size) = ⊥
 
+-- no further body is read: all were
+abbrev pub IsAllRead : Phase → Type 0
+IsAllRead (Reading end) = ⊥
+IsAllRead Resting = Unit {0}
+IsAllRead (InHand size) = Unit {0}
+
 -- no body is in hand
 abbrev pub IsNoneInHand : Phase → Type 0
 IsNoneInHand (Reading end) = Unit {0}

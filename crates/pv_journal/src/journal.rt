@@ -4,6 +4,8 @@
 //!                 start                 a disk becomes a journal that is reading
 //!   reading    -> reading     next      a body, or a fault
 //!   reading    -> at rest     next      no further body
+//!   at rest    -> at rest     next      None
+//!   in hand    -> in hand     next      None
 //!   at rest    -> at rest     append    Ok, or Full
 //!   at rest    -> in hand     append    a call of the disk failed
 //!   in hand    -> in hand     settle    a call of the disk failed
@@ -14,8 +16,8 @@ ghost use Rattle.std.specs.Option.{option_map};
 ghost use Rattle.pv_outside.specs.Counts.{Rose};
 ghost use Rattle.pv_outside.specs.Disk.{CallsPassed, HasCalls, IsEndless};
 ghost use Rattle.pv_journal.specs.Text.{IsBody, Spells};
-ghost use Rattle.pv_journal.specs.Log.{most, IsAtRest, IsNoneInHand, IsStillReading};
-ghost use Rattle.pv_journal.specs.Journal.{EachImage, DiskSpells, Remains, IsFused, IsReading, Holds, HoldsInHand};
+ghost use Rattle.pv_journal.specs.Log.{most, IsAtRest, IsNoneInHand, IsAllRead, IsStillReading};
+ghost use Rattle.pv_journal.specs.Journal.{EachImage, DiskSpells, IsPaid, Remains, IsFused, IsReading, Holds, HoldsInHand};
 ghost use Rattle.pv_journal.specs.Faults.{IsDiskFault, IsStartFault, StartFaultShows, IsNext, NextShows, NextSpells, IsAppendDiskFault, IsFull};
 
 use crate::block::{Block, MARK, MAX_BLOCK, MAX_BODY, first_block};
@@ -84,20 +86,19 @@ impl<D: Disk> Journal<D> {
     }
 
     /// Reads the next body into the front of `into` and answers its size, or None behind the last one;
-    /// from then on the journal can append. It makes one call of the disk, and none once it is at rest.
+    /// from then on the journal can append. It makes one call of the disk. Once all bodies were read it
+    /// answers None without a call and changes nothing, also while a body is in hand.
     pub fn next(&mut self, into: &mut [u8; MAX_BODY]) -> Result<Option<usize>, OpenFault<D>>
-        requires { IsNoneInHand self.old.phase }
-
         // Each body joins those that were read, and behind the last one these are all.
         ensures found { IfOk result (λ answer. IfSome answer (λ n. (bodies : List (List ℕ)) → IsReading ⟦<D as Disk>⟧ self.old bodies
             → IsReading ⟦<D as Disk>⟧ self.new (bodies ++ take n into.new ∷ []))) }
         ensures goes_on { IfOk result (λ answer. IfSome answer (λ n. IsStillReading self.new.phase)) }
-        ensures at_rest { result ≡ Ok None → IsAtRest self.new }
+        ensures at_rest { result ≡ Ok None → IsNoneInHand self.old.phase → IsAtRest self.new }
         ensures ended { result ≡ Ok None → (bodies : List (List ℕ)) → IsReading ⟦<D as Disk>⟧ self.old bodies → Holds ⟦<D as Disk>⟧ self.new bodies }
         ensures stays { OnErr result (self.new.phase ≡ self.old.phase) }
         ensures kept { OnErr result (self.new ≡ record self.old { disk = self.new.disk }) }
-        ensures rests { IsAtRest self.old → result ≡ Ok None }
-        ensures unchanged { IsAtRest self.old → self.new ≡ self.old }
+        ensures rests { IsAllRead self.old.phase → result ≡ Ok None }
+        ensures unchanged { IsAllRead self.old.phase → self.new ≡ self.old }
         ensures err { OnErr result ((bodies : List (List ℕ)) → IsReading ⟦<D as Disk>⟧ self.old bodies → IsReading ⟦<D as Disk>⟧ self.new bodies) }
         ensures same { Remains ⟦<D as Disk>⟧ self.old.disk self.new.disk }
         ensures limit { self.new.limit ≡ self.old.limit }
@@ -161,7 +162,10 @@ impl<D: Disk> Journal<D> {
         ensures failed { IfErr result (λ fault. IsAppendDiskFault fault → Rose (D.faults self.old.disk) (D.faults self.new.disk)) }
         ensures counted { D.faults self.old.disk ≤ D.faults self.new.disk }
         ensures calls { D.clock self.new.disk ≤ D.clock self.old.disk + 4 }
+        ensures all_four { OnOk result (CallsPassed 4 (D.clock self.old.disk) (D.clock self.new.disk)) }
+        ensures paid { IsPaid ⟦<D as Disk>⟧ self.old.disk self.new.disk }
         ensures endless { (room : ℕ) → IsEndless room (D.budget self.old.disk) → IsEndless room (D.budget self.new.disk) }
+        ensures told { (room : ℕ) → HasCalls 0 room (D.budget self.old.disk) → HasCalls 0 room (D.budget self.new.disk) }
         ensures passes { IfErr result (λ fault. (bodies : List (List ℕ)) → Holds ⟦<D as Disk>⟧ self.old bodies → HasCalls 4 (9 + 2051 * self.old.limit) (D.budget self.old.disk) → IsAppendDiskFault fault → ⊥) }
     {
         let place = self.count;

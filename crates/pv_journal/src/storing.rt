@@ -3,7 +3,7 @@ ghost use Rattle.std.specs.Option.{ForSome};
 ghost use Rattle.pv_outside.specs.Counts.{Rose};
 ghost use Rattle.pv_outside.specs.Disk.{CallsPassed, HasCalls, IsEndless};
 ghost use Rattle.pv_journal.specs.Text.{IsBody, front, Spells, SpellsEither, written_behind, HasClosedGate, MayHaveBody};
-ghost use Rattle.pv_journal.specs.Journal.{EachImage, IsSynced};
+ghost use Rattle.pv_journal.specs.Journal.{EachImage, IsSynced, IsPaid};
 
 use crate::block::MAX_BLOCK;
 use pv_outside::Disk;
@@ -29,8 +29,11 @@ pub(crate) fn store<D: Disk>(disk: &mut D, gate: u64, body: &[u8]) -> Result<(),
 
     ensures synced { OnOk result (IsSynced ⟦<D as Disk>⟧ disk.new) }
     ensures endless { (room : ℕ) → IsEndless room (D.budget disk.old) → IsEndless room (D.budget disk.new) }
+    ensures told { (room : ℕ) → HasCalls 0 room (D.budget disk.old) → HasCalls 0 room (D.budget disk.new) }
     ensures passes { HasCalls 4 (gate + length body.now + 4) (D.budget disk.old) → IsSynced ⟦<D as Disk>⟧ disk.old → IsOk result }
     ensures calls { D.clock disk.new ≤ D.clock disk.old + 4 }
+    ensures all_four { OnOk result (CallsPassed 4 (D.clock disk.old) (D.clock disk.new)) }
+    ensures paid { IsPaid ⟦<D as Disk>⟧ disk.old disk.new }
     ensures counted { D.faults disk.old ≤ D.faults disk.new }
     ensures failed { IsErr result → Rose (D.faults disk.old) (D.faults disk.new) }
 {

@@ -174,6 +174,10 @@ fn settling_tells_what_the_disk_has(rt: HostRuntime) -> Result<(), Fail> {
         let Err(AppendFault::Disk(_)) = journal.append(b"AB") else {
             return Err("no call failed".into());
         };
+        // Nothing is read, and the body stays in hand.
+        let Ok(None) = journal.next(&mut [0; MAX_BODY]) else {
+            return Err("a body was read".into());
+        };
         let Some(is_stored) = journal.settle()? else {
             return Err("nothing was in hand".into());
         };

@@ -79,12 +79,28 @@ module _ {S State Request Rec Reply D F : Type 0} (r : rules.Ghosts S State Requ
   disk_fault (Broken at) is = is
   disk_fault (TooMany count) is = is
 
+  -- a disk that was not called remains
+  pub remains_none : (disk : D) → Remains d disk disk
+  remains_none disk = record {
+    reads = refl;
+    images = λ image left. left;
+    endless = λ room endless. endless;
+    told = λ room told. told;
+    paid = λ n has. (n, has, omega arith);
+    counted = omega arith;
+  }
+
   -- a disk that remains twice remains
   pub remains_then : (first second third : D) → Remains d first second → Remains d second third → Remains d first third
   remains_then first second third a b = record {
     reads = b.reads ∙ a.reads;
     images = λ image left. a.images image (b.images image left);
     endless = λ room endless. b.endless room (a.endless room endless);
+    told = λ room told. b.told room (a.told room told);
+    paid = λ n has.
+        let one = a.paid n has in
+        let two = b.paid one.0 one.1 in
+        (two.0, two.1, omega (arith, one.2, two.2));
     counted = omega (arith, a.counted, b.counted);
   }
 

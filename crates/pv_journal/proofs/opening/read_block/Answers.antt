@@ -1,6 +1,8 @@
-use Rattle.std.proofs.Common.{◌≡◌, arith, IfSome, length, take, drop, ◌++◌}
+use Rattle.std.proofs.Common.{refl, ◌≡◌, arith, IfSome, length, take, drop, ◌++◌}
 use Rattle.std.proofs.lemmas.Option.{IfSome_then}
 use Rattle.std.proofs.lemmas.Grind.{common_steps}
+use Rattle.pv_outside.specs.Disk.{after_call}
+use Rattle.pv_journal.proofs.Calls.{remains_after}
 use Rattle.pv_journal.proofs.Images.{if_both}
 use Rattle.pv_journal.proofs.Reading.{block_read}
 use Rattle.pv_journal.proofs.opening.read_block.Goals as goal
@@ -15,3 +17,11 @@ returns-clause-bytes g c =
     (λ text size r. block_read text c.read.new.into (drop c.min-held.result c.args.into.now) c.args.gate c.min-held.result (omega (arith, c.min-held.ensures)) (omega arith) r)
     c.requires.told read in
     whole
+
+pub returns-in_err-read-clause-same : goal.returns-in_err-read-clause-same
+returns-in_err-read-clause-same g c =
+    remains_after g.D.Disk _ _ c.read.result after_call (λ b. (refl, refl)) c.read.ensures.reads c.read.ensures.images c.read.ensures.budget c.read.ensures.clock c.read.ensures.spent c.read.ensures.counted
+
+pub returns-clause-same : goal.returns-clause-same
+returns-clause-same g c =
+    remains_after g.D.Disk _ _ c.read.result after_call (λ b. (refl, refl)) c.read.ensures.reads c.read.ensures.images c.read.ensures.budget c.read.ensures.clock c.read.ensures.spent c.read.ensures.counted

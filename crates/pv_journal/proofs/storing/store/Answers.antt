@@ -1,14 +1,16 @@
-use Rattle.std.proofs.Common.{inl, inr, ◌≡◌, ℕ, ◌+◌, List, [], ◌∷◌, ◌++◌, length, sym, subst, Option, IfSome}
+use Rattle.std.proofs.Common.{inl, inr, ◌≡◌, ℕ, ◌+◌, List, [], ◌∷◌, ◌++◌, length, refl, sym, subst, Option, IfSome}
 use Rattle.std.proofs.lemmas.Result.{on_ok_weaker}
 use Rattle.std.proofs.lemmas.Option.{IfSome_then}
+use Rattle.pv_outside.specs.Disk.{after_sync, after_write}
 use Rattle.pv_journal.specs.Text.{front, Spells, SpellsEither, HasClosedGate, MayHaveBody}
-use Rattle.pv_journal.specs.Journal.{EachImage}
+use Rattle.pv_journal.specs.Journal.{EachImage, IsPaid}
+use Rattle.pv_journal.proofs.Calls.{paid_call, paid_then}
 use Rattle.pv_journal.proofs.Crash.{IsStaged}
 use Rattle.pv_journal.proofs.Gates.{IsBehind, behind_written, kept_by_torn, may_have, behind_torn, behind_opened, before_closed}
 use Rattle.pv_journal.proofs.Images.{on_ok, on_err, if_map, if_turns, if_told, each_kept, each_synced}
 use Rattle.pv_journal.proofs.Append.{behind_ok, behind_err, behind_text, gate_ok, gate_err, gate_text}
 use Rattle.pv_journal.proofs.storing.store.Goals as goal
-use Rattle.pv_journal.proofs.storing.store.Goals.{In_ok-write, In_ok-sync}
+use Rattle.pv_journal.proofs.storing.store.Goals.{In_ok-write, In_ok-sync, After-write, After-sync, After-write-2}
 use Rattle.pv_journal.proofs.storing.store.Given.{Over}
 
 pub returns-in_err-write-clause-in_hand : goal.returns-in_err-write-clause-in_hand
@@ -85,3 +87,31 @@ returns-clause-next_gate g c = on_ok c.sync-2.result (next_closed g c (behind_cl
 pub returns-clause-same_gate : goal.returns-clause-same_gate
 returns-clause-same_gate g c =
     on_err c.sync-2.result (IfSome_then _ (next_closed g c (behind_closed g (goal.at.returns-clause-same_gate g c).In_ok-write)) (λ text closed. before_closed c.args.gate (length c.args.body.now) text closed))
+
+-- the calls up to each of the four were paid
+paid_write : (g : Over) (c : After-write g) → IsPaid g.D.Disk c.args.disk.now c.write.new.self
+paid_write g c = paid_call g.D.Disk _ _ c.write.result after_write (λ b. (refl, refl)) c.write.ensures.budget c.write.ensures.clock c.write.ensures.spent
+
+paid_sync : (g : Over) (c : After-sync g) → IsPaid g.D.Disk c.args.disk.now c.sync.new.self
+paid_sync g c =
+    let synced = paid_call g.D.Disk _ _ c.sync.result after_sync (λ b. (refl, refl)) c.sync.ensures.budget c.sync.ensures.clock c.sync.ensures.spent in
+    paid_then g.D.Disk _ _ _ (paid_write g (goal.at.After-sync g c).After-write) synced
+
+paid_gate : (g : Over) (c : After-write-2 g) → IsPaid g.D.Disk c.args.disk.now c.write-2.new.self
+paid_gate g c =
+    let written = paid_call g.D.Disk _ _ c.write-2.result after_write (λ b. (refl, refl)) c.write-2.ensures.budget c.write-2.ensures.clock c.write-2.ensures.spent in
+    paid_then g.D.Disk _ _ _ (paid_sync g (goal.at.After-write-2 g c).After-sync) written
+
+pub returns-in_err-write-clause-paid : goal.returns-in_err-write-clause-paid
+returns-in_err-write-clause-paid g c = paid_write g (goal.at.returns-in_err-write-clause-paid g c).After-write
+
+pub returns-in_err-sync-clause-paid : goal.returns-in_err-sync-clause-paid
+returns-in_err-sync-clause-paid g c = paid_sync g (goal.at.returns-in_err-sync-clause-paid g c).After-sync
+
+pub returns-in_err-write-2-clause-paid : goal.returns-in_err-write-2-clause-paid
+returns-in_err-write-2-clause-paid g c = paid_gate g (goal.at.returns-in_err-write-2-clause-paid g c).After-write-2
+
+pub returns-clause-paid : goal.returns-clause-paid
+returns-clause-paid g c =
+    let synced = paid_call g.D.Disk _ _ c.sync-2.result after_sync (λ b. (refl, refl)) c.sync-2.ensures.budget c.sync-2.ensures.clock c.sync-2.ensures.spent in
+    paid_then g.D.Disk _ _ _ (paid_gate g (goal.at.returns-clause-paid g c).After-write-2) synced

@@ -1,10 +1,20 @@
-use Rattle.std.proofs.Common.{◌≡◌, ℕ, List, true, false, Ok, sym, ◌∙◌, ap, subst, rules}
+use Rattle.std.proofs.Common.{◌≡◌, ℕ, List, [], true, false, Ok, refl, sym, ◌∙◌, ap, subst, rules}
 use Rattle.std.proofs.lemmas.Result.{err_from_is_err_and}
 use Rattle.pv_outside.specs.Disk.{IsEndless}
 use Rattle.pv_node.specs.Standing.{DiskStands, Meets}
 use Rattle.pv_node.specs.Opening.{HasAll, IsOutside, IsOpenDiskFault}
-use Rattle.pv_node.proofs.Reading.{remains_then, goes_on, all_of, fails_outside}
+use Rattle.pv_node.proofs.Reading.{remains_none, remains_then, goes_on, all_of, fails_outside}
 use Rattle.pv_node.proofs.replay.replay.Goals as goal
+
+pub loop-init : goal.loop-init
+loop-init g c = record {
+  records = [];
+  read = c.requires.reading;
+  limit = refl;
+  limits = refl;
+  same = remains_none g.R.Rules g.D.Disk _;
+  begins = λ all stands. (all, refl);
+}
 
 pub returns-in_err-take_next-clause-same : goal.returns-in_err-take_next-clause-same
 returns-in_err-take_next-clause-same g c = remains_then g.R.Rules g.D.Disk _ _ _ c.loop.invariant.same c.take_next.ensures.same
