@@ -11,7 +11,7 @@ use Rattle.pv_journal.specs.declared.fault.OpenFault.{OpenFault}
 use Rattle.pv_journal.specs.declared.fault.OpenFault.TheVariants.{Disk, NotFormatted, Broken, TooMany}
 use Rattle.pv_node.specs.declared.rules.Rules as rules
 use Rattle.pv_node.specs.Standing.{DiskStands, EachHasRoom, Meets}
-use Rattle.pv_node.specs.Opening.{fault_of, IsOutside, IsDiskFault, HasRead, ComesNext, AreAll}
+use Rattle.pv_node.specs.Opening.{fault_of, IsOutside, IsOpenDiskFault, HasRead, ComesNext, AreAll}
 use Rattle.pv_node.specs.declared.fault.NodeFault.{NodeFault}
 use Rattle.pv_outside.specs.declared.limits.Limits.{Limits}
 use Rattle.pv_node.proofs.Rooms.{meets_more}
@@ -73,7 +73,7 @@ module _ {S State Request Rec Reply D F : Type 0} (r : rules.Ghosts S State Requ
       absurd (omega (arith, read_count old state records read, known.1, spells, within, length-append records more, length-map more r.spelling))
 
   -- a fault of the disk is told as one
-  pub disk_fault : (fault : OpenFault D F) → IsDiskFault (fault_of fault) → Rattle.pv_journal.specs.Faults.IsDiskFault fault
+  pub disk_fault : (fault : OpenFault D F) → IsOpenDiskFault (fault_of fault) → Rattle.pv_journal.specs.Faults.IsDiskFault fault
   disk_fault (Disk failure) is = tt
   disk_fault (NotFormatted kept) is = is
   disk_fault (Broken at) is = is

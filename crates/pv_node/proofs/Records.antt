@@ -1,5 +1,5 @@
 -- Lists of records and of their spellings.
-use Rattle.std.proofs.Common.{◌≡◌, ℕ, List, [], ◌∷◌, ◌++◌, get_or, map, All, refl, ap}
+use Rattle.std.proofs.Common.{◌≡◌, ℕ, List, [], ◌∷◌, ◌++◌, get_or, map, drop, All, refl, ap}
 use Rattle.std.proofs.lemmas.List.Elements.{All-head, All-tail}
 
 -- what all elements of a list have, the one at the seam has
@@ -17,3 +17,14 @@ first_of f (x ∷ rest) body others e = (x, rest, refl, ap (λ (l : List (List �
 pub none_of : {X : Type 0} (f : X → List ℕ) (more : List X) → map f more ≡ [] → more ≡ []
 none_of f [] e = refl
 none_of f (x ∷ rest) e = cc
+
+-- lists of which each element tells what it is are equal where what they tell is
+pub told_apart : {X : Type 0} (f : X → List ℕ) (P : X → Type 0) → ((x y : X) → P x → P y → f x ≡ f y → x ≡ y)
+    → (one other : List X) → All P one → All P other → map f one ≡ map f other → one ≡ other
+told_apart f P tells [] [] each all e = refl
+told_apart f P tells [] (y ∷ other) each all e = cc
+told_apart f P tells (x ∷ one) [] each all e = cc
+told_apart f P tells (x ∷ one) (y ∷ other) each all e =
+    let first : x ≡ y = tells x y (All-head P x one each) (All-head P y other all) (ap (λ (l : List (List ℕ)). get_or l 0 []) e) in
+    let rest : one ≡ other = told_apart f P tells one other (All-tail P x one each) (All-tail P y other all) (ap (λ (l : List (List ℕ)). drop 1 l) e) in
+    (λ i. first i ∷ rest i)

@@ -1,5 +1,5 @@
 -- What a node answers, and what it stands for then.
-use Rattle.std.specs.Prelude.{◌≡◌, ◌≢◌, ◌⊎◌, ◌<◌, Option, Some, None, Result, Ok, Err}
+use Rattle.std.specs.Prelude.{◌≡◌, ◌≢◌, ◌⊎◌, ℕ, ◌<◌, Option, Some, None, Result, Ok, Err}
 use Rattle.pv_outside.specs.declared.disk.Disk as disk
 use Rattle.pv_node.specs.declared.rules.Rules as rules
 use Rattle.pv_node.specs.declared.decision.Decision.{Decision}
@@ -10,15 +10,15 @@ use Rattle.pv_node.specs.declared.fault.AskFault.TheVariants.{Disk, Full}
 use Rattle.pv_node.specs.Parts.{Parts}
 use Rattle.pv_node.specs.Standing.{KeepsAll, Gains}
 
--- a call of the disk failed
-abbrev pub IsDiskFault : {D F : Type 0} → AskFault D F → Type 0
-IsDiskFault (Disk failure) = Unit {0}
-IsDiskFault (Full count) = ⊥
+-- a call of the disk failed in the ask
+abbrev pub IsAskDiskFault : {D F : Type 0} → AskFault D F → Type 0
+IsAskDiskFault (Disk failure) = Unit {0}
+IsAskDiskFault (Full count) = ⊥
 
 -- the answer is that a call of the disk failed
 abbrev pub FailsOnDisk : {T D F : Type 0} → Result T (AskFault D F) → Type 0
 FailsOnDisk (Ok told) = ⊥
-FailsOnDisk (Err fault) = IsDiskFault fault
+FailsOnDisk (Err fault) = IsAskDiskFault fault
 
 module _ {S State Request Rec Reply : Type 0} (r : rules.Ghosts S State Request Rec Reply) where
   -- a record that is to be stored has a spelling, and has room in this state
@@ -26,14 +26,11 @@ module _ {S State Request Rec Reply : Type 0} (r : rules.Ghosts S State Request 
   CanStore state (Answer reply) = Unit {0}
   CanStore state (Store rec reply) = r.is_record rec × r.fits state rec
 
-  -- there are as many records as the limit
-  abbrev pub IsAtLimit : {D : Type 0} → Parts D State Rec → Type 0
-  IsAtLimit node = node.journal.count ≡ (r.limits_of node.state).records
-
-  -- there are as many records as the limit, which is told, and nothing has changed; or there was room, and a call of the disk failed
-  abbrev pub IsRefused : {D F : Type 0} → Parts D State Rec → Parts D State Rec → AskFault D F → Type 0
-  IsRefused old new (Disk failure) = IsAtLimit old → ⊥
-  IsRefused old new (Full count) = (count ≡ (r.limits_of old.state).records) × IsAtLimit old × (new ≡ old)
+  -- there are so many records, which is the limit, and nothing has changed
+  pub record IsFull {D : Type 0} (old new : Parts D State Rec) (count : ℕ) : Type 0 where
+    pub counted : old.journal.count ≡ count
+    pub limit : count ≡ (r.limits_of old.state).records
+    pub same : new ≡ old
 
 module _ {S State Request Rec Reply D F : Type 0} (r : rules.Ghosts S State Request Rec Reply) (g : disk.Ghosts D F) where
   -- nothing was in hand, or what was is not stored
@@ -55,11 +52,12 @@ module _ {S State Request Rec Reply D F : Type 0} (r : rules.Ghosts S State Requ
   IsSettled old new None = IsNotStored old new
   IsSettled old new (Some rec) = IsStored old new rec
 
-  -- a call of the disk failed in a settling: what was in hand still is, and nothing has changed
+  -- a call of the disk failed in a settling: what was in hand still is, and nothing has changed but the disk
   pub record IsUnsettled (old new : Parts D State Rec) : Type 0 where
     pub was : old.hand ≢ None
     pub hand : new.hand ≡ old.hand
     pub state : new.state ≡ old.state
+    pub journal : new.journal ≡ record old.journal { disk = new.journal.disk }
     pub records : KeepsAll r g old new
 
   -- this record is stored, behind those that there were
@@ -69,18 +67,24 @@ module _ {S State Request Rec Reply D F : Type 0} (r : rules.Ghosts S State Requ
     pub state : new.state ≡ r.after old.state rec old.journal.count
     pub records : Gains r g old new rec
 
-  -- a call of the disk failed while this record was being stored: it is in hand
+  -- there was room, and a call of the disk failed while this record was being stored: it is in hand
   pub record IsTaken (old new : Parts D State Rec) (rec : Rec) : Type 0 where
+    pub room : old.journal.count ≢ (r.limits_of old.state).records
     pub hand : new.hand ≡ Some rec
     pub state : new.state ≡ old.state
     pub records : KeepsAll r g old new
+
+  -- why this record is not stored: a call of the disk failed, or the node is full
+  abbrev pub IsRefused : Parts D State Rec → Parts D State Rec → Rec → AskFault D F → Type 0
+  IsRefused old new rec (Disk failure) = IsTaken old new rec
+  IsRefused old new rec (Full count) = IsFull r old new count
 
   -- what is answered where this was decided, at a node that has nothing in hand: the reply, behind the record that is stored, with
   -- its place; or Full; or a failure of the disk
   abbrev pub CarriesOut : Decision Rec Reply → Parts D State Rec → Parts D State Rec → Result (Told Reply) (AskFault D F) → Type 0
   CarriesOut (Answer reply) old new result = (result ≡ Ok (record { reply = reply; number = None })) × (new ≡ old)
   CarriesOut (Store rec reply) old new (Ok told) = (told ≡ record { reply = reply; number = Some old.journal.count }) × IsKept old new rec
-  CarriesOut (Store rec reply) old new (Err fault) = IsRefused r old new fault × (IsDiskFault fault → IsTaken old new rec)
+  CarriesOut (Store rec reply) old new (Err fault) = IsRefused old new rec fault
 
   -- what an ask answers: a call of the disk failed in the settling; or the node was settled, and what the judgement is then is
   -- carried out

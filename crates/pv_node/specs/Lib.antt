@@ -1,8 +1,8 @@
 pub mod Asking
-pub mod Counting
 pub mod Opening
 pub mod Parts
 pub mod Standing
+pub mod TestRules
 pub use Rattle.pv_journal.specs.Journal
 pub use Rattle.pv_journal.specs.Log
 pub use Rattle.pv_journal.specs.Text

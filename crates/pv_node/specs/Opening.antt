@@ -21,14 +21,14 @@ module _ {D F : Type 0} where
   fault_of (JournalBroken at) = Broken at
   fault_of (JournalTooMany count) = TooMany count
 
-  -- a call of the disk failed
-  abbrev pub IsDiskFault : NodeFault D F → Type 0
-  IsDiskFault Memory = ⊥
-  IsDiskFault (Disk failure) = Unit {0}
-  IsDiskFault (NotFormatted kept) = ⊥
-  IsDiskFault (Broken at) = ⊥
-  IsDiskFault (TooMany count) = ⊥
-  IsDiskFault (Unreadable number) = ⊥
+  -- a call of the disk failed in the opening
+  abbrev pub IsOpenDiskFault : NodeFault D F → Type 0
+  IsOpenDiskFault Memory = ⊥
+  IsOpenDiskFault (Disk failure) = Unit {0}
+  IsOpenDiskFault (NotFormatted kept) = ⊥
+  IsOpenDiskFault (Broken at) = ⊥
+  IsOpenDiskFault (TooMany count) = ⊥
+  IsOpenDiskFault (Unreadable number) = ⊥
 
   -- no memory was found, or a call of the disk failed: what stands on the disk has no part in it
   abbrev pub IsOutside : NodeFault D F → Type 0
@@ -62,11 +62,13 @@ module _ {S State Request Rec Reply : Type 0} (r : rules.Ghosts S State Request 
   abbrev pub IsUnreadable : State → List ℕ → Type 0
   IsUnreadable state body = (rec : Rec) → r.is_record rec → r.spelling rec ≡ body → r.fits state rec → ⊥
 
-  -- The bytes begin with these records, for which this state of these limits stands, up to this place.
+  -- The bytes begin with these records, up to this place: they meet these limits, each of them having had room, and this state of
+  -- these limits stands for them.
   pub record Begins (limits : Limits) (text : List ℕ) (records : List Rec) (state : State) (at : ℕ) : Type 0 where
     pub begins : text ≡ front (map r.spelling records) ++ drop at text
     pub ends : at ≡ length (front (map r.spelling records))
     pub each : All r.is_record records
+    pub meets : Meets r limits records
     pub stood : r.stands state records
     pub limited : r.limits_of state ≡ limits
 

@@ -3,8 +3,9 @@
 //! [`Rules`] say what a state is, how a request is judged at it and how a record is spelled. A [`Node`]
 //! keeps the records of such rules in a journal, and the state that they come to in memory.
 //! [`Node::open`] reads the records of a formatted disk into a state, and takes all the memory that the
-//! node ever needs. [`Node::ask`] settles what is in hand, decides, stores and absorbs, in this order, so
-//! that a stop within any of its calls of the disk leaves the records without the new one or with it.
+//! node ever needs. [`Node::ask`] settles what is in hand, decides, stores and absorbs, in this order.
+//! Wherever a call of the disk fails, what a crash may leave then stands for the records, or for these
+//! with the one in hand.
 //!
 //! ```text
 //! let mut node = Node::<Ledger, _>::open(alloc, disk, limits)?;
@@ -23,12 +24,14 @@
 
 mod decision;
 mod fault;
+mod law;
 mod node;
 mod replay;
 mod rules;
 
 pub use decision::{Decision, Told};
 pub use fault::{AskFault, NodeFault};
+pub use law::image_stands_for_one_list;
 pub use node::Node;
 pub use rules::Rules;
 

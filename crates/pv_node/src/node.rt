@@ -15,8 +15,8 @@ ghost use Rattle.pv_outside.specs.Disk.{CallsPassed, HasCalls, IsEndless};
 ghost use Rattle.pv_journal.specs.Log.{IsAtRest};
 ghost use Rattle.pv_journal.specs.Journal.{EachImage, Remains, IsFused};
 ghost use Rattle.pv_node.specs.Standing.{Stands, StandsEither, Meets, MeetsBoth, DiskStands, StandsFor};
-ghost use Rattle.pv_node.specs.Opening.{IsOutside, IsOpenFault, FaultShows, IsDiskFault as IsOpenDiskFault};
-ghost use Rattle.pv_node.specs.Asking.{IsDiskFault, IsSettled, IsUnsettled, IsRefused, CanStore, IsKept, IsTaken, CarriesOut, Asks};
+ghost use Rattle.pv_node.specs.Opening.{IsOutside, IsOpenFault, FaultShows, IsOpenDiskFault};
+ghost use Rattle.pv_node.specs.Asking.{IsAskDiskFault, IsSettled, IsUnsettled, IsRefused, CanStore, IsKept, IsTaken, CarriesOut, Asks};
 
 use crate::decision::{Decision, Told};
 use crate::fault::{AskFault, NodeFault};
@@ -70,7 +70,7 @@ impl<R: Rules, D: Disk> Node<R, D> {
         ensures limits { IfOk result (λ node. R.limits_of node.state ≡ limits) }
         ensures same { IfOk result (λ node. Remains ⟦<D as Disk>⟧ disk node.journal.disk) }
 
-        // On a disk that stands for records within the limits, only want of memory or the disk is in the way.
+        // On a disk that stands for records within the limits, each of which has room, only want of memory or the disk is in the way.
         ensures opens { IfErr result (λ e. (records : List R.Rec) → DiskStands ⟦<R as Rules>⟧ ⟦<D as Disk>⟧ disk records
             → Meets ⟦<R as Rules>⟧ limits records → IsOutside e.0) }
 
@@ -115,11 +115,12 @@ impl<R: Rules, D: Disk> Node<R, D> {
         ensures early { self.old.hand ≡ None → OnErr result ((records : List R.Rec) → StandsFor ⟦<R as Rules>⟧ ⟦<D as Disk>⟧ self.old records
             → CallsPassed 2 (D.clock self.old.journal.disk) (D.clock self.new.journal.disk) ⊎ EachImage ⟦<D as Disk>⟧ self.new.journal.disk (λ image. Stands ⟦<R as Rules>⟧ image records)) }
 
-        ensures failed { IfErr result (λ fault. IsDiskFault fault → Rose (D.faults self.old.journal.disk) (D.faults self.new.journal.disk)) }
+        ensures failed { IfErr result (λ fault. IsAskDiskFault fault → Rose (D.faults self.old.journal.disk) (D.faults self.new.journal.disk)) }
         ensures counted { D.faults self.old.journal.disk ≤ D.faults self.new.journal.disk }
+        ensures calls { D.clock self.new.journal.disk ≤ D.clock self.old.journal.disk + 6 }
         ensures endless { (room : ℕ) → IsEndless room (D.budget self.old.journal.disk) → IsEndless room (D.budget self.new.journal.disk) }
         ensures passes { IfErr result (λ fault. (records : List R.Rec) → StandsFor ⟦<R as Rules>⟧ ⟦<D as Disk>⟧ self.old records
-            → self.old.hand ≡ None → HasCalls 4 (9 + 2051 * (R.limits_of self.old.state).records) (D.budget self.old.journal.disk) → IsDiskFault fault → ⊥) }
+            → self.old.hand ≡ None → HasCalls 4 (9 + 2051 * (R.limits_of self.old.state).records) (D.budget self.old.journal.disk) → IsAskDiskFault fault → ⊥) }
     {
         match self.settle() {
             Ok(_) => {
@@ -144,11 +145,12 @@ impl<R: Rules, D: Disk> Node<R, D> {
         ensures none_in_hand { OnOk result (self.new.hand ≡ None) }
         ensures limits { R.limits_of self.new.state ≡ R.limits_of self.old.state }
 
-        ensures failed { IfErr result (λ fault. IsDiskFault fault → Rose (D.faults self.old.journal.disk) (D.faults self.new.journal.disk)) }
+        ensures failed { IfErr result (λ fault. IsAskDiskFault fault → Rose (D.faults self.old.journal.disk) (D.faults self.new.journal.disk)) }
         ensures counted { D.faults self.old.journal.disk ≤ D.faults self.new.journal.disk }
+        ensures calls { D.clock self.new.journal.disk ≤ D.clock self.old.journal.disk + 4 }
         ensures endless { (room : ℕ) → IsEndless room (D.budget self.old.journal.disk) → IsEndless room (D.budget self.new.journal.disk) }
         ensures passes { IfErr result (λ fault. (records : List R.Rec) → StandsFor ⟦<R as Rules>⟧ ⟦<D as Disk>⟧ self.old records
-            → HasCalls 4 (9 + 2051 * (R.limits_of self.old.state).records) (D.budget self.old.journal.disk) → IsDiskFault fault → ⊥) }
+            → HasCalls 4 (9 + 2051 * (R.limits_of self.old.state).records) (D.budget self.old.journal.disk) → IsAskDiskFault fault → ⊥) }
     {
         match decision {
             Decision::Answer(reply) => Ok(Told {
@@ -170,17 +172,17 @@ impl<R: Rules, D: Disk> Node<R, D> {
 
         ensures place { IfOk result (λ number. number ≡ self.old.journal.count) }
         ensures stored { OnOk result (IsKept ⟦<R as Rules>⟧ ⟦<D as Disk>⟧ self.old self.new rec) }
-        ensures in_hand { IfErr result (λ fault. IsDiskFault fault → IsTaken ⟦<R as Rules>⟧ ⟦<D as Disk>⟧ self.old self.new rec) }
+        ensures refused { IfErr result (IsRefused ⟦<R as Rules>⟧ ⟦<D as Disk>⟧ self.old self.new rec) }
         ensures early { OnErr result ((records : List R.Rec) → StandsFor ⟦<R as Rules>⟧ ⟦<D as Disk>⟧ self.old records
             → CallsPassed 2 (D.clock self.old.journal.disk) (D.clock self.new.journal.disk) ⊎ EachImage ⟦<D as Disk>⟧ self.new.journal.disk (λ image. Stands ⟦<R as Rules>⟧ image records)) }
-        ensures full { IfErr result (λ fault. IsRefused ⟦<R as Rules>⟧ self.old self.new fault) }
         ensures limits { R.limits_of self.new.state ≡ R.limits_of self.old.state }
 
-        ensures failed { IfErr result (λ fault. IsDiskFault fault → Rose (D.faults self.old.journal.disk) (D.faults self.new.journal.disk)) }
+        ensures failed { IfErr result (λ fault. IsAskDiskFault fault → Rose (D.faults self.old.journal.disk) (D.faults self.new.journal.disk)) }
         ensures counted { D.faults self.old.journal.disk ≤ D.faults self.new.journal.disk }
+        ensures calls { D.clock self.new.journal.disk ≤ D.clock self.old.journal.disk + 4 }
         ensures endless { (room : ℕ) → IsEndless room (D.budget self.old.journal.disk) → IsEndless room (D.budget self.new.journal.disk) }
         ensures passes { IfErr result (λ fault. (records : List R.Rec) → StandsFor ⟦<R as Rules>⟧ ⟦<D as Disk>⟧ self.old records
-            → HasCalls 4 (9 + 2051 * (R.limits_of self.old.state).records) (D.budget self.old.journal.disk) → IsDiskFault fault → ⊥) }
+            → HasCalls 4 (9 + 2051 * (R.limits_of self.old.state).records) (D.budget self.old.journal.disk) → IsAskDiskFault fault → ⊥) }
     {
         let size = spell::<R>(&rec, &mut self.body);
         match self.journal.append(&self.body[..size]) {
@@ -204,6 +206,7 @@ impl<R: Rules, D: Disk> Node<R, D> {
         ensures limits { R.limits_of self.new.state ≡ R.limits_of self.old.state }
         ensures same { Remains ⟦<D as Disk>⟧ self.old.journal.disk self.new.journal.disk }
         ensures failed { IsErr result → Rose (D.faults self.old.journal.disk) (D.faults self.new.journal.disk) }
+        ensures calls { D.clock self.new.journal.disk ≤ D.clock self.old.journal.disk + 2 }
         ensures passes { (room : ℕ) → IsEndless room (D.budget self.old.journal.disk) → IsOk result }
     {
         let Some(rec) = self.hand else {

@@ -4,7 +4,7 @@ ghost use Rattle.pv_outside.specs.Disk.{IsEndless};
 ghost use Rattle.pv_journal.specs.Log.{IsAtRest};
 ghost use Rattle.pv_journal.specs.Journal.{Remains, Holds};
 ghost use Rattle.pv_node.specs.Standing.{Meets, DiskStands};
-ghost use Rattle.pv_node.specs.Opening.{fault_of, IsDiskFault, IsOutside, IsNotMemory, IsOpenFault, IsUnreadable, Begins, StopShows, FaultShows, HasRead, HasAll, ComesNext, AreAll};
+ghost use Rattle.pv_node.specs.Opening.{fault_of, IsOpenDiskFault, IsOutside, IsNotMemory, IsOpenFault, IsUnreadable, Begins, StopShows, FaultShows, HasRead, HasAll, ComesNext, AreAll};
 
 use crate::fault::NodeFault;
 use crate::rules::Rules;
@@ -71,8 +71,8 @@ fn take_next<R: Rules, D: Disk>(
     ensures known { IfErr result (IsOpenFault (R.limits_of state.old)) }
     ensures shown { IfErr result (λ fault. (records : List R.Rec) → HasRead ⟦<R as Rules>⟧ ⟦<D as Disk>⟧ journal.old state.old records
         → IfSome (D.reads journal.old.disk) (λ text. StopShows ⟦<R as Rules>⟧ (R.limits_of state.old) text records state.old journal.old.gate fault)) }
-    ensures failed { IfErr result (λ fault. IsDiskFault fault → Rose (D.faults journal.old.disk) (D.faults journal.new.disk)) }
-    ensures passes { IfErr result (λ fault. (room : ℕ) → IsEndless room (D.budget journal.old.disk) → IsDiskFault fault → ⊥) }
+    ensures failed { IfErr result (λ fault. IsOpenDiskFault fault → Rose (D.faults journal.old.disk) (D.faults journal.new.disk)) }
+    ensures passes { IfErr result (λ fault. (room : ℕ) → IsEndless room (D.budget journal.old.disk) → IsOpenDiskFault fault → ⊥) }
 {
     let number = journal.count();
     match journal.next(body) {
@@ -111,8 +111,8 @@ pub(crate) fn replay<R: Rules, D: Disk>(
     ensures no_memory { IfErr result IsNotMemory }
     ensures known { IfErr result (IsOpenFault (R.limits_of state.old)) }
     ensures shown { IfErr result (λ fault. IfSome (D.reads journal.old.disk) (λ text. FaultShows ⟦<R as Rules>⟧ (R.limits_of state.old) text fault)) }
-    ensures failed { IfErr result (λ fault. IsDiskFault fault → Rose (D.faults journal.old.disk) (D.faults journal.new.disk)) }
-    ensures passes { IfErr result (λ fault. (room : ℕ) → IsEndless room (D.budget journal.old.disk) → IsDiskFault fault → ⊥) }
+    ensures failed { IfErr result (λ fault. IsOpenDiskFault fault → Rose (D.faults journal.old.disk) (D.faults journal.new.disk)) }
+    ensures passes { IfErr result (λ fault. (room : ℕ) → IsEndless room (D.budget journal.old.disk) → IsOpenDiskFault fault → ⊥) }
 {
     while take_next::<R, D>(state, journal, body)? {}
     Ok(())

@@ -105,6 +105,10 @@ pub trait Rules {
     ghost same_room: { (one other : Self.State) (records : List Self.Rec) (rec : Self.Rec)
         → stands one records → stands other records → limits_of one ≡ limits_of other → fits one rec → fits other rec };
 
+    /// They also judge alike.
+    ghost same_judgement: { (one other : Self.State) (records : List Self.Rec) (request : Self.Request)
+        → stands one records → stands other records → limits_of one ≡ limits_of other → is_request request → judgement one request ≡ judgement other request };
+
     /// The limits of a state stay.
     ghost limits_stay: { (state : Self.State) (rec : Self.Rec) (place : ℕ) → limits_of (after state rec place) ≡ limits_of state };
 }

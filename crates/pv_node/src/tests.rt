@@ -1,5 +1,5 @@
 ghost use Rattle.std.specs.Prelude.{◌≡◌, ◌+◌, ◌<◌, length, ◌∷◌, []};
-ghost use Rattle.pv_node.specs.Counting.{judged, sized, one_meaning, stored, counts_more, has_room_too};
+ghost use Rattle.pv_node.specs.TestRules.{judged, sized, one_meaning, stored, counts_more, has_room_too, judged_alike};
 ghost use Rattle.std.proofs.Common.{refl, sym, ap, ◌∙◌};
 
 use super::*;
@@ -54,6 +54,8 @@ impl Rules for Counting {
     ghost grows = { λ state records rec stands is room within. counts_more state.count records rec stands };
 
     ghost same_room = { λ one other records rec stands same limits room. has_room_too one.count other.count one.limits.frames other.limits.frames (stands ∙ sym same) (ap (λ l. l.frames) limits) room };
+
+    ghost same_judgement = { λ one other records request stands same limits is. judged_alike one.count other.count one.limits.frames other.limits.frames request (stands ∙ sym same) (ap (λ l. l.frames) limits) };
 
     ghost limits_stay = { λ state rec place. refl };
 
@@ -186,7 +188,7 @@ fn a_node_is_full_at_its_limit_and_not_before(rt: HostRuntime) -> Result<(), Fai
 }
 
 #[test]
-fn bodies_that_are_no_records_are_unreadable(rt: HostRuntime) -> Result<(), Fail> {
+fn bytes_that_are_no_records_are_told_for_what_they_are(rt: HostRuntime) -> Result<(), Fail> {
     let three = b"PVJOURN1\x01\x00\x01A\x01\x00\x01B\x01\x00\x01C\x00";
     let wide = Limits {
         frames: 9,
@@ -196,8 +198,9 @@ fn bodies_that_are_no_records_are_unreadable(rt: HostRuntime) -> Result<(), Fail
         frames: 2,
         records: 9,
     };
-    let table: [(&[u8], Limits, Fault); 5] = [
+    let table: [(&[u8], Limits, Fault); 6] = [
         (&[0; 9], LIMITS, Fault::NotFormatted([0; 8])),
+        (b"PVJOURN1", LIMITS, Fault::Broken { at: 8 }),
         (
             b"PVJOURN1\x01\x00\x02AB\x00",
             LIMITS,
@@ -217,6 +220,19 @@ fn bodies_that_are_no_records_are_unreadable(rt: HostRuntime) -> Result<(), Fail
             return Err("opened".into());
         };
         assert_eq!(rt; found, fault);
+    }
+    Ok(())
+}
+
+#[test]
+fn a_disk_that_fails_while_it_is_read_is_told(rt: HostRuntime) -> Result<(), Fail> {
+    // The calls 2 to 5 are those of the opening.
+    for failing in 2..6 {
+        let disk = disk_of(rt.alloc(), b"PVJOURN1\x00", &[failing])?;
+        let Err(found) = open(rt.alloc(), disk, LIMITS) else {
+            return Err("opened".into());
+        };
+        assert_eq!(rt; found, Fault::Disk, "call {failing} failed");
     }
     Ok(())
 }

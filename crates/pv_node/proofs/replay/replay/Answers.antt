@@ -2,7 +2,7 @@ use Rattle.std.proofs.Common.{◌≡◌, ℕ, List, [], true, false, Ok, refl, s
 use Rattle.std.proofs.lemmas.Result.{err_from_is_err_and}
 use Rattle.pv_outside.specs.Disk.{IsEndless}
 use Rattle.pv_node.specs.Standing.{DiskStands, Meets}
-use Rattle.pv_node.specs.Opening.{HasAll, IsOutside, IsDiskFault}
+use Rattle.pv_node.specs.Opening.{HasAll, IsOutside, IsOpenDiskFault}
 use Rattle.pv_node.proofs.Reading.{remains_none, remains_then, goes_on, all_of, fails_outside}
 use Rattle.pv_node.proofs.replay.replay.Goals as goal
 
@@ -30,7 +30,7 @@ returns-in_err-take_next-clause-opens g c =
 
 pub returns-in_err-take_next-clause-passes : goal.returns-in_err-take_next-clause-passes
 returns-in_err-take_next-clause-passes g c =
-    let never : (room : ℕ) → IsEndless room (g.D.Disk.budget c.args.journal.now.disk) → IsDiskFault c.in_err-take_next.field-0.0 → ⊥ =
+    let never : (room : ℕ) → IsEndless room (g.D.Disk.budget c.args.journal.now.disk) → IsOpenDiskFault c.in_err-take_next.field-0.0 → ⊥ =
     λ room endless. c.in_err-take_next.ensures.passes room (c.loop.invariant.same.endless room endless) in
     let p = err_from_is_err_and c.from_residual.result c.from_residual.ensures.1 in
     rw (p.1, p.2) never

@@ -1,7 +1,7 @@
 use Rattle.std.proofs.Common.{◌≡◌, ℕ, ◌<◌, ◌≤◌, List, ◌++◌, length, map, take, drop, refl, sym, ◌∙◌, ap, subst, arith}
 use Rattle.std.proofs.lemmas.Option.{IfSome_then}
 use Rattle.pv_journal.specs.Text.{HasBlock}
-use Rattle.pv_node.specs.Opening.{IsOutside, IsUnreadable, IsDiskFault}
+use Rattle.pv_node.specs.Opening.{IsOutside, IsUnreadable, IsOpenDiskFault}
 use Rattle.pv_node.proofs.Records.{none_of}
 use Rattle.pv_node.proofs.Reading.{read_count, disk_spells, read_more, next_is, next_fits, only_outside, disk_fault}
 use Rattle.pv_node.proofs.replay.take_next.Goals as goal
@@ -55,4 +55,4 @@ returns-in-Err-clause-opens g c = λ records more read stands meets.
 
 pub returns-in-Err-clause-passes : goal.returns-in-Err-clause-passes
 returns-in-Err-clause-passes g c = λ room endless is.
-    c.in-Err.ensures.passes room endless (disk_fault g.R.Rules g.D.Disk c.in-Err.fault (subst IsDiskFault c.told_by_node.ensures.value is))
+    c.in-Err.ensures.passes room endless (disk_fault g.R.Rules g.D.Disk c.in-Err.fault (subst IsOpenDiskFault c.told_by_node.ensures.value is))

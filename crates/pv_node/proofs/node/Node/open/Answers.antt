@@ -1,6 +1,6 @@
 use Rattle.std.proofs.Common.{sym, subst, rules}
 use Rattle.pv_journal.specs.Journal.{Remains}
-use Rattle.pv_node.specs.Opening.{IsDiskFault}
+use Rattle.pv_node.specs.Opening.{IsOpenDiskFault}
 use Rattle.pv_node.proofs.Rooms.{meets_none}
 use Rattle.pv_node.proofs.Reading.{disk_fault, remains_then}
 use Rattle.pv_node.proofs.node.Node.open.Goals as goal
@@ -15,7 +15,7 @@ replay-requires-clause-reading g c κs within = record {
 
 pub returns-in-Err-clause-passes : goal.returns-in-Err-clause-passes
 returns-in-Err-clause-passes g c = λ room endless is.
-    c.in-Err.ensures.passes room endless (disk_fault g.R.Rules g.D.Disk c.in-Err.fault (subst IsDiskFault c.told_by_node.ensures.value is))
+    c.in-Err.ensures.passes room endless (disk_fault g.R.Rules g.D.Disk c.in-Err.fault (subst IsOpenDiskFault c.told_by_node.ensures.value is))
 
 pub returns-in-Err-replay-clause-handed_back : goal.returns-in-Err-replay-clause-handed_back
 returns-in-Err-replay-clause-handed_back g c =

@@ -1,4 +1,4 @@
-use Rattle.std.proofs.Common.{◌≡◌, ℕ, ◌<◌, ◌⊎◌, List, [], ◌∷◌, ◌++◌, map, None, refl, sym, ◌∙◌, ap, subst, arith}
+use Rattle.std.proofs.Common.{◌≡◌, ◌≢◌, ℕ, ◌<◌, ◌⊎◌, List, [], ◌∷◌, ◌++◌, map, None, refl, sym, ◌∙◌, ap, subst, arith}
 use Rattle.pv_outside.specs.Disk.{IsEndless, CallsPassed}
 use Rattle.pv_journal.specs.Journal.{EachImage, Holds, HoldsInHand}
 use Rattle.pv_node.specs.Standing.{Stands, StandsFor}
@@ -37,11 +37,13 @@ returns-in-Err-Disk-clause-early g c = λ records stands_now.
     subst (λ v. CallsPassed 2 (g.D.Disk.clock v.journal.disk) (g.D.Disk.clock c.append.new.self.disk) ⊎ EachImage g.D.Disk c.append.new.self.disk (λ image. Stands g.R.Rules image records)) c.self.view_is
     (images_stand g.R.Rules g.D.Disk c.append.new.self.disk records stands.each early)
 
-pub returns-in-Err-Disk-clause-in_hand : goal.returns-in-Err-Disk-clause-in_hand
-returns-in-Err-Disk-clause-in_hand g c = λ _.
+pub returns-in-Err-Disk-clause-refused : goal.returns-in-Err-Disk-clause-refused
+returns-in-Err-Disk-clause-refused g c =
     let none : c.self.inside.hand ≡ None = ap (λ v. v.hand) c.self.view_is ∙ c.requires.at_rest in
     let at = rw c.in-Err-Disk.field-0-is at c.in-Err-Disk.ensures in
+    let room : c.self.inside.journal.count ≢ (g.R.Rules.limits_of c.self.inside.state).records = subst (λ (limit : ℕ). c.self.inside.journal.count ≢ limit) c.self.invariant.limit at.full in
     record {
+      room = subst (λ v. v.journal.count ≢ (g.R.Rules.limits_of v.state).records) c.self.view_is room;
       hand = refl;
       state = ap (λ v. v.state) c.self.view_is;
       records = λ records stands_now.

@@ -1,4 +1,5 @@
--- The rules of the tests: the state is a count of records, and the requests are bytes.
+-- For the tests alone, no word of a node: what their rules decide, and the laws of these. The state is a count of records, and the
+-- requests are bytes.
 use Rattle.std.specs.Prelude.{◌≡◌, ℕ, ◌+◌, ◌<◌, Bool, true, false, ◌&&◌, nat_lt, List, [], ◌∷◌, ◌++◌, length, slice_index, if◌then◌else◌}
 use Rattle.std.proofs.Common.{refl, ap, subst, arith, rules, length-append}
 use Rattle.std.proofs.lemmas.Bool.{ltb-true}
@@ -6,7 +7,7 @@ use Rattle.pv_journal.specs.Text.{IsBody}
 use Rattle.pv_node.specs.declared.decision.Decision.{Decision}
 use Rattle.pv_node.specs.declared.decision.Decision.TheVariants.{Answer, Store}
 
--- a byte below 128 is stored while there are fewer records than the most; the reply is how many there were
+-- what the tests' rules decide: a byte below 128 is stored while there are fewer records than the most; the reply is how many there were
 abbrev pub judged : ℕ → ℕ → ℕ → Decision ℕ ℕ
 judged most count byte = if (nat_lt byte 128 && nat_lt count most) then Store byte count else Answer count
 
@@ -39,3 +40,7 @@ counts_more count records rec is = omega (arith, is, length-append records (rec 
 -- as many records leave as much room
 pub has_room_too : (one other most wide : ℕ) → one ≡ other → most ≡ wide → one < most → other < wide
 has_room_too one other most wide same limits room = omega (arith, same, limits, room)
+
+-- counts and limits that are equal give one judgement
+pub judged_alike : (one other most wide byte : ℕ) → one ≡ other → most ≡ wide → judged most one byte ≡ judged wide other byte
+judged_alike one other most wide byte same limits = λ i. judged (limits i) (same i) byte
