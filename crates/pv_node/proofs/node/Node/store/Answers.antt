@@ -1,6 +1,6 @@
 use Rattle.std.proofs.Common.{◌≡◌, ◌≢◌, ℕ, ◌<◌, ◌⊎◌, List, [], ◌∷◌, ◌++◌, map, None, refl, sym, ◌∙◌, ap, subst, arith}
-use Rattle.pv_outside.specs.Disk.{IsEndless, CallsPassed}
-use Rattle.pv_journal.specs.Journal.{EachImage, Holds, HoldsInHand}
+use Rattle.pv_outside.specs.Disk.{HasCalls, IsEndless, CallsPassed}
+use Rattle.pv_journal.specs.Journal.{EachImage, IsPaid, Holds, HoldsInHand}
 use Rattle.pv_node.specs.Standing.{Stands, StandsFor}
 use Rattle.pv_node.proofs.Standing.{gained, holds_at_rest, images_stand, meets_alone, taken}
 use Rattle.pv_node.proofs.node.Node.store.Goals as goal
@@ -55,3 +55,18 @@ returns-in-Err-Disk-clause-refused g c =
           (subst (λ (b : List ℕ). HoldsInHand g.D.Disk c.append.new.self (map g.R.Rules.spelling records) b) c.spell-size.ensures.spelled holds)
           c.requires.spelled (subst (λ v. g.R.Rules.fits v.state c.args.rec) (sym c.self.view_is) c.requires.room) below;
     }
+
+pub returns-in-Ok-clause-told : goal.returns-in-Ok-clause-told
+returns-in-Ok-clause-told g c = λ room told. c.append.ensures.told room (subst (λ v. HasCalls 0 room (g.D.Disk.budget v.journal.disk)) (sym c.self.view_is) told)
+
+pub returns-in-Ok-clause-paid : goal.returns-in-Ok-clause-paid
+returns-in-Ok-clause-paid g c = subst (λ v. IsPaid g.D.Disk v.journal.disk c.append.new.self.disk) c.self.view_is c.append.ensures.paid
+
+pub returns-in-Err-Disk-clause-told : goal.returns-in-Err-Disk-clause-told
+returns-in-Err-Disk-clause-told g c = λ room told. c.append.ensures.told room (subst (λ v. HasCalls 0 room (g.D.Disk.budget v.journal.disk)) (sym c.self.view_is) told)
+
+pub returns-in-Err-Disk-clause-paid : goal.returns-in-Err-Disk-clause-paid
+returns-in-Err-Disk-clause-paid g c = subst (λ v. IsPaid g.D.Disk v.journal.disk c.append.new.self.disk) c.self.view_is c.append.ensures.paid
+
+pub returns-in-Err-Full-clause-paid : goal.returns-in-Err-Full-clause-paid
+returns-in-Err-Full-clause-paid g c = subst (λ v. IsPaid g.D.Disk v.journal.disk c.append.new.self.disk) c.self.view_is c.append.ensures.paid
