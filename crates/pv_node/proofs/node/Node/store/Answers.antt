@@ -9,7 +9,7 @@ pub returns-in-Ok-clause-stored : goal.returns-in-Ok-clause-stored
 returns-in-Ok-clause-stored g c =
     let none : c.self.inside.hand ≡ None = ap (λ v. v.hand) c.self.view_is ∙ c.requires.at_rest in
     let absorbed : c.absorb.new.state ≡ g.R.Rules.after c.self.inside.state c.args.rec c.self.inside.journal.count =
-    c.absorb.ensures ∙ ap (g.R.Rules.after c.self.inside.state c.args.rec) c.in-Ok.ensures.place in
+    subst (λ (place : ℕ). c.absorb.new.state ≡ g.R.Rules.after c.self.inside.state c.args.rec place) c.in-Ok.ensures.place c.absorb.ensures in
     let room : c.self.inside.journal.count < (g.R.Rules.limits_of c.self.inside.state).records = omega (arith, c.in-Ok.ensures.room, c.self.invariant.limit) in
     record {
       room = subst (λ v. v.journal.count < (g.R.Rules.limits_of v.state).records) c.self.view_is room;
