@@ -5,7 +5,7 @@ use Rattle.std.proofs.lemmas.List.Elements.{All-push}
 use Rattle.pv_outside.specs.declared.disk.Disk as disk
 use Rattle.pv_journal.specs.Text.{Spells}
 use Rattle.pv_journal.specs.Log.{Log}
-use Rattle.pv_journal.specs.Journal.{DiskSpells, IsReading, Remains}
+use Rattle.pv_journal.specs.Journal.{DiskSpells, IsPaid, IsReading, Remains}
 use Rattle.pv_journal.specs.Faults.{NextSpells, IsNext}
 use Rattle.pv_journal.specs.declared.fault.OpenFault.{OpenFault}
 use Rattle.pv_journal.specs.declared.fault.OpenFault.TheVariants.{Disk, NotFormatted, Broken, TooMany}
@@ -79,6 +79,17 @@ module _ {S State Request Rec Reply D F : Type 0} (r : rules.Ghosts S State Requ
   disk_fault (Broken at) is = is
   disk_fault (TooMany count) is = is
 
+  -- where nothing was called nothing was paid
+  pub paid_none : (disk : D) → IsPaid d disk disk
+  paid_none disk = λ n has. (n, has, omega arith)
+
+  -- what was paid over two stretches
+  pub paid_then : (first second third : D) → IsPaid d first second → IsPaid d second third → IsPaid d first third
+  paid_then first second third a b = λ n has.
+      let one = a n has in
+      let two = b one.0 one.1 in
+      (two.0, two.1, omega (arith, one.2, two.2))
+
   -- a disk that was not called remains
   pub remains_none : (disk : D) → Remains d disk disk
   remains_none disk = record {
@@ -86,7 +97,7 @@ module _ {S State Request Rec Reply D F : Type 0} (r : rules.Ghosts S State Requ
     images = λ image left. left;
     endless = λ room endless. endless;
     told = λ room told. told;
-    paid = λ n has. (n, has, omega arith);
+    paid = paid_none disk;
     counted = omega arith;
   }
 
@@ -97,10 +108,7 @@ module _ {S State Request Rec Reply D F : Type 0} (r : rules.Ghosts S State Requ
     images = λ image left. a.images image (b.images image left);
     endless = λ room endless. b.endless room (a.endless room endless);
     told = λ room told. b.told room (a.told room told);
-    paid = λ n has.
-        let one = a.paid n has in
-        let two = b.paid one.0 one.1 in
-        (two.0, two.1, omega (arith, one.2, two.2));
+    paid = paid_then first second third a.paid b.paid;
     counted = omega (arith, a.counted, b.counted);
   }
 

@@ -13,7 +13,7 @@ ghost use Rattle.std.specs.Prelude.{◌≡◌, ◌⊎◌, ◌↔◌, ℕ, ◌+�
 ghost use Rattle.pv_outside.specs.Counts.{Rose};
 ghost use Rattle.pv_outside.specs.Disk.{CallsPassed, HasCalls, IsEndless};
 ghost use Rattle.pv_journal.specs.Log.{IsAtRest};
-ghost use Rattle.pv_journal.specs.Journal.{EachImage, Remains, IsFused};
+ghost use Rattle.pv_journal.specs.Journal.{EachImage, HasLeft, IsPaid, Remains, IsFused};
 ghost use Rattle.pv_node.specs.Standing.{Stands, StandsEither, Meets, MeetsBoth, DiskStands, StandsFor};
 ghost use Rattle.pv_node.specs.Opening.{IsOutside, IsOpenFault, FaultShows, IsOpenDiskFault};
 ghost use Rattle.pv_node.specs.Asking.{IsAskDiskFault, IsSettled, IsUnsettled, IsRefused, CanStore, IsKept, IsTaken, CarriesOut, Asks};
@@ -118,7 +118,11 @@ impl<R: Rules, D: Disk> Node<R, D> {
         ensures failed { IfErr result (λ fault. IsAskDiskFault fault → Rose (D.faults self.old.journal.disk) (D.faults self.new.journal.disk)) }
         ensures counted { D.faults self.old.journal.disk ≤ D.faults self.new.journal.disk }
         ensures calls { D.clock self.new.journal.disk ≤ D.clock self.old.journal.disk + 6 }
+
+        // A disk that tells its budget has no less room, and each call that succeeds is one of those that were left.
         ensures endless { (room : ℕ) → IsEndless room (D.budget self.old.journal.disk) → IsEndless room (D.budget self.new.journal.disk) }
+        ensures told { (room : ℕ) → HasCalls 0 room (D.budget self.old.journal.disk) → HasCalls 0 room (D.budget self.new.journal.disk) }
+        ensures paid { IsPaid ⟦<D as Disk>⟧ self.old.journal.disk self.new.journal.disk }
         ensures passes { IfErr result (λ fault. (records : List R.Rec) → StandsFor ⟦<R as Rules>⟧ ⟦<D as Disk>⟧ self.old records
             → self.old.hand ≡ None → HasCalls 4 (9 + 2051 * (R.limits_of self.old.state).records) (D.budget self.old.journal.disk) → IsAskDiskFault fault → ⊥) }
     {
@@ -149,6 +153,8 @@ impl<R: Rules, D: Disk> Node<R, D> {
         ensures counted { D.faults self.old.journal.disk ≤ D.faults self.new.journal.disk }
         ensures calls { D.clock self.new.journal.disk ≤ D.clock self.old.journal.disk + 4 }
         ensures endless { (room : ℕ) → IsEndless room (D.budget self.old.journal.disk) → IsEndless room (D.budget self.new.journal.disk) }
+        ensures told { (room : ℕ) → HasCalls 0 room (D.budget self.old.journal.disk) → HasCalls 0 room (D.budget self.new.journal.disk) }
+        ensures paid { IsPaid ⟦<D as Disk>⟧ self.old.journal.disk self.new.journal.disk }
         ensures passes { IfErr result (λ fault. (records : List R.Rec) → StandsFor ⟦<R as Rules>⟧ ⟦<D as Disk>⟧ self.old records
             → HasCalls 4 (9 + 2051 * (R.limits_of self.old.state).records) (D.budget self.old.journal.disk) → IsAskDiskFault fault → ⊥) }
     {
@@ -181,6 +187,8 @@ impl<R: Rules, D: Disk> Node<R, D> {
         ensures counted { D.faults self.old.journal.disk ≤ D.faults self.new.journal.disk }
         ensures calls { D.clock self.new.journal.disk ≤ D.clock self.old.journal.disk + 4 }
         ensures endless { (room : ℕ) → IsEndless room (D.budget self.old.journal.disk) → IsEndless room (D.budget self.new.journal.disk) }
+        ensures told { (room : ℕ) → HasCalls 0 room (D.budget self.old.journal.disk) → HasCalls 0 room (D.budget self.new.journal.disk) }
+        ensures paid { IsPaid ⟦<D as Disk>⟧ self.old.journal.disk self.new.journal.disk }
         ensures passes { IfErr result (λ fault. (records : List R.Rec) → StandsFor ⟦<R as Rules>⟧ ⟦<D as Disk>⟧ self.old records
             → HasCalls 4 (9 + 2051 * (R.limits_of self.old.state).records) (D.budget self.old.journal.disk) → IsAskDiskFault fault → ⊥) }
     {
@@ -254,6 +262,8 @@ impl<R: Rules, D: Fused> Node<R, D> {
     /// Lets so many further calls of the disk pass, and then none. Nothing else changes.
     pub fn fuse(&mut self, calls: u32)
         ensures disk { IsFused ⟦<D as Disk>⟧ calls self.old.journal.disk self.new.journal.disk }
+        ensures told { (room : ℕ) → HasCalls 0 room (D.budget self.old.journal.disk) → HasCalls calls room (D.budget self.new.journal.disk) }
+        ensures left { (room : ℕ) → HasCalls 0 room (D.budget self.old.journal.disk) → HasLeft calls (D.budget self.new.journal.disk) }
         ensures same { self.new ≡ record self.old { journal = record self.old.journal { disk = self.new.journal.disk } } }
         ensures records { (records : List R.Rec) → StandsFor ⟦<R as Rules>⟧ ⟦<D as Disk>⟧ self.old records → StandsFor ⟦<R as Rules>⟧ ⟦<D as Disk>⟧ self.new records }
     {

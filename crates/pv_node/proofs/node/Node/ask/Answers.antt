@@ -1,5 +1,6 @@
 use Rattle.std.proofs.Common.{inr, ◌∙◌, ap, subst}
 use Rattle.pv_node.specs.Asking.{CarriesOut}
+use Rattle.pv_node.proofs.Reading.{paid_then}
 use Rattle.pv_node.proofs.Standing.{settled_same}
 use Rattle.pv_node.proofs.node.Node.ask.Goals as goal
 
@@ -21,3 +22,9 @@ returns-in-Ok-clause-early g c = λ none.
     let same = settled_same g.R.Rules g.D.Disk _ _ c.in-Ok.field-0 c.in-Ok.ensures.settled none in
     let early = c.carry_out.ensures.early in
     rw same at early
+
+pub returns-in-Ok-clause-told : goal.returns-in-Ok-clause-told
+returns-in-Ok-clause-told g c = λ room told. c.carry_out.ensures.told room (c.settle.ensures.same.told room told)
+
+pub returns-in-Ok-clause-paid : goal.returns-in-Ok-clause-paid
+returns-in-Ok-clause-paid g c = paid_then g.R.Rules g.D.Disk _ _ _ c.settle.ensures.same.paid c.carry_out.ensures.paid

@@ -1,4 +1,4 @@
-use Rattle.std.proofs.Common.{◌≡◌, ◌≤◌, map, true, Option, None, Some, Ok, IsOk, refl, sym, ◌∙◌, ap, subst, arith}
+use Rattle.std.proofs.Common.{◌≡◌, ℕ, ◌≤◌, map, true, Option, None, Some, Ok, IsOk, refl, sym, ◌∙◌, ap, subst, arith}
 use Rattle.std.proofs.lemmas.Bool.{false≢true}
 use Rattle.pv_outside.specs.Disk.{IsEndless}
 use Rattle.pv_journal.specs.Log.{most}
@@ -20,9 +20,9 @@ returns-in-Some-true-clause-settled g c =
     let within = subst (λ phase. most phase c.self.inside.journal.count ≤ c.self.inside.journal.limit) step.0 c.count-place.ensures.within in
     let stored : c.settle.result ≡ Ok (Some true) = c.in_ok-stored.was ∙ ap Ok (c.in-Some-true.is ∙ ap Some c.in-Some-true.field-0-test) in
     let absorbed : c.absorb.new.state ≡ g.R.Rules.after c.self.inside.state c.in-Some.rec c.self.inside.journal.count =
-    c.absorb.ensures ∙ ap (g.R.Rules.after c.self.inside.state c.in-Some.rec) c.count-place.ensures.count in
+    subst (λ (place : ℕ). c.absorb.new.state ≡ g.R.Rules.after c.self.inside.state c.in-Some.rec place) c.count-place.ensures.count c.absorb.ensures in
     record {
-      was = ap (λ v. v.hand) (sym c.self.view_is) ∙ was;
+      was = subst (λ v. v.hand ≡ Some c.in-Some.rec) c.self.view_is was;
       hand = refl;
       state = subst (λ v. c.absorb.new.state ≡ g.R.Rules.after v.state c.in-Some.rec v.journal.count) c.self.view_is absorbed;
       records = λ records stands_now.

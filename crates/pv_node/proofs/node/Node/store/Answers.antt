@@ -1,6 +1,6 @@
 use Rattle.std.proofs.Common.{◌≡◌, ◌≢◌, ℕ, ◌<◌, ◌⊎◌, List, [], ◌∷◌, ◌++◌, map, None, refl, sym, ◌∙◌, ap, subst, arith}
-use Rattle.pv_outside.specs.Disk.{IsEndless, CallsPassed}
-use Rattle.pv_journal.specs.Journal.{EachImage, Holds, HoldsInHand}
+use Rattle.pv_outside.specs.Disk.{HasCalls, IsEndless, CallsPassed}
+use Rattle.pv_journal.specs.Journal.{EachImage, IsPaid, Holds, HoldsInHand}
 use Rattle.pv_node.specs.Standing.{Stands, StandsFor}
 use Rattle.pv_node.proofs.Standing.{gained, holds_at_rest, images_stand, meets_alone, taken}
 use Rattle.pv_node.proofs.node.Node.store.Goals as goal
@@ -9,7 +9,7 @@ pub returns-in-Ok-clause-stored : goal.returns-in-Ok-clause-stored
 returns-in-Ok-clause-stored g c =
     let none : c.self.inside.hand ≡ None = ap (λ v. v.hand) c.self.view_is ∙ c.requires.at_rest in
     let absorbed : c.absorb.new.state ≡ g.R.Rules.after c.self.inside.state c.args.rec c.self.inside.journal.count =
-    c.absorb.ensures ∙ ap (g.R.Rules.after c.self.inside.state c.args.rec) c.in-Ok.ensures.place in
+    subst (λ (place : ℕ). c.absorb.new.state ≡ g.R.Rules.after c.self.inside.state c.args.rec place) c.in-Ok.ensures.place c.absorb.ensures in
     let room : c.self.inside.journal.count < (g.R.Rules.limits_of c.self.inside.state).records = omega (arith, c.in-Ok.ensures.room, c.self.invariant.limit) in
     record {
       room = subst (λ v. v.journal.count < (g.R.Rules.limits_of v.state).records) c.self.view_is room;
@@ -55,3 +55,18 @@ returns-in-Err-Disk-clause-refused g c =
           (subst (λ (b : List ℕ). HoldsInHand g.D.Disk c.append.new.self (map g.R.Rules.spelling records) b) c.spell-size.ensures.spelled holds)
           c.requires.spelled (subst (λ v. g.R.Rules.fits v.state c.args.rec) (sym c.self.view_is) c.requires.room) below;
     }
+
+pub returns-in-Ok-clause-told : goal.returns-in-Ok-clause-told
+returns-in-Ok-clause-told g c = λ room told. c.append.ensures.told room (subst (λ v. HasCalls 0 room (g.D.Disk.budget v.journal.disk)) (sym c.self.view_is) told)
+
+pub returns-in-Ok-clause-paid : goal.returns-in-Ok-clause-paid
+returns-in-Ok-clause-paid g c = subst (λ v. IsPaid g.D.Disk v.journal.disk c.append.new.self.disk) c.self.view_is c.append.ensures.paid
+
+pub returns-in-Err-Disk-clause-told : goal.returns-in-Err-Disk-clause-told
+returns-in-Err-Disk-clause-told g c = λ room told. c.append.ensures.told room (subst (λ v. HasCalls 0 room (g.D.Disk.budget v.journal.disk)) (sym c.self.view_is) told)
+
+pub returns-in-Err-Disk-clause-paid : goal.returns-in-Err-Disk-clause-paid
+returns-in-Err-Disk-clause-paid g c = subst (λ v. IsPaid g.D.Disk v.journal.disk c.append.new.self.disk) c.self.view_is c.append.ensures.paid
+
+pub returns-in-Err-Full-clause-paid : goal.returns-in-Err-Full-clause-paid
+returns-in-Err-Full-clause-paid g c = subst (λ v. IsPaid g.D.Disk v.journal.disk c.append.new.self.disk) c.self.view_is c.append.ensures.paid
