@@ -1,7 +1,7 @@
 -- For the tests alone, no word of a node: what their rules decide, and the laws of these. The state is a count of records, and the
 -- requests are bytes.
 use Rattle.std.specs.Prelude.{◌≡◌, ℕ, ◌+◌, ◌<◌, Bool, true, false, ◌&&◌, nat_lt, List, [], ◌∷◌, ◌++◌, length, slice_index, if◌then◌else◌}
-use Rattle.std.proofs.Common.{refl, ap, subst, arith, rules, length-append}
+use Rattle.std.proofs.Common.{refl, ap, subst, arith, length-append}
 use Rattle.std.proofs.lemmas.Bool.{ltb-true}
 use Rattle.pv_journal.specs.Text.{IsBody}
 use Rattle.pv_node.specs.declared.decision.Decision.{Decision}
@@ -19,12 +19,22 @@ sized rec is = (omega arith, omega arith)
 pub one_meaning : (one other : ℕ) → one < 128 → other < 128 → one ∷ [] ≡ other ∷ [] → one ≡ other
 one_meaning one other is_one is_other e = ap (λ (l : List ℕ). slice_index l 0) e
 
--- what a test that is stored has shown
+-- nothing is stored
+abbrev IsAnswer : Decision ℕ ℕ → Type 0
+IsAnswer (Answer reply) = Unit {0}
+IsAnswer (Store rec reply) = ⊥
+
+-- the byte that is stored, or this one
+abbrev rec_or : ℕ → Decision ℕ ℕ → ℕ
+rec_or byte (Answer reply) = byte
+rec_or byte (Store rec reply) = rec
+
+-- where a byte is stored, both tests have passed, and it is the one that was asked
 shown : (small room : Bool) (byte count rec reply : ℕ) → (if (small && room) then Store byte count else Answer count) ≡ Store rec reply → (small ≡ true) × (room ≡ true) × (byte ≡ rec)
-shown true true byte count rec reply e = (refl, refl, search (rules, e))
-shown true false byte count rec reply e = search (rules, e)
-shown false true byte count rec reply e = search (rules, e)
-shown false false byte count rec reply e = search (rules, e)
+shown true true byte count rec reply e = (refl, refl, ap (rec_or byte) e)
+shown true false byte count rec reply e = absurd (subst IsAnswer e tt)
+shown false true byte count rec reply e = absurd (subst IsAnswer e tt)
+shown false false byte count rec reply e = absurd (subst IsAnswer e tt)
 
 -- a byte that is stored is below 128, and there are fewer than the most
 pub stored : (most count byte rec reply : ℕ) → judged most count byte ≡ Store rec reply → (rec < 128) × (count < most)
