@@ -62,7 +62,7 @@ module _ {D F : Type 0} where
   IsAppendDiskFault (AppendDisk failure) = Unit {0}
   IsAppendDiskFault (Full count) = ⊥
 
-  -- the journal was full, of this limit, and is as it was
+  -- the journal was full, of this limit, and is as it was; or there was room
   abbrev pub IsFull : Log D → Log D → AppendFault D F → Type 0
-  IsFull old new (AppendDisk failure) = old.count ≢ old.limit
+  IsFull old new (AppendDisk failure) = old.count < old.limit
   IsFull old new (Full count) = (count ≡ old.limit) × (old.count ≡ old.limit) × (new ≡ old)

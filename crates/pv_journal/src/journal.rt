@@ -148,6 +148,7 @@ impl<D: Disk> Journal<D> {
         ensures still_at_rest { OnOk result (IsAtRest self.new) }
         ensures stored { OnOk result ((bodies : List (List ℕ)) → Holds ⟦<D as Disk>⟧ self.old bodies → Holds ⟦<D as Disk>⟧ self.new (bodies ++ body.now ∷ [])) }
         ensures in_hand { IfErr result (λ fault. IsAppendDiskFault fault → (bodies : List (List ℕ)) → Holds ⟦<D as Disk>⟧ self.old bodies → HoldsInHand ⟦<D as Disk>⟧ self.new bodies body.now) }
+        ensures kept { OnErr result (self.new ≡ record self.old { disk = self.new.disk; phase = self.new.phase }) }
         ensures size_in_hand { IfErr result (λ fault. IsAppendDiskFault fault → self.new.phase ≡ Phase.InHand (length body.now)) }
 
         // Until two calls of the disk have succeeded, each image spells the list without the body.
@@ -197,6 +198,7 @@ impl<D: Disk> Journal<D> {
         ensures reads_dropped { result ≡ Ok (Some false) → (bodies : List (List ℕ)) (body : List ℕ) → HoldsInHand ⟦<D as Disk>⟧ self.old bodies body → IfSome (D.reads self.new.disk) (λ text. Spells text bodies) }
 
         ensures kept { OnErr result (self.new ≡ record self.old { disk = self.new.disk }) }
+        ensures put_down { result ≡ Ok (Some false) → self.new ≡ record self.old { disk = self.new.disk; phase = self.new.phase } }
         ensures in_hand { OnErr result ((bodies : List (List ℕ)) (body : List ℕ) → HoldsInHand ⟦<D as Disk>⟧ self.old bodies body → HoldsInHand ⟦<D as Disk>⟧ self.new bodies body) }
         ensures stays { OnErr result (self.new.phase ≡ self.old.phase) }
         ensures same { Remains ⟦<D as Disk>⟧ self.old.disk self.new.disk }

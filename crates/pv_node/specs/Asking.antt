@@ -37,6 +37,7 @@ module _ {S State Request Rec Reply D F : Type 0} (r : rules.Ghosts S State Requ
   pub record IsNotStored (old new : Parts D State Rec) : Type 0 where
     pub hand : new.hand ≡ None
     pub state : new.state ≡ old.state
+    pub count : new.journal.count ≡ old.journal.count
     pub records : KeepsAll r g old new
     pub same : old.hand ≡ None → new ≡ old
 
@@ -69,9 +70,10 @@ module _ {S State Request Rec Reply D F : Type 0} (r : rules.Ghosts S State Requ
 
   -- there was room, and a call of the disk failed while this record was being stored: it is in hand
   pub record IsTaken (old new : Parts D State Rec) (rec : Rec) : Type 0 where
-    pub room : old.journal.count ≢ (r.limits_of old.state).records
+    pub room : old.journal.count < (r.limits_of old.state).records
     pub hand : new.hand ≡ Some rec
     pub state : new.state ≡ old.state
+    pub count : new.journal.count ≡ old.journal.count
     pub records : KeepsAll r g old new
 
   -- why this record is not stored: a call of the disk failed, or the node is full

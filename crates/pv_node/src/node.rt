@@ -16,7 +16,7 @@ ghost use Rattle.pv_journal.specs.Log.{IsAtRest};
 ghost use Rattle.pv_journal.specs.Journal.{EachImage, HasLeft, IsPaid, Remains, IsFused};
 ghost use Rattle.pv_node.specs.Standing.{Stands, StandsEither, Meets, MeetsBoth, DiskStands, StandsFor};
 ghost use Rattle.pv_node.specs.Opening.{IsOutside, IsOpenFault, FaultShows, IsOpenDiskFault};
-ghost use Rattle.pv_node.specs.Asking.{IsAskDiskFault, IsSettled, IsUnsettled, IsRefused, CanStore, IsKept, IsTaken, CarriesOut, Asks};
+ghost use Rattle.pv_node.specs.Asking.{IsAskDiskFault, IsSettled, IsUnsettled, IsRefused, CanStore, IsKept, CarriesOut, Asks};
 
 use crate::decision::{Decision, Told};
 use crate::fault::{AskFault, NodeFault};

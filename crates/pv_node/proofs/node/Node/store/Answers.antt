@@ -41,19 +41,18 @@ pub returns-in-Err-Disk-clause-refused : goal.returns-in-Err-Disk-clause-refused
 returns-in-Err-Disk-clause-refused g c =
     let none : c.self.inside.hand ≡ None = ap (λ v. v.hand) c.self.view_is ∙ c.requires.at_rest in
     let at = rw c.in-Err-Disk.field-0-is at c.in-Err-Disk.ensures in
-    let room : c.self.inside.journal.count ≢ (g.R.Rules.limits_of c.self.inside.state).records = subst (λ (limit : ℕ). c.self.inside.journal.count ≢ limit) c.self.invariant.limit at.full in
+    let room : c.self.inside.journal.count < (g.R.Rules.limits_of c.self.inside.state).records = omega (arith, at.full, c.self.invariant.limit) in
     record {
-      room = subst (λ v. v.journal.count ≢ (g.R.Rules.limits_of v.state).records) c.self.view_is room;
+      room = subst (λ v. v.journal.count < (g.R.Rules.limits_of v.state).records) c.self.view_is room;
       hand = refl;
       state = ap (λ v. v.state) c.self.view_is;
+      count = ap (λ j. j.count) at.kept ∙ ap (λ v. v.journal.count) c.self.view_is;
       records = λ records stands_now.
           let stands = subst (λ v. StandsFor g.R.Rules g.D.Disk v records) (sym c.self.view_is) stands_now in
           let holds = at.in_hand tt (map g.R.Rules.spelling records) (holds_at_rest g.R.Rules g.D.Disk _ records stands none) in
-          let meets = meets_alone g.R.Rules g.D.Disk _ records _ stands.meets in
-          let below : c.self.inside.journal.count < (g.R.Rules.limits_of c.self.inside.state).records = omega (arith, at.full, c.self.invariant.limit, stands.count, meets.count) in
           taken g.R.Rules g.D.Disk g.met.R.Rules.same_room _ c.append.new.self c.args.rec records stands
           (subst (λ (b : List ℕ). HoldsInHand g.D.Disk c.append.new.self (map g.R.Rules.spelling records) b) c.spell-size.ensures.spelled holds)
-          c.requires.spelled (subst (λ v. g.R.Rules.fits v.state c.args.rec) (sym c.self.view_is) c.requires.room) below;
+          c.requires.spelled (subst (λ v. g.R.Rules.fits v.state c.args.rec) (sym c.self.view_is) c.requires.room) room;
     }
 
 pub returns-in-Ok-clause-told : goal.returns-in-Ok-clause-told
