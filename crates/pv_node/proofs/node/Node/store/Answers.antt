@@ -1,8 +1,8 @@
-use Rattle.std.proofs.Common.{◌≡◌, ◌≢◌, ℕ, ◌<◌, ◌⊎◌, List, [], ◌∷◌, ◌++◌, map, None, refl, sym, ◌∙◌, ap, subst, arith}
+use Rattle.std.proofs.Common.{◌≡◌, ℕ, ◌<◌, ◌⊎◌, List, [], ◌∷◌, ◌++◌, map, None, refl, sym, ◌∙◌, ap, subst, arith}
 use Rattle.pv_outside.specs.Disk.{HasCalls, IsEndless, CallsPassed}
 use Rattle.pv_journal.specs.Journal.{EachImage, IsPaid, Holds, HoldsInHand}
 use Rattle.pv_node.specs.Standing.{Stands, StandsFor}
-use Rattle.pv_node.proofs.Standing.{gained, holds_at_rest, images_stand, meets_alone, taken}
+use Rattle.pv_node.proofs.Standing.{gained, holds_at_rest, images_stand, taken}
 use Rattle.pv_node.proofs.node.Node.store.Goals as goal
 
 pub returns-in-Ok-clause-stored : goal.returns-in-Ok-clause-stored
