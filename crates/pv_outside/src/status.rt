@@ -1,5 +1,5 @@
-ghost use Rattle.std.specs.Prelude.{◌≡◌};
-ghost use Rattle.pv_outside.specs.Status.{number_of};
+ghost use Rattle.std.specs.Prelude.{◌≡◌, Some};
+ghost use Rattle.pv_outside.specs.Status.{number_of, words_of};
 
 use std::fmt;
 
@@ -40,6 +40,8 @@ impl Status {
 }
 
 impl fmt::Display for Status {
+    ghost output = { λ status. Some (words_of status) };
+
     fn fmt<W: fmt::Write>(&self, f: &mut fmt::Formatter<W>) -> fmt::Result {
         match self {
             Status::Done => write!(f, "done"),
