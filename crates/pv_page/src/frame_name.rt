@@ -25,11 +25,11 @@ impl Model for FrameName {
 
     ghost Value = { Name };
 
-    ghost view = { λ f. record { page = f.page; letter = f.letter } };
+    ghost view = { λ frame. record { page = frame.page; letter = frame.letter } };
 
-    ghost invariant = { λ f. IsName (record { page = f.page; letter = f.letter }) };
+    ghost invariant = { λ frame. IsName (record { page = frame.page; letter = frame.letter }) };
 
-    ghost inverse = { λ n. record { page = n.page; letter = n.letter } };
+    ghost inverse = { λ name. record { page = name.page; letter = name.letter } };
 }
 
 impl FrameName {
