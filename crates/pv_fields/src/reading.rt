@@ -100,7 +100,7 @@ impl<'a> In<'a> {
         Ok(())
     }
 
-    // Takes as many bytes as the array has.
+    /// Takes as many bytes as the array has.
     fn array<const N: usize>(&mut self) -> Result<[u8; N], Short>
         ensures found { IfOk result (λ bytes. self.old ≡ bytes ++ self.new) }
         ensures short { IsErr result ↔ (length self.old < N) }

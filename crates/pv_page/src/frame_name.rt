@@ -81,7 +81,7 @@ impl FrameName {
     }
 }
 
-// Writes a page's decimal digits to the front of `into` and answers how many they are.
+/// Writes a page's decimal digits to the front of `into` and answers how many they are.
 fn put_digits(number: u32, into: &mut [u8; 10]) -> usize
     requires { number ≤ LAST_PAGE }
     ensures text { into.new ≡ decimal number ++ drop result into.old }

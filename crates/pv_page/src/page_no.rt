@@ -90,7 +90,7 @@ impl PageNo {
     }
 }
 
-// The number that at most nine digits write. The only error is the first byte that is no digit.
+/// The number that at most nine digits write. The only error is the first byte that is no digit.
 fn number_of(digits: &[u8]) -> Result<u32, PageError>
     requires { length digits.now ≤ PAGE_DIGITS }
     ensures digits { IfOk result (λ _. AllDigits 10 digits.now) }
