@@ -98,7 +98,7 @@ one_fault text LeadingZero TooLong f g = absurd (omega (arith, f.fits))
 one_fault text LeadingZero (NotDigit at) f g = absurd (g.here (f.digits at 0 g.within))
 one_fault text LeadingZero LeadingZero f g = refl
 
--- an answer that tells a fault of the text tells exactly the faults that the text has
+-- an answer that tells a fault of the text tells a fault exactly where the text has it
 pub refused_with : (text : List ℕ) (has : PageError) → HasFault text has → (fault : PageError) → (◌≡◌ {A = Result ℕ PageError} (Err has) (Err fault)) ↔ HasFault text fault
 refused_with text has is fault =
     (λ same. let e : has ≡ fault = cc in rw e at is, λ other. ap Err (one_fault text has fault is other))

@@ -41,7 +41,7 @@ pub longer-covered : covers 12 1234 ≡ true
 unfolding digits
 longer-covered = refl
 
--- it covers no page of which it has only the first digit
+-- it covers no page that has only its first digit
 pub shorter-uncovered : covers 12 1 ≡ false
 unfolding digits
 shorter-uncovered = refl
