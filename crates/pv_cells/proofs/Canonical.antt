@@ -1,7 +1,8 @@
 -- The canonical notation is read back, and can be printed.
-use Rattle.std.proofs.Common.{◌≡◌, ℕ, ◌/◌, ◌%◌, ◌<◌, ◌≤◌, ◌==◌, ◌&&◌, not, Bool, true, false, cond, List, [], ◌∷◌, length, Ok, refl, sym, arith, append-nil}
+use Rattle.std.proofs.Common.{◌≡◌, ℕ, ◌/◌, ◌%◌, ◌<◌, ◌≤◌, ◌==◌, not, Bool, true, false, cond, List, [], ◌∷◌, length, Ok, refl, sym, arith, append-nil}
 use Rattle.std.specs.Char.{digit_char}
 use Rattle.std.specs.List.{All, AllPass}
+use Rattle.std.proofs.lemmas.Bool.{and_parts}
 use Rattle.std.proofs.lemmas.Bool.Decides.{nat_tests}
 use Rattle.std.proofs.lemmas.List.Elements.{All-nil, All-cons, All-head, All-tail, All-append, All-weaker}
 use Rattle.std.proofs.lemmas.Str.{digit_value-digit_char}
@@ -32,7 +33,7 @@ notation_reads [] small = refl
 notation_reads (byte ∷ bytes) small =
     (notation_of_byte byte, notation_of bytes, (refl, byte_reads byte (All-head IsByte byte bytes small), notation_reads bytes (All-tail IsByte byte bytes small)))
 
--- the notation of cells is told as their row
+-- of the notation of cells that fit into a row that row is told, with blank ones behind them
 pub notation_tells : (width : ℕ) (cells : List ℕ) → length cells ≤ width → All IsCell cells → TellsRow width (notation_of cells) (Ok (filled width cells))
 notation_tells width cells fits are_cells = record {
   front = notation_of cells;
@@ -44,15 +45,10 @@ notation_tells width cells fits are_cells = record {
   ends = (refl, fits, refl);
 }
 
--- bytes with one notation are the same
+-- no other bytes have the notation of these
 pub same_bytes : (one other : List ℕ) → All IsByte one → All IsByte other → notation_of one ≡ notation_of other → one ≡ other
 same_bytes one other p q e =
     one_reading (notation_of one) one other (notation_reads one p) (rw e (notation_reads other q))
-
--- a byte that stands for itself can be printed
-and_left : (x y : Bool) → (x && y) ≡ true → x ≡ true
-and_left true y both = refl
-and_left false y both = both
 
 -- a digit can be printed
 digit_prints : (digit : ℕ) → digit < 16 → can_be_printed (digit_char digit) ≡ true
@@ -61,7 +57,7 @@ digit_prints digit small = grind (arith, nat_tests)
 -- either form can be printed
 written_prints : (byte : ℕ) (stands : Bool) → is_plain byte ≡ stands → IsByte byte → AllPass can_be_printed (written byte stands)
 written_prints byte true is small =
-    All-cons (λ b. can_be_printed b ≡ true) byte [] (and_left (can_be_printed byte) (not (byte == BACKSLASH)) is) (All-nil (λ b. can_be_printed b ≡ true))
+    All-cons (λ b. can_be_printed b ≡ true) byte [] (and_parts (can_be_printed byte) (not (byte == BACKSLASH)) is).0 (All-nil (λ b. can_be_printed b ≡ true))
 written_prints byte false is small =
     let high = digit_prints (byte / 16) (omega arith) in
     let low = digit_prints (byte % 16) (omega arith) in
@@ -69,7 +65,7 @@ written_prints byte false is small =
     All-cons P BACKSLASH (digit_char (byte / 16) ∷ digit_char (byte % 16) ∷ []) refl
     (All-cons P (digit_char (byte / 16)) (digit_char (byte % 16) ∷ []) high (All-cons P (digit_char (byte % 16)) [] low (All-nil P)))
 
--- the notation of bytes can be printed
+-- every byte of a notation can be printed
 pub notation_prints : (bytes : List ℕ) → All IsByte bytes → AllPass can_be_printed (notation_of bytes)
 notation_prints [] small = All-nil (λ byte. can_be_printed byte ≡ true)
 notation_prints (byte ∷ bytes) small =

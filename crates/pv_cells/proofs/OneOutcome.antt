@@ -10,7 +10,7 @@ use Rattle.pv_cells.specs.declared.error.NotationError.TheVariants.{TooLong, Bad
 use Rattle.pv_cells.specs.declared.writing.TheConstants.{BACKSLASH}
 use Rattle.pv_cells.proofs.Pieces.{Form, plain, escape, form, same_piece, piece_has_bytes, plain_is_no_backslash}
 
--- where one reading stops, with this rest, another one reads a further cell
+-- where one reading of a text stops, with this rest, another one reads a further cell
 record GoesOn (cells rest others : List ℕ) : Type 0 where
   piece : List ℕ
   left : List ℕ
@@ -70,7 +70,7 @@ compared (a ∷ xs) (b ∷ ys) x y s t (p, left, (whole, reads, behind)) (q, lef
       ]
     ]
 
--- a row that is told of has no more cells than its width
+-- whatever is told of a row, no more cells were read than it is wide
 ends_within : (width : ℕ) (cells : List ℕ) (at : ℕ) (rest : List ℕ) (outcome : Result (List ℕ) NotationError) → Ends width cells at rest outcome → length cells ≤ width
 ends_within width cells at rest (Ok row) ends = ends.1
 ends_within width cells at rest (Err TooLong) ends = omega (arith, ends.1)
@@ -150,7 +150,7 @@ same_ends width cells at rest (Err (BadByte place)) (Err TooLong) p q = absurd (
 same_ends width cells at rest (Err (BadByte place)) (Err (BadEscape place')) p q = ap (λ f. Err f) (same_fault at rest _ _ p.1 q.1)
 same_ends width cells at rest (Err (BadByte place)) (Err (BadByte place')) p q = ap (λ f. Err f) (same_fault at rest _ _ p.1 q.1)
 
--- what is told of equal fronts is told of both
+-- what is told after one reading is told after another with the same cells, front and rest
 ends_of : (width : ℕ) (outcome : Result (List ℕ) NotationError) (cells cells' front front' rest rest' : List ℕ) → cells ≡ cells' → front ≡ front' → rest ≡ rest' → Ends width cells (length front) rest outcome → Ends width cells' (length front') rest' outcome
 ends_of width outcome cells cells' front front' rest rest' c f r ends =
     subst (λ x. Ends width cells' (length front') x outcome) r
@@ -168,7 +168,7 @@ one_reading text one other p q =
       ]
     ]
 
--- one outcome alone is told
+-- of a text one outcome alone is told, its row or its first fault
 pub only_one : (width : ℕ) (text : List ℕ) (one other : Result (List ℕ) NotationError) → TellsRow width text one → TellsRow width text other → one ≡ other
 only_one width text one other p q =
     elim (compared p.cells q.cells p.front q.front p.rest q.rest p.reads q.reads (sym p.whole ∙ q.whole)) [

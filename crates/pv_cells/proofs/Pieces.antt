@@ -4,7 +4,7 @@ use Rattle.std.specs.Char.{digit_value}
 use Rattle.pv_cells.specs.Notation.{is_plain, ReadsByte, ReadsAs}
 use Rattle.pv_cells.specs.declared.writing.TheConstants.{BACKSLASH}
 
--- the two forms of a byte
+-- the two forms of a byte in a text: the byte itself, or a backslash and two digits
 pub data Form : List ℕ → ℕ → Type 0 where
   plain : {byte : ℕ} → IsTrue (is_plain byte) → Form (byte ∷ []) byte
   escape : {first high low byte : ℕ} → first ≡ BACKSLASH → byte ≡ 16 * digit_value high + digit_value low → Form (first ∷ high ∷ low ∷ []) byte
@@ -28,16 +28,16 @@ same_form (plain {byte} is) (escape first value) e = absurd (plain_is_no_backsla
 same_form (escape first value) (plain {byte} is) e = absurd (plain_is_no_backslash byte is (cc))
 same_form (escape first value) (escape first' value') e = (cc, cc, cc)
 
--- at the front of a text one form of one byte is read
+-- at the front of a text one form of one byte stands, and one rest behind it
 pub same_piece : (p q s t : List ℕ) (b c : ℕ) → ReadsByte p b → ReadsByte q c → p ++ s ≡ q ++ t → (p ≡ q) × (b ≡ c) × (s ≡ t)
 same_piece p q s t b c one other e = same_form (form p b one) (form q c other) e
 
--- a form has bytes
+-- the form of a byte is never empty
 pub piece_has_bytes : (piece : List ℕ) (byte : ℕ) → ReadsByte piece byte → 0 < length piece
 piece_has_bytes [] byte reads = absurd reads
 piece_has_bytes (first ∷ rest) byte reads = omega arith
 
--- one more byte is read behind a text
+-- the form of a byte behind a text makes it a text that is read as one byte more
 pub ReadsAs-push : (text piece bytes : List ℕ) (byte : ℕ) → ReadsAs text bytes → ReadsByte piece byte → ReadsAs (text ++ piece) (bytes ++ byte ∷ [])
 ReadsAs-push text piece [] byte reads more = (piece, [], (ap (λ t. t ++ piece) reads ∙ sym (append-nil piece), more, refl))
 ReadsAs-push text piece (first ∷ bytes) byte (front, rest, (whole, reads, behind)) more =

@@ -23,7 +23,7 @@ lit_bit zero weight small = omega arith
 lit_bit (suc zero) weight small = omega arith
 lit_bit (suc (suc more)) weight small = absurd (omega arith)
 
--- a number without a further bit is the sum of its block
+-- a number of 0 to 31 or 64 to 95 is the sum of the block that its bits light
 pub weight_of-block_of : (weights : ℕ) → weights < 96 → (weights < 32) ⊎ (64 ≤ weights) → weights ≡ weight_of (block_of weights)
 unfolding block_of
 weight_of-block_of weights small part =
@@ -40,7 +40,7 @@ weight_of-block_of weights small part =
 
 -- ---- further bits
 
--- a number in no block has the bit 5 or the bit 7
+-- a byte outside 0 to 31 and 64 to 95 has bit 5 or bit 7, which are no square's
 pub further_bit : (weights : ℕ) → weights < 256 → 32 ≤ weights → (64 ≤ weights → 96 ≤ weights) → IsBitSet weights 5 ⊎ IsBitSet weights 7
 further_bit weights small not_low not_high =
     elim (cases_lt weights 128) [
@@ -48,7 +48,7 @@ further_bit weights small not_low not_high =
       | inr above ↦ inr (λ none. omega (arith, and_pow weights 7, none))
     ]
 
--- the number of a block has neither
+-- a number of 0 to 31 or 64 to 95 has neither
 pub no_further_bit : (weights : ℕ) → weights < 96 → (weights < 32) ⊎ (64 ≤ weights) → IsBitSet weights 5 ⊎ IsBitSet weights 7 → ⊥
 no_further_bit weights small part (inl five) = five (omega (arith, and_pow weights 5, part))
 no_further_bit weights small part (inr seven) = seven (omega (arith, and_pow weights 7, part))
@@ -65,13 +65,13 @@ unfolding bit_of
 lit_is true weight = omega arith
 lit_is false weight = omega arith
 
--- which is a bit
+-- that bit is 0 or 1
 bit_of_below : (is_lit : Bool) → bit_of is_lit < 2
 unfolding bit_of
 bit_of_below true = omega arith
 bit_of_below false = omega arith
 
--- and tells whether the square is lit
+-- and squares with one bit are both lit or both dark
 same_square : (one other : Bool) → bit_of one ≡ bit_of other → one ≡ other
 unfolding bit_of
 same_square true true e = refl
@@ -79,11 +79,12 @@ same_square true false e = absurd (omega (arith, e))
 same_square false true e = absurd (omega (arith, e))
 same_square false false e = refl
 
--- six bits by the sum of their weights
+-- Two choices of six bits of which the weights have one sum.
 module _ (a b c d e f a' b' c' d' e' f' : ℕ)
     (bits : (a < 2) × (b < 2) × (c < 2) × (d < 2) × (e < 2) × (f < 2))
     (bits' : (a' < 2) × (b' < 2) × (c' < 2) × (d' < 2) × (e' < 2) × (f' < 2))
     (same : a * 1 + b * 2 + c * 4 + d * 8 + e * 16 + f * 64 ≡ a' * 1 + b' * 2 + c' * 4 + d' * 8 + e' * 16 + f' * 64) where
+  -- each bit of the one is that of the other
   same_bits : (a ≡ a') × (b ≡ b') × (c ≡ c') × (d ≡ d') × (e ≡ e') × (f ≡ f')
   same_bits = (omega arith, omega arith, omega arith, omega arith, omega arith, omega arith)
 
@@ -99,7 +100,7 @@ sum_by_bits block = omega (
   lit_is block.bottom_right 64,
 )
 
--- which are bits
+-- each of its squares has a bit of 0 or 1
 are_bits : (block : Block) → (bit_of block.top_left < 2) × (bit_of block.top_right < 2) × (bit_of block.middle_left < 2) × (bit_of block.middle_right < 2) × (bit_of block.bottom_left < 2) × (bit_of block.bottom_right < 2)
 are_bits block = (bit_of_below _, bit_of_below _, bit_of_below _, bit_of_below _, bit_of_below _, bit_of_below _)
 
@@ -111,7 +112,7 @@ block a b c d e f = record { top_left = a; top_right = b; middle_left = c; middl
 same_squares : (a b c d e f a' b' c' d' e' f' : Bool) → a ≡ a' → b ≡ b' → c ≡ c' → d ≡ d' → e ≡ e' → f ≡ f' → block a b c d e f ≡ block a' b' c' d' e' f'
 same_squares a b c d e f a' b' c' d' e' f' p q r s t u = cc
 
--- blocks with one sum have the same squares lit
+-- two blocks of which the lit squares have one sum of weights are the same
 pub same_block : (one other : Block) → weight_of one ≡ weight_of other → one ≡ other
 same_block one other e =
     let bits = same_bits _ _ _ _ _ _ _ _ _ _ _ _ (are_bits one) (are_bits other) (sym (sum_by_bits one) ∙ e ∙ sum_by_bits other) in

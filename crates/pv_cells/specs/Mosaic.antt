@@ -11,7 +11,7 @@ pub record Block : Type 0 where
   pub bottom_left : Bool
   pub bottom_right : Bool
 
--- a square's part in the sum
+-- a square's part in the sum: its weight where it is lit
 abbrev pub lit : Bool → ℕ → ℕ
 lit is_lit weight = if is_lit then weight else 0
 

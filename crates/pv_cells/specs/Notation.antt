@@ -5,15 +5,15 @@ use Rattle.std.specs.Int.{is_in_range}
 use Rattle.std.specs.List.{flat_map}
 use Rattle.pv_cells.specs.declared.writing.TheConstants.{BACKSLASH}
 
--- a byte
+-- the number is a byte, 0 to 255
 abbrev pub IsByte : ℕ → Type 0
 IsByte byte = byte < 256
 
--- a byte that can be printed
+-- the byte can be printed: it is one of the space to the tilde
 abbrev pub can_be_printed : ℕ → Bool
 can_be_printed byte = is_in_range 0x20 0x7e byte
 
--- a byte that stands for itself: one that can be printed, but for the backslash
+-- the byte stands for itself: it can be printed, and is no backslash
 abbrev pub is_plain : ℕ → Bool
 is_plain byte = can_be_printed byte && not (byte == BACKSLASH)
 

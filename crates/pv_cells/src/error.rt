@@ -7,10 +7,16 @@ pub enum NotationError {
     /// More text follows where the row is full.
     #[error("the text has more cells than the row")]
     TooLong,
-    /// At this place stands a backslash that is not followed by the two hexadecimal digits of a cell.
+    /// A backslash is not followed by the two hexadecimal digits of a cell.
     #[error("no cell follows the backslash at {at}")]
-    BadEscape { at: usize },
-    /// At this place stands a byte outside 0x20 to 0x7E.
+    BadEscape {
+        /// The backslash's place.
+        at: usize,
+    },
+    /// A byte is outside 0x20 to 0x7E.
     #[error("the byte at {at} cannot stand in a text")]
-    BadByte { at: usize },
+    BadByte {
+        /// The byte's place.
+        at: usize,
+    },
 }

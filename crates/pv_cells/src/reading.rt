@@ -59,7 +59,7 @@ pub fn cells_of<const N: usize>(text: &[u8]) -> Result<[u8; N], NotationError>
     Ok(row)
 }
 
-// The cell that stands first in what is left of a text from this place on, and how many bytes it has.
+/// The cell that stands first in what is left of a text from this place on, and how many bytes it has.
 fn first_cell(left: &[u8], at: usize) -> Result<(u8, usize), NotationError>
     requires { 0 < length left.now }
     ensures reads { IfOk result (λ found. ReadsByte (take found.1 left.now) found.0) }
@@ -77,7 +77,7 @@ fn first_cell(left: &[u8], at: usize) -> Result<(u8, usize), NotationError>
     Ok((cell, 3))
 }
 
-// The cell whose two hexadecimal digits stand first.
+/// The cell whose two hexadecimal digits stand first.
 fn escaped(digits: &[u8]) -> Option<u8>
     ensures found { IfSome result (λ cell. IsCell cell × ReadsByte (BACKSLASH ∷ take 2 digits.now) cell) }
     ensures only { (cell : ℕ) → IsCell cell → ReadsByte (BACKSLASH ∷ take 2 digits.now) cell
@@ -93,7 +93,7 @@ fn escaped(digits: &[u8]) -> Option<u8>
     (cell <= LAST_CELL).then_some(cell)
 }
 
-// The number that a hexadecimal digit stands for.
+/// The number that a hexadecimal digit stands for.
 fn hexadecimal(digit: u8) -> Option<u8>
     ensures { SomeIff result (digit_value digit < 16) (digit_value digit) }
 {

@@ -25,7 +25,7 @@ pub fn notation(cells: &[u8], out: &mut Out) -> Result<(), NoRoom>
     Ok(())
 }
 
-// Whether the notation of the bytes fits into so much room.
+/// Whether the notation of the bytes fits into so much room.
 fn fits(bytes: &[u8], room: usize) -> bool
     ensures { IsTrue result ↔ (length (notation_of bytes.now) ≤ room) }
 {
@@ -40,14 +40,14 @@ fn fits(bytes: &[u8], room: usize) -> bool
     true
 }
 
-// How many bytes the notation of a byte has.
+/// How many bytes the notation of a byte has.
 fn notation_length(byte: u8) -> usize
     ensures { result ≡ length (notation_of_byte byte) }
 {
     if is_plain(byte) { 1 } else { 3 }
 }
 
-// Appends the notation of one byte.
+/// Appends the notation of one byte.
 fn byte_notation(byte: u8, out: &mut Out) -> Result<(), NoRoom>
     ensures ok { OnOk result (Appends out.old out.new (notation_of_byte byte)) }
     ensures refused { IsErr result ↔ (room_of out.old < length (notation_of_byte byte)) }
@@ -59,14 +59,14 @@ fn byte_notation(byte: u8, out: &mut Out) -> Result<(), NoRoom>
     out.run(&[BACKSLASH, digit(byte / 16), digit(byte % 16)])
 }
 
-// Whether the byte stands for itself.
+/// Whether the byte stands for itself.
 pub(crate) fn is_plain(byte: u8) -> bool
     ensures { result ≡ is_plain byte }
 {
     matches!(byte, 0x20..=0x7e) && byte != BACKSLASH
 }
 
-// The hexadecimal digit of a number, in lower case.
+/// The hexadecimal digit of a number, in lower case.
 fn digit(n: u8) -> u8
     requires { n < 16 }
     ensures { result ≡ digit_char n }

@@ -4,7 +4,7 @@ use Rattle.std.proofs.lemmas.List.{drop-drop}
 use Rattle.pv_fields.specs.Out.{written_of, rest_of, Appends}
 use Rattle.pv_fields.specs.declared.writing.Out.{Out}
 
--- two calls, one after the other, appended the bytes of both
+-- where one call appended some bytes and the next one more, the two appended the first bytes and the others behind them
 pub appends_then : {first second third : Out} {front back : List ℕ} → Appends first second front → Appends second third back → Appends first third (front ++ back)
 appends_then {first} {second} {third} {front} {back} one two = record {
   written = two.written ∙ ap (λ written. written ++ back) one.written ∙ append_assoc (written_of first) front back;

@@ -17,7 +17,7 @@ impl<'a> Model for In<'a> {
 
     ghost Value = { List ℕ };
 
-    ghost view = { λ i. i.from.now };
+    ghost view = { λ reader. reader.from.now };
 }
 
 impl<'a> In<'a> {
@@ -45,7 +45,7 @@ impl<'a> In<'a> {
 
     /// Takes one byte.
     pub fn u8(&mut self) -> Result<u8, Short>
-        ensures found { IfOk result (λ v. self.old ≡ v ∷ self.new) }
+        ensures found { IfOk result (λ byte. self.old ≡ byte ∷ self.new) }
         ensures short { IsErr result ↔ (length self.old < 1) }
         ensures err { OnErr result (self.new ≡ self.old) }
     {
@@ -55,7 +55,7 @@ impl<'a> In<'a> {
 
     /// Takes two bytes, which are a number with the higher one first.
     pub fn u16(&mut self) -> Result<u16, Short>
-        ensures found { IfOk result (λ v. self.old ≡ to_be_bytes w16 v ++ self.new) }
+        ensures found { IfOk result (λ number. self.old ≡ to_be_bytes w16 number ++ self.new) }
         ensures short { IsErr result ↔ (length self.old < 2) }
         ensures err { OnErr result (self.new ≡ self.old) }
     {
@@ -65,7 +65,7 @@ impl<'a> In<'a> {
 
     /// Takes four bytes, which are a number with the highest one first.
     pub fn u32(&mut self) -> Result<u32, Short>
-        ensures found { IfOk result (λ v. self.old ≡ to_be_bytes w32 v ++ self.new) }
+        ensures found { IfOk result (λ number. self.old ≡ to_be_bytes w32 number ++ self.new) }
         ensures short { IsErr result ↔ (length self.old < 4) }
         ensures err { OnErr result (self.new ≡ self.old) }
     {
@@ -75,7 +75,7 @@ impl<'a> In<'a> {
 
     /// Takes eight bytes, which are a number with the highest one first.
     pub fn u64(&mut self) -> Result<u64, Short>
-        ensures found { IfOk result (λ v. self.old ≡ to_be_bytes w64 v ++ self.new) }
+        ensures found { IfOk result (λ number. self.old ≡ to_be_bytes w64 number ++ self.new) }
         ensures short { IsErr result ↔ (length self.old < 8) }
         ensures err { OnErr result (self.new ≡ self.old) }
     {
@@ -99,7 +99,8 @@ impl<'a> In<'a> {
         self.from = behind;
         Ok(())
     }
-    // Takes as many bytes as the array has.
+
+    /// Takes as many bytes as the array has.
     fn array<const N: usize>(&mut self) -> Result<[u8; N], Short>
         ensures found { IfOk result (λ bytes. self.old ≡ bytes ++ self.new) }
         ensures short { IsErr result ↔ (length self.old < N) }

@@ -40,39 +40,39 @@ impl<'a> Out<'a> {
     }
 
     /// Appends one byte.
-    pub fn u8(&mut self, v: u8) -> Result<(), NoRoom>
-        ensures ok { OnOk result (Appends self.old self.new (v ∷ [])) }
+    pub fn u8(&mut self, byte: u8) -> Result<(), NoRoom>
+        ensures ok { OnOk result (Appends self.old self.new (byte ∷ [])) }
         ensures refused { IsErr result ↔ (room_of self.old < 1) }
         ensures err { OnErr result (self.new ≡ self.old) }
     {
-        self.run(&[v])
+        self.run(&[byte])
     }
 
     /// Appends a number as two bytes, the higher one first.
-    pub fn u16(&mut self, v: u16) -> Result<(), NoRoom>
-        ensures ok { OnOk result (Appends self.old self.new (to_be_bytes w16 v)) }
+    pub fn u16(&mut self, number: u16) -> Result<(), NoRoom>
+        ensures ok { OnOk result (Appends self.old self.new (to_be_bytes w16 number)) }
         ensures refused { IsErr result ↔ (room_of self.old < 2) }
         ensures err { OnErr result (self.new ≡ self.old) }
     {
-        self.run(&v.to_be_bytes())
+        self.run(&number.to_be_bytes())
     }
 
     /// Appends a number as four bytes, the highest first.
-    pub fn u32(&mut self, v: u32) -> Result<(), NoRoom>
-        ensures ok { OnOk result (Appends self.old self.new (to_be_bytes w32 v)) }
+    pub fn u32(&mut self, number: u32) -> Result<(), NoRoom>
+        ensures ok { OnOk result (Appends self.old self.new (to_be_bytes w32 number)) }
         ensures refused { IsErr result ↔ (room_of self.old < 4) }
         ensures err { OnErr result (self.new ≡ self.old) }
     {
-        self.run(&v.to_be_bytes())
+        self.run(&number.to_be_bytes())
     }
 
     /// Appends a number as eight bytes, the highest first.
-    pub fn u64(&mut self, v: u64) -> Result<(), NoRoom>
-        ensures ok { OnOk result (Appends self.old self.new (to_be_bytes w64 v)) }
+    pub fn u64(&mut self, number: u64) -> Result<(), NoRoom>
+        ensures ok { OnOk result (Appends self.old self.new (to_be_bytes w64 number)) }
         ensures refused { IsErr result ↔ (room_of self.old < 8) }
         ensures err { OnErr result (self.new ≡ self.old) }
     {
-        self.run(&v.to_be_bytes())
+        self.run(&number.to_be_bytes())
     }
 
     /// Appends these bytes.

@@ -21,14 +21,14 @@ module _ (name : Name) (is : IsName name) where
       let push = length_push (decimal name.page) name.letter in
       (omega (arith, push, page_nonempty name.page is.page), omega (arith, push, length-page name.page is.page))
 
-  -- each of them is a digit or a letter
+  -- each byte of it is a digit or a letter a to z
   pub bytes_of_name : All (λ byte. IsAsciiDigit byte ⊎ IsLetter byte) (name_text name)
   bytes_of_name =
       All-push (λ (byte : ℕ). IsAsciiDigit byte ⊎ IsLetter byte) (decimal name.page) name.letter
       (λ k d within. inl (All-from_digits (decimal name.page) (digits_of_page name.page is.page) k d within))
       (inr is.letter)
 
-  -- and none a space
+  -- and none of them is a space
   pub no_space_in_name : All (λ byte. byte ≢ space) (name_text name)
   no_space_in_name k d within byte =
       elim (bytes_of_name k d within) [ inl digit ↦ omega arith | inr letter ↦ omega arith ]

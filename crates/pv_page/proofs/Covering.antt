@@ -1,4 +1,4 @@
--- A root covers a page: by a page's digits from the last one on.
+-- Which roots cover a page, found by taking its last digit away again and again.
 use Rattle.std.proofs.Common.{◌≡◌, ℕ, ◌+◌, ◌/◌, ◌%◌, ◌<◌, ◌≤◌, ◌⊎◌, List, [], ◌∷◌, ◌++◌, length, take, drop, ◌==◌, Decides, decimal, refl, sym, ap, subst, ◌∙◌, inl, inr, arith}
 use Rattle.std.proofs.lemmas.Bool.Decides.{Decides-eqb, Decides-like}
 use Rattle.std.proofs.lemmas.List.{append-nil, append_assoc, length-append, take_at}
@@ -8,7 +8,7 @@ use Rattle.std.proofs.lemmas.Str.Parse.{digits_value-take-le}
 use Rattle.pv_page.specs.Names.{IsPage, Covers, covers}
 use Rattle.pv_page.proofs.Digits.{page_nonempty, digits_value-page, page_injective}
 
--- the test decides the relation
+-- the test is true exactly where the root covers the page
 pub Decides-covers : (root page : ℕ) → Decides (covers root page) (Covers root page)
 Decides-covers root page =
     let both = starts_is Decides-eqb (decimal page) (decimal root) (covers root page) refl in
@@ -18,7 +18,7 @@ Decides-covers root page =
 covers_itself : (page : ℕ) → Covers page page
 covers_itself page = ([], sym (append-nil (decimal page)))
 
--- a front of a list with one more element is the whole, or a front of the list
+-- what begins a list with one more element at its end is all of it, or begins the list without that element
 front_of_push : (xs front more : List ℕ) (x : ℕ) → xs ++ x ∷ [] ≡ front ++ more → (xs ++ x ∷ [] ≡ front) ⊎ ((rest : List ℕ) × (xs ≡ front ++ rest))
 front_of_push xs [] more x e = inr (xs, refl)
 front_of_push [] (y ∷ []) more x e = inl cc
@@ -48,7 +48,7 @@ module _ (root page : ℕ) (is_root : IsPage root) (is_page : IsPage page) where
         | inr part ↦ absurd (omega (arith, page_nonempty root is_root, ap length part.1, length-append (decimal root) part.0))
       ]
 
-  -- from ten on, a page is covered by itself and by what covers its digits but the last
+  -- from ten on, a root that covers a page is the page, or covers the page of all its digits but the last
   pub covered_by_front : 10 ≤ page → Covers root page → (root ≡ page) ⊎ Covers root (page / 10)
   covered_by_front large front =
       let split = decimal_step page large (omega arith) in
@@ -57,12 +57,12 @@ module _ (root page : ℕ) (is_root : IsPage root) (is_page : IsPage page) where
         | inr part ↦ inr part
       ]
 
-  -- what covers the digits but the last covers the page
+  -- and a root that covers the page of all its digits but the last covers the page
   pub covers_more : 10 ≤ page → Covers root (page / 10) → Covers root page
   covers_more large front =
       (front.0 ++ (48 + page % 10) ∷ [], decimal_step page large (omega arith) ∙ ap (λ ds. ds ++ (48 + page % 10) ∷ []) front.1 ∙ append_assoc (decimal root) front.0 ((48 + page % 10) ∷ []))
 
-  -- at a page of one digit, or one that is at most the root, the root covers it exactly where it is it
+  -- a page of one digit, or one not above the root, is covered by the root exactly where it is the root
   pub Decides-covered_end : (page ≤ root) ⊎ (page < 10) → Decides (page == root) (Covers root page)
   Decides-covered_end end =
       Decides-like (page == root)

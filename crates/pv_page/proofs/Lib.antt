@@ -1,5 +1,5 @@
 pub mod CallerLemmas
-pub mod Covering
-pub mod Digits
-pub mod Facts
-pub mod Writing
+mod Covering
+mod Digits
+mod Facts
+mod Writing

@@ -15,22 +15,22 @@ pub struct AccountNo {
 impl Model for AccountNo {
     ghost Value = { ℕ };
 
-    ghost view = { λ a. a.number };
+    ghost view = { λ account. account.number };
 
-    ghost invariant = { λ a. IsAccount a.number };
+    ghost invariant = { λ account. IsAccount account.number };
 
-    ghost inverse = { λ n. record { number = n } };
+    ghost inverse = { λ number. record { number = number } };
 }
 
 impl AccountNo {
     /// The account of a number. It is missing exactly where the number is above
     /// [`LAST_ACCOUNT`].
-    pub fn of_number(n: u64) -> Option<AccountNo>
-        ensures found { IsSome result ↔ IsAccount n }
-        ensures value { IfSome result (λ account. account ≡ n) }
+    pub fn of_number(number: u64) -> Option<AccountNo>
+        ensures found { IsSome result ↔ IsAccount number }
+        ensures value { IfSome result (λ account. account ≡ number) }
     {
-        if n <= LAST_ACCOUNT {
-            Some(AccountNo { number: n })
+        if number <= LAST_ACCOUNT {
+            Some(AccountNo { number })
         } else {
             None
         }

@@ -25,11 +25,11 @@ impl Model for FrameName {
 
     ghost Value = { Name };
 
-    ghost view = { λ f. record { page = f.page; letter = f.letter } };
+    ghost view = { λ frame. record { page = frame.page; letter = frame.letter } };
 
-    ghost invariant = { λ f. IsName (record { page = f.page; letter = f.letter }) };
+    ghost invariant = { λ frame. IsName (record { page = frame.page; letter = frame.letter }) };
 
-    ghost inverse = { λ n. record { page = n.page; letter = n.letter } };
+    ghost inverse = { λ name. record { page = name.page; letter = name.letter } };
 }
 
 impl FrameName {
@@ -81,7 +81,7 @@ impl FrameName {
     }
 }
 
-// Writes a page's decimal digits to the front of `into` and answers how many they are.
+/// Writes a page's decimal digits to the front of `into` and answers how many they are.
 fn put_digits(number: u32, into: &mut [u8; 10]) -> usize
     requires { number ≤ LAST_PAGE }
     ensures text { into.new ≡ decimal number ++ drop result into.old }

@@ -21,21 +21,21 @@ pub struct PageNo {
 impl Model for PageNo {
     ghost Value = { ℕ };
 
-    ghost view = { λ p. p.number };
+    ghost view = { λ page. page.number };
 
-    ghost invariant = { λ p. IsPage p.number };
+    ghost invariant = { λ page. IsPage page.number };
 
-    ghost inverse = { λ n. record { number = n } };
+    ghost inverse = { λ number. record { number = number } };
 }
 
 impl PageNo {
     /// The page of a number. It is missing exactly where the number is above [`LAST_PAGE`].
-    pub fn of_number(n: u32) -> Option<PageNo>
-        ensures found { IsSome result ↔ IsPage n }
-        ensures value { IfSome result (λ page. page ≡ n) }
+    pub fn of_number(number: u32) -> Option<PageNo>
+        ensures found { IsSome result ↔ IsPage number }
+        ensures value { IfSome result (λ page. page ≡ number) }
     {
-        if n <= LAST_PAGE {
-            Some(PageNo { number: n })
+        if number <= LAST_PAGE {
+            Some(PageNo { number })
         } else {
             None
         }
@@ -90,7 +90,7 @@ impl PageNo {
     }
 }
 
-// The number that at most nine digits write. The only error is the first byte that is no digit.
+/// The number that at most nine digits write. The only error is the first byte that is no digit.
 fn number_of(digits: &[u8]) -> Result<u32, PageError>
     requires { length digits.now ≤ PAGE_DIGITS }
     ensures digits { IfOk result (λ _. AllDigits 10 digits.now) }

@@ -29,7 +29,7 @@ indented_row = refl
 pub blank_screen : painted (replicate 24 (replicate 40 32)) ≡ 12 ∷ line_ends 23
 blank_screen = refl
 
--- a title, a full row and a last row
+-- a title is a line, a full row has no line end, and neither has the last row
 pub three_rows : painted ((codes "TITLE" ++ replicate 35 32) ∷ replicate 40 88 ∷ (replicate 21 (replicate 40 32) ++ (codes "END" ++ replicate 37 32) ∷ [])) ≡ codes "\u{c}TITLE\r\n" ++ replicate 40 88 ++ line_ends 21 ++ codes "END"
 three_rows = refl
 
@@ -37,16 +37,19 @@ three_rows = refl
 pub blank_message : message_text (replicate 40 32) ≡ 30 ∷ 11 ∷ replicate 40 32
 blank_message = refl
 
--- the cursor at the edges, and what stands there
+-- above the first row is the last
 pub up_from_the_first_row : (terminal_after new_display (codes "\u{b}")).row ≡ 24
 up_from_the_first_row = refl
 
+-- and below the last row the first
 pub down_from_the_last_row : (terminal_after new_display (codes "\u{b}\n")).row ≡ 1
 down_from_the_last_row = refl
 
+-- before the first column of the screen is its last one
 pub back_from_the_first_column : terminal_after new_display (codes "\u{8}") ≡ record new_display { row = 24; column = 39 }
 back_from_the_first_column = refl
 
+-- behind the last column of a row is the first of the row below
 pub forward_from_the_last_column : terminal_after new_display (replicate 40 9) ≡ record new_display { row = 2; column = 0 }
 forward_from_the_last_column = refl
 
@@ -62,15 +65,17 @@ escape_twice = refl
 pub cursor_codes : terminal_after new_display (CURSOR_ON ∷ CURSOR_OFF ∷ 0 ∷ 24 ∷ 128 ∷ 255 ∷ []) ≡ new_display
 cursor_codes = refl
 
--- row 1 of a frame without a title: the name from column 25 on, and the price at the right end
+-- row 1 of a free frame without a title has the name from column 25 on, and no price
 pub free_heading : heading frames.blank (record { page = 1; letter = 97 }) ≡ replicate 25 32 ++ codes "1a" ++ replicate 13 32
 unfolding digits
 free_heading = refl
 
+-- a price stands at its right end
 pub dear_heading : heading (record frames.blank { price = 99 }) (record { page = 1; letter = 97 }) ≡ replicate 25 32 ++ codes "1a" ++ replicate 10 32 ++ codes "99p"
 unfolding digits
 dear_heading = refl
 
+-- the longest title and the longest name have one space between them, and a price fits behind them
 pub longest_heading : heading (record frames.blank { title = replicate 24 84; price = 5 }) (record { page = 999999999; letter = 122 }) ≡ replicate 24 84 ++ codes " 999999999z   5p"
 unfolding digits
 longest_heading = refl

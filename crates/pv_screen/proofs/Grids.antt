@@ -1,12 +1,13 @@
--- Lemmas on grids.
-use Rattle.std.proofs.Common.{refl, lit≤, replicate, ◌≤◌}
+-- The blank grid is a grid.
+use Rattle.std.proofs.Common.{refl, lit≤, replicate}
 use Rattle.std.proofs.lemmas.List.Elements.{All-replicate}
-use Rattle.pv_screen.specs.Grid.{IsGrid, IsRow}
+use Rattle.pv_cells.specs.Row.{IsCell}
+use Rattle.pv_screen.specs.Grid.{IsGrid, IsRow, blank}
 
--- a row of spaces is a row
+-- forty spaces are a row
 pub IsRow-blank : IsRow (replicate 40 32)
-IsRow-blank = record { width = refl; seven_bits = All-replicate (λ cell. cell ≤ 127) 40 32 (lit≤ tt) }
+IsRow-blank = record { width = refl; seven_bits = All-replicate IsCell 40 32 (lit≤ tt) }
 
--- a screen of such rows is a grid
-pub IsGrid-blank : IsGrid (replicate 24 (replicate 40 32))
+-- twenty-four such rows are a grid
+pub IsGrid-blank : IsGrid blank
 IsGrid-blank = record { height = refl; rows = All-replicate IsRow 24 (replicate 40 32) IsRow-blank }

@@ -1,7 +1,7 @@
-pub mod Grids
-pub mod Placing
-pub mod Bytes
-pub mod Displays
-pub mod Shows
-pub mod Runs
+mod Bytes
+mod Displays
 mod Facts
+mod Grids
+mod Placing
+mod Runs
+mod Shows

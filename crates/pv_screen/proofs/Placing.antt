@@ -8,6 +8,7 @@ use Rattle.std.proofs.lemmas.List.Elements.{All-nil, All-cons, All-take, All-dro
 use Rattle.std.proofs.lemmas.Fmt.{length-decimal-le, IsAscii-decimal}
 use Rattle.pv_page.specs.Names.{Name, IsName, name_text}
 use Rattle.pv_page.proofs.CallerLemmas.{length-name_text, bytes_of_name}
+use Rattle.pv_cells.specs.Row.{IsCell}
 use Rattle.pv_frame.specs.Content.{Content, IsFrame}
 use Rattle.pv_frame.specs.Sound.{HasRanges}
 use Rattle.pv_screen.specs.Composing.{spaces, at_left, at_right, price_text, heading, body_rows, composed}
@@ -16,7 +17,7 @@ use Rattle.pv_screen.proofs.Grids.{IsRow-blank}
 use Rattle.pv_screen.specs.Overwriting.{overwritten}
 
 -- a text written over spaces has spaces before it and behind it
-pub over_spaces : (front text : List ℕ) (gap room at : ℕ) → at ≡ length front + gap → gap + length text ≤ room → overwritten (front ++ spaces room) at text ≡ front ++ spaces gap ++ text ++ spaces (room - (gap + length text))
+over_spaces : (front text : List ℕ) (gap room at : ℕ) → at ≡ length front + gap → gap + length text ≤ room → overwritten at text (front ++ spaces room) ≡ front ++ spaces gap ++ text ++ spaces (room - (gap + length text))
 over_spaces front text gap room at is fits =
     let row = front ++ spaces room in
     let before : take at row ≡ front ++ spaces gap =
@@ -28,7 +29,7 @@ over_spaces front text gap room at is fits =
 
 module _ (title name price : List ℕ) (whole : length title ≡ 24) (few : length name ≤ 11) (short : length price ≤ 4) where
   -- a title, a name and a price written over a row of spaces, each in its place
-  pub heading_written : overwritten (overwritten (overwritten (spaces 40) 0 title) 25 name) (40 - length price) price ≡ title ++ spaces 1 ++ at_left 11 name ++ at_right 4 price
+  pub heading_written : overwritten (40 - length price) price (overwritten 25 name (overwritten 0 title (spaces 40))) ≡ title ++ spaces 1 ++ at_left 11 name ++ at_right 4 price
   heading_written =
       let n = length name in
       let p = length price in
@@ -41,16 +42,16 @@ module _ (title name price : List ℕ) (whole : length title ≡ 24) (few : leng
       let behind_name : 16 - (1 + n) ≡ 15 - n = omega arith in
       let behind_price : 15 - n - (gap + p) ≡ 0 = omega arith in
       let both : gap ≡ 11 - n + (4 - p) = omega arith in
-      let first : overwritten (spaces 40) 0 title ≡ title ++ spaces 16 =
+      let first : overwritten 0 title (spaces 40) ≡ title ++ spaces 16 =
       over_spaces [] title 0 40 0 refl (omega arith) ∙ ap (λ k. title ++ spaces k) behind_title in
-      let second : overwritten (title ++ spaces 16) 25 name ≡ front ++ spaces (15 - n) =
+      let second : overwritten 25 name (title ++ spaces 16) ≡ front ++ spaces (15 - n) =
       over_spaces title name 1 16 25 (omega arith) (omega arith) ∙ ap (λ k. front ++ spaces k) behind_name in
-      let third : overwritten (front ++ spaces (15 - n)) (40 - p) price ≡ front ++ spaces gap ++ price =
+      let third : overwritten (40 - p) price (front ++ spaces (15 - n)) ≡ front ++ spaces gap ++ price =
       over_spaces front price gap (15 - n) (40 - p) (omega (arith, length-append head name, length-append title (spaces 1))) (omega arith)
       ∙ ap (λ k. front ++ spaces gap ++ price ++ spaces k) behind_price ∙ append-nil (front ++ spaces gap ++ price) in
       let between : spaces gap ≡ left ++ right = ap spaces both ∙ sym (replicate-append-replicate (11 - n) (4 - p) 32) in
-      ap (λ l. overwritten (overwritten l 25 name) (40 - p) price) first
-      ∙ ap (λ l. overwritten l (40 - p) price) second
+      ap (λ l. overwritten (40 - p) price (overwritten 25 name l)) first
+      ∙ ap (overwritten (40 - p) price) second
       ∙ third
       ∙ ap (λ l. front ++ l ++ price) between
       ∙ ap (λ l. l ++ price) (sym (append_assoc front left right) ∙ ap (λ l. l ++ right) (append_assoc head name left))
@@ -58,31 +59,31 @@ module _ (title name price : List ℕ) (whole : length title ≡ 24) (few : leng
 
 -- ---- bodies
 
--- as many rows as were to be cut
+-- cells cut into so many rows are so many rows
 pub length-first_chunks : (width count : ℕ) (cells : List ℕ) → length (first_chunks width count cells) ≡ count
 length-first_chunks width zero cells = refl
 length-first_chunks width (suc count) cells = ap suc (length-first_chunks width count (drop width cells))
 
--- one behind the other they are the cells
-pub concat-first_chunks : (width count : ℕ) (cells : List ℕ) → length cells ≡ count * width → concat (first_chunks width count cells) ≡ cells
+-- where the cells just fill the rows, the rows one behind the other are the cells
+concat-first_chunks : (width count : ℕ) (cells : List ℕ) → length cells ≡ count * width → concat (first_chunks width count cells) ≡ cells
 concat-first_chunks width zero cells all = sym (nil_from_length cells (omega arith))
 concat-first_chunks width (suc count) cells all =
     ap (λ l. take width cells ++ l) (concat-first_chunks width count (drop width cells) (omega (arith, length-drop width cells)))
     ∙ take-append-drop width cells
 
--- each is a row where the cells are cells
-pub rows-first_chunks : (count : ℕ) (cells : List ℕ) → count * 40 ≤ length cells → All (λ cell. cell ≤ 127) cells → All IsRow (first_chunks 40 count cells)
+-- cells of 0 to 127 are cut into rows of the screen
+pub rows-first_chunks : (count : ℕ) (cells : List ℕ) → count * 40 ≤ length cells → All IsCell cells → All IsRow (first_chunks 40 count cells)
 rows-first_chunks zero cells all fits = All-nil IsRow
 rows-first_chunks (suc count) cells all fits =
     All-cons IsRow (take 40 cells) (first_chunks 40 count (drop 40 cells))
-    (record { width = length-take-le 40 cells (omega arith); seven_bits = All-take (λ cell. cell ≤ 127) 40 cells fits })
-    (rows-first_chunks count (drop 40 cells) (omega (arith, length-drop 40 cells)) (All-drop (λ cell. cell ≤ 127) 40 cells fits))
+    (record { width = length-take-le 40 cells (omega arith); seven_bits = All-take IsCell 40 cells fits })
+    (rows-first_chunks count (drop 40 cells) (omega (arith, length-drop 40 cells)) (All-drop IsCell 40 cells fits))
 
 -- a grid with so many of the rows from row 2 on
 abbrev pub with_rows : List (List ℕ) → List (List ℕ) → ℕ → List (List ℕ)
 with_rows grid rows count = take 1 grid ++ take count rows ++ drop (count + 1) grid
 
--- one more
+-- with the next row put in its place the grid has one more of them
 pub with_rows_more : (grid rows : List (List ℕ)) (count at : ℕ) (row : List ℕ) → at ≡ count + 1 → count < length rows → count + 1 < length grid → row ≡ get_or rows count [] → set (with_rows grid rows count) at row ≡ with_rows grid rows (count + 1)
 with_rows_more grid rows count at row place within below is =
     let first = take 1 grid in
@@ -105,7 +106,7 @@ with_rows_more grid rows count at row place within below is =
 pub price_text_of : (price : ℕ) → 0 < price → price_text price ≡ decimal price ++ 112 ∷ []
 price_text_of price some = ap (λ test. cond test [] (decimal price ++ 112 ∷ [])) (ne_eqb price 0 (omega arith))
 
--- it has at most three cells, and they are cells
+-- a price of at most 99p takes at most three cells
 pub length-price_text : (price : ℕ) → price ≤ 99 → length (price_text price) ≤ 3
 length-price_text price few = by_cost (eqb price 0)
   where
@@ -113,31 +114,34 @@ length-price_text price few = by_cost (eqb price 0)
     by_cost true = omega arith
     by_cost false = omega (arith, length-append (decimal price) (112 ∷ []), length-decimal-le 2 price (lit< tt) (omega arith) (omega arith))
 
-fits_price : (price : ℕ) → price ≤ 99 → All (λ cell. cell ≤ 127) (price_text price)
+-- its text is cells
+fits_price : (price : ℕ) → price ≤ 99 → All IsCell (price_text price)
 fits_price price few = by_cost (eqb price 0)
   where
-    fits_digits : All (λ cell. cell ≤ 127) (decimal price)
+    fits_digits : All IsCell (decimal price)
     fits_digits k d within = rw (get_or_default (decimal price) k d 0 within) (omega (arith, IsAscii-decimal price (omega arith) k))
 
-    by_cost : (free : Bool) → All (λ cell. cell ≤ 127) (cond free [] (decimal price ++ 112 ∷ []))
-    by_cost true = All-nil (λ cell. cell ≤ 127)
-    by_cost false = All-append (λ (cell : ℕ). cell ≤ 127) (decimal price) (112 ∷ []) fits_digits (All-cons (λ cell. cell ≤ 127) 112 [] (lit≤ tt) (All-nil (λ cell. cell ≤ 127)))
+    by_cost : (free : Bool) → All IsCell (cond free [] (decimal price ++ 112 ∷ []))
+    by_cost true = All-nil IsCell
+    by_cost false = All-append IsCell (decimal price) (112 ∷ []) fits_digits (All-cons IsCell 112 [] (lit≤ tt) (All-nil IsCell))
 
-fits_name : (name : Name) → IsName name → All (λ cell. cell ≤ 127) (name_text name)
+-- a frame's name is cells
+fits_name : (name : Name) → IsName name → All IsCell (name_text name)
 fits_name name is k d within = elim (bytes_of_name name is k d within) [ inl digit ↦ omega arith | inr letter ↦ omega arith ]
 
 -- spaces are cells
-fits_spaces : (count : ℕ) → All (λ cell. cell ≤ 127) (spaces count)
-fits_spaces count = All-replicate (λ (cell : ℕ). cell ≤ 127) count 32 (lit≤ tt)
+fits_spaces : (count : ℕ) → All IsCell (spaces count)
+fits_spaces count = All-replicate IsCell count 32 (lit≤ tt)
 
--- the cells of a title and of a body
-fits_title : (frame : Content) → HasRanges frame → All (λ cell. cell ≤ 127) frame.title
-fits_title frame ranges = subst (λ l. All (λ (cell : ℕ). cell ≤ 127) l) (take-append_seam frame.title frame.body) (All-take (λ (cell : ℕ). cell ≤ 127) (length frame.title) (frame.title ++ frame.body) ranges.cells)
+-- a title within its ranges is cells
+fits_title : (frame : Content) → HasRanges frame → All IsCell frame.title
+fits_title frame ranges = subst (λ l. All IsCell l) (take-append_seam frame.title frame.body) (All-take IsCell (length frame.title) (frame.title ++ frame.body) ranges.cells)
 
-pub fits_body : (frame : Content) → HasRanges frame → All (λ cell. cell ≤ 127) frame.body
-fits_body frame ranges = subst (λ l. All (λ (cell : ℕ). cell ≤ 127) l) (drop-append_seam frame.title frame.body) (All-drop (λ (cell : ℕ). cell ≤ 127) (length frame.title) (frame.title ++ frame.body) ranges.cells)
+-- and so is a body
+pub fits_body : (frame : Content) → HasRanges frame → All IsCell frame.body
+fits_body frame ranges = subst (λ l. All IsCell l) (drop-append_seam frame.title frame.body) (All-drop IsCell (length frame.title) (frame.title ++ frame.body) ranges.cells)
 
--- the heading is a row
+-- the heading of a frame within its ranges is a row of the screen
 pub heading_is_row : (frame : Content) (name : Name) → HasRanges frame → IsFrame frame → IsName name → IsRow (heading frame name)
 heading_is_row frame name ranges holds is =
     let price = price_text frame.price in
@@ -146,17 +150,17 @@ heading_is_row frame name ranges holds is =
     record {
       width = simp (length-append, length-replicate) (omega (arith, holds.title, name-fits, length-price_text frame.price ranges.price));
       seven_bits =
-          All-append (λ (cell : ℕ). cell ≤ 127) (frame.title ++ spaces 1 ++ at_left 11 text) (at_right 4 price)
-          (All-append (λ (cell : ℕ). cell ≤ 127) (frame.title ++ spaces 1) (at_left 11 text)
-          (All-append (λ (cell : ℕ). cell ≤ 127) frame.title (spaces 1) (fits_title frame ranges) (fits_spaces 1))
-          (All-append (λ (cell : ℕ). cell ≤ 127) text (spaces (11 - length text)) (fits_name name is) (fits_spaces (11 - length text))))
-          (All-append (λ (cell : ℕ). cell ≤ 127) (spaces (4 - length price)) price (fits_spaces (4 - length price)) (fits_price frame.price ranges.price));
+          All-append IsCell (frame.title ++ spaces 1 ++ at_left 11 text) (at_right 4 price)
+          (All-append IsCell (frame.title ++ spaces 1) (at_left 11 text)
+          (All-append IsCell frame.title (spaces 1) (fits_title frame ranges) (fits_spaces 1))
+          (All-append IsCell text (spaces (11 - length text)) (fits_name name is) (fits_spaces (11 - length text))))
+          (All-append IsCell (spaces (4 - length price)) price (fits_spaces (4 - length price)) (fits_price frame.price ranges.price));
     }
 
 -- ---- where each cell stands
 
 module _ (frame : Content) (name : Name) (ranges : HasRanges frame) (holds : IsFrame frame) (row : IsRow (heading frame name)) where
-  -- the screen is a grid
+  -- the screen of a frame within its ranges is a grid
   pub composed_is_grid : IsGrid (composed frame name)
   composed_is_grid = record {
     height = refl;

@@ -2,12 +2,14 @@
 use Rattle.std.proofs.Common.{◌≡◌, ℕ, suc, ◌+◌, ◌-◌, ◌<◌, ◌≤◌, List, [], ◌∷◌, ◌++◌, length, get_or, take, drop, set, sym, ap, subst, ◌∙◌, refl, cond, leb, eqb, ◌&&◌, Bool, false, map, replicate, reverse, All, inl, inr, lit<, arith}
 use Rattle.std.specs.Prelude.{IsFalse}
 use Rattle.std.specs.List.{flat_map, suffix_len}
+use Rattle.std.proofs.Math.Nat.{add-sub_cancel}
 use Rattle.std.proofs.lemmas.Bool.{cases_lt, eqb-true, lt-ltb, le-ltb, le-leb, and_from, cond-true, cond-false, cond_both}
 use Rattle.std.proofs.lemmas.Bool.Decides.{eqb_tells, nat_tests}
 use Rattle.std.proofs.lemmas.List.{append-nil, append_assoc, length-append, take-append-drop, drop_all, take_more, take_all, length-take-le, length-set, get_or-set_same, set-set, set-get_or, set_split, set_at, get_or-drop, get_or-reverse, get_or-replicate, length-drop, length-replicate, same_lists, nil_from_length, drop-replicate}
 use Rattle.std.proofs.lemmas.Simd.{splat_is_map}
 use Rattle.std.proofs.lemmas.List.Sums.{fold-append, suffix_len-le-length, prefix_len_passes}
 use Rattle.std.proofs.lemmas.List.Elements.{All-head, All-tail, All-take, All-get_or, All-set}
+use Rattle.pv_cells.specs.Row.{IsCell}
 use Rattle.pv_screen.specs.Grid.{IsGrid, IsRow}
 use Rattle.pv_screen.specs.Overwriting.{overwritten}
 use Rattle.pv_screen.specs.Painting.{cell_bytes, cells_bytes, shown, row_bytes, line_end, line_bytes, painted, message_text}
@@ -27,7 +29,7 @@ behind cells row column = cond (eqb column 40) (at cells (row_below row) 0) (at 
 ready : (d : Display) → IsFalse d.waiting → d ≡ at d.cells d.row d.column
 ready d is = ap (λ (w : Bool). let e : Display = record { cells = d.cells; row = d.row; column = d.column; waiting = w } in e) is
 
--- inside the row it stays there
+-- inside the row it stands right behind them
 behind_inside : (cells : List (List ℕ)) (row column : ℕ) → column < 40 → behind cells row column ≡ at cells row column
 behind_inside cells row column inside =
     elim (eqb_tells column 40) [
@@ -35,47 +37,43 @@ behind_inside cells row column inside =
       | inr (test, differs) ↦ cond-false (eqb column 40) (at cells (row_below row) 0) (at cells row column) test
     ]
 
--- at the end of the row it goes below
+-- behind the last column it is at the start of the row below
 behind_end : (cells : List (List ℕ)) (row column : ℕ) → column ≡ 40 → behind cells row column ≡ at cells (row_below row) 0
 behind_end cells row column end = ap (behind cells row) end
 
--- an attribute's byte less 64
-back_again : (cell : ℕ) → cell + 64 - 64 ≡ cell
-back_again cell = omega arith
-
--- the bytes of a cell write it
-cell_shown : (cells : List (List ℕ)) (row column cell : ℕ) → cell ≤ 127 → terminal_after (at cells row column) (cell_bytes cell) ≡ written (at cells row column) cell
+-- a terminal that takes the bytes of a cell has written that cell
+cell_shown : (cells : List (List ℕ)) (row column cell : ℕ) → IsCell cell → terminal_after (at cells row column) (cell_bytes cell) ≡ written (at cells row column) cell
 cell_shown cells row column cell fits =
     let here = at cells row column in
     let sent = λ (b : Bool). terminal_after here (cond b (27 ∷ (cell + 64) ∷ []) (cell ∷ [])) in
     elim (cases_lt cell 32) [
       | inl attribute ↦
           let second = and_from (leb 64 (cell + 64)) (leb (cell + 64) 95) (le-leb 64 (cell + 64) (omega arith)) (le-leb (cell + 64) 95 (omega arith)) in
-          ap sent (lt-ltb cell 32 attribute) ∙ cond-true (leb 64 (cell + 64) && leb (cell + 64) 95) (written here (cell + 64 - 64)) here second ∙ ap (written here) (back_again cell)
+          ap sent (lt-ltb cell 32 attribute) ∙ cond-true (leb 64 (cell + 64) && leb (cell + 64) 95) (written here (cell + 64 - 64)) here second ∙ ap (written here) (add-sub_cancel cell 64)
       | inr ordinary ↦
           let first = and_from (leb 32 cell) (leb cell 127) (le-leb 32 cell ordinary) (le-leb cell 127 fits) in
           ap sent (le-ltb cell 32 ordinary) ∙ cond-true (leb 32 cell && leb cell 127) (written here cell) _ first
     ]
 
--- one cell written is one cell set
-overwritten_one : (row : List ℕ) (column cell : ℕ) → column < length row → set row column cell ≡ overwritten row column (cell ∷ [])
+-- to set one cell is to write one cell over the row
+overwritten_one : (row : List ℕ) (column cell : ℕ) → column < length row → set row column cell ≡ overwritten column (cell ∷ []) row
 overwritten_one row column cell within =
     let next : suc column ≡ column + 1 = omega arith in
     set_split row column cell within ∙ ap (λ n. take column row ++ cell ∷ drop n row) next ∙ sym (append_assoc (take column row) (cell ∷ []) (drop (column + 1) row))
 
--- nothing written changes nothing
-overwritten_none : (row : List ℕ) (column : ℕ) → overwritten row column [] ≡ row
+-- no cells written over a row leave it as it is
+overwritten_none : (row : List ℕ) (column : ℕ) → overwritten column [] row ≡ row
 overwritten_none row column =
     let same : column + 0 ≡ column = omega arith in
     ap (λ l. l ++ drop (column + 0) row) (append-nil (take column row)) ∙ ap (λ n. take column row ++ drop n row) same ∙ take-append-drop column row
 
 module _ (base : List (List ℕ)) (row : ℕ) (within : row - 1 < length base) where
-  -- a cell of a row that was put in its place
+  -- to set a cell of a row of the screen is to put in its place the row with that cell
   with_cell_put : (cells : List ℕ) (column cell : ℕ) → with_cell (set base (row - 1) cells) row column cell ≡ set base (row - 1) (set cells column cell)
   with_cell_put cells column cell =
       ap (λ l. set (set base (row - 1) cells) (row - 1) (set l column cell)) (get_or-set_same base (row - 1) cells [] within) ∙ set-set base (row - 1) cells (set cells column cell)
 
-  -- the cursor behind a written cell
+  -- a cell that is written in a row stands there, and the cursor behind it
   written_put : (cells : List ℕ) (column cell : ℕ) → written (at (set base (row - 1) cells) row column) cell ≡ behind (set base (row - 1) (set cells column cell)) row (column + 1)
   written_put cells column cell =
       let rows = set base (row - 1) (set cells column cell) in
@@ -83,8 +81,8 @@ module _ (base : List (List ℕ)) (row : ℕ) (within : row - 1 < length base) w
       ap (λ c. cond (eqb column 39) (at c (row_below row) 0) (at c row (column + 1))) (with_cell_put cells column cell)
       ∙ ap (λ t. cond t (at rows (row_below row) 0) (at rows row (column + 1))) test
 
-  -- the bytes of cells write them from the cursor on
-  cells_shown : (cells old : List ℕ) (column : ℕ) → All (λ cell. cell ≤ 127) cells → length old ≡ 40 → column < 40 → column + length cells ≤ 40 → terminal_after (at (set base (row - 1) old) row column) (cells_bytes cells) ≡ behind (set base (row - 1) (overwritten old column cells)) row (column + length cells)
+  -- the bytes of cells that fit into the rest of a row write them from the cursor on
+  cells_shown : (cells old : List ℕ) (column : ℕ) → All IsCell cells → length old ≡ 40 → column < 40 → column + length cells ≤ 40 → terminal_after (at (set base (row - 1) old) row column) (cells_bytes cells) ≡ behind (set base (row - 1) (overwritten column cells old)) row (column + length cells)
   cells_shown [] old column fits width start room =
       let same : column + 0 ≡ column = omega arith in
       sym (
@@ -96,21 +94,21 @@ module _ (base : List (List ℕ)) (row : ℕ) (within : row - 1 < length base) w
       let changed = set old column cell in
       let first =
       fold-append after_byte (at (set base (row - 1) old) row column) (cell_bytes cell) (cells_bytes cells)
-      ∙ ap (λ (d : Display). terminal_after d (cells_bytes cells)) (cell_shown (set base (row - 1) old) row column cell (All-head (λ c. c ≤ 127) cell cells fits) ∙ written_put old column cell)
+      ∙ ap (λ (d : Display). terminal_after d (cells_bytes cells)) (cell_shown (set base (row - 1) old) row column cell (All-head IsCell cell cells fits) ∙ written_put old column cell)
       in
       let one = overwritten_one old column cell (omega arith) in
       elim (cases_lt (column + 1) 40) [
         | inl more ↦
-            let both = ap (λ l. overwritten l (column + 1) cells) one ∙ overwritten-overwritten old column (cell ∷ []) cells (column + 1) refl (omega arith) in
+            let both = ap (overwritten (column + 1) cells) one ∙ overwritten-overwritten old column (cell ∷ []) cells (column + 1) refl (omega arith) in
             let far : column + 1 + length cells ≡ column + suc (length cells) = omega arith in
             first
             ∙ ap (λ (d : Display). terminal_after d (cells_bytes cells)) (behind_inside (set base (row - 1) changed) row (column + 1) more)
-            ∙ cells_shown cells changed (column + 1) (All-tail (λ c. c ≤ 127) cell cells fits) (length-set old column cell ∙ width) more (omega arith)
+            ∙ cells_shown cells changed (column + 1) (All-tail IsCell cell cells fits) (length-set old column cell ∙ width) more (omega arith)
             ∙ ap (λ l. behind (set base (row - 1) l) row (column + 1 + length cells)) both
-            ∙ ap (behind (set base (row - 1) (overwritten old column (cell ∷ cells))) row) far
+            ∙ ap (behind (set base (row - 1) (overwritten column (cell ∷ cells) old)) row) far
         | inr end ↦
             let none = nil_from_length cells (omega arith) in
-            let Shown : List ℕ → Type 0 = λ l. terminal_after (behind (set base (row - 1) changed) row (column + 1)) (cells_bytes l) ≡ behind (set base (row - 1) (overwritten old column (cell ∷ l))) row (column + suc (length l)) in
+            let Shown : List ℕ → Type 0 = λ l. terminal_after (behind (set base (row - 1) changed) row (column + 1)) (cells_bytes l) ≡ behind (set base (row - 1) (overwritten column (cell ∷ l) old)) row (column + suc (length l)) in
             first ∙ subst Shown (sym none) (ap (λ l. behind (set base (row - 1) l) row (column + 1)) one)
       ]
 
@@ -140,7 +138,7 @@ spaces_behind row =
     ∙ sym (get_or-replicate count k 32 d space))
 
 -- what is shown of a row, over a row of spaces, is the row
-shown_over_spaces : (row : List ℕ) → length row ≡ 40 → overwritten blank_row 0 (shown row) ≡ row
+shown_over_spaces : (row : List ℕ) → length row ≡ 40 → overwritten 0 (shown row) blank_row ≡ row
 shown_over_spaces row width =
     let count = suffix_len is_space row in
     let some = suffix_len-le-length is_space row in
@@ -153,18 +151,18 @@ shown_over_spaces row width =
     let whole : shown row ++ drop end row ≡ row = take-append-drop end row in
     ◌∙◌ {b = shown row ++ drop end row} (ap (λ l. shown row ++ l) rest) whole
 
--- the cells of a row without its spaces have values up to 127, too
-fits_shown : (row : List ℕ) → IsRow row → All (λ cell. cell ≤ 127) (shown row)
-fits_shown row is = All-take (λ cell. cell ≤ 127) (length row - suffix_len is_space row) row is.seven_bits
+-- what is shown of a row is cells
+fits_shown : (row : List ℕ) → IsRow row → All IsCell (shown row)
+fits_shown row is = All-take IsCell (length row - suffix_len is_space row) row is.seven_bits
 
 module _ (base : List (List ℕ)) (row : ℕ) (within : row - 1 < length base) where
-  -- a row's cells over a row of spaces
+  -- the bytes of a row, taken at the start of a row of spaces, make it that row
   row_shown : (cells : List ℕ) → IsRow cells → terminal_after (at (set base (row - 1) blank_row) row 0) (row_bytes cells) ≡ behind (set base (row - 1) cells) row (0 + length (shown cells))
   row_shown cells is =
       cells_shown base row within (shown cells) blank_row 0 (fits_shown cells is) refl (lit< tt) (omega (arith, length-shown-le cells, is.width))
       ∙ ap (λ l. behind (set base (row - 1) l) row (0 + length (shown cells))) (shown_over_spaces cells is.width)
 
-  -- a line's cells over a row of spaces, with the cursor at the start of the next row
+  -- so do the bytes of its line, and they leave the cursor at the start of the next row
   line_shown : (cells : List ℕ) → IsRow cells → row < 24 → terminal_after (at (set base (row - 1) blank_row) row 0) (line_bytes cells) ≡ at (set base (row - 1) cells) (row + 1) 0
   line_shown cells is above =
       let end = line_end cells in
@@ -192,7 +190,7 @@ module _ (base : List (List ℕ)) (row : ℕ) (within : row - 1 < length base) w
 abbrev blank_rows : List (List ℕ) → List (List ℕ)
 blank_rows lines = map (λ _. blank_row) lines
 
--- lines in place of as many rows of spaces
+-- lines, taken at the first of as many rows of spaces, stand in their place
 lines_shown : (lines above rest : List (List ℕ)) → All IsRow lines → length above + length lines < 24 → terminal_after (at (above ++ (blank_rows lines ++ rest)) (length above + 1) 0) (flat_map line_bytes lines) ≡ at (above ++ (lines ++ rest)) (length above + length lines + 1) 0
 lines_shown [] above rest are room =
     let same : length above + 1 ≡ length above + 0 + 1 = omega arith in
@@ -216,12 +214,13 @@ lines_shown (line ∷ lines) above rest are room =
     ∙ ap (λ l. at l (length next + length lines + 1) 0) (append_assoc above (line ∷ []) (lines ++ rest))
     ∙ ap (λ n. at (above ++ (line ∷ (lines ++ rest))) n 0) down
 
--- the cells of such a display, which does not wait
+-- the cells are the same wherever the cursor is behind a row
 cells-behind : (rows : List (List ℕ)) (row column : ℕ) → (behind rows row column).cells ≡ rows
 cells-behind rows row column =
     let P : Display → Type 0 = λ d. d.cells ≡ rows in
     cond_both (eqb column 40) (at rows (row_below row) 0) (at rows row column) P (λ _. refl) (λ _. refl)
 
+-- where they are a grid, the terminal is ready for the next bytes
 IsReady-behind : (rows : List (List ℕ)) (row column : ℕ) → IsGrid rows → IsReady (behind rows row column)
 IsReady-behind rows row column is =
     cond_both (eqb column 40) (at rows (row_below row) 0) (at rows row column) IsReady (λ _. record { cells = is; first = refl }) (λ _. record { cells = is; first = refl })
@@ -256,20 +255,20 @@ message_shown cells d is grid first =
     let old = get_or rows 23 [] in
     let within : 24 - 1 < length rows = omega (arith, grid.height) in
     let was : IsRow old = All-get_or IsRow rows 23 [] within grid.rows in
-    let all : overwritten old 0 cells ≡ cells = ap (λ l. cells ++ l) (drop_all (0 + length cells) old (omega (arith, was.width, is.width))) ∙ append-nil cells in
+    let all : overwritten 0 cells old ≡ cells = ap (λ l. cells ++ l) (drop_all (0 + length cells) old (omega (arith, was.width, is.width))) ∙ append-nil cells in
     ap (λ (e : Display). terminal_after e (message_text cells)) (ready d first)
     ∙ ap (λ l. terminal_after (at l 24 0) (cells_bytes cells)) (sym (set-get_or rows 23 []))
     ∙ cells_shown rows 24 within cells old 0 is.seven_bits was.width (lit< tt) (omega (arith, is.width))
     ∙ ap (λ l. behind (set rows 23 l) 24 (0 + length cells)) all
 
--- a grid with another last row
+-- a grid with another last row is a grid
 IsGrid-last_row : (rows : List (List ℕ)) (cells : List ℕ) → IsGrid rows → IsRow cells → IsGrid (set rows 23 cells)
 IsGrid-last_row rows cells grid is = record {
   height = length-set rows 23 cells ∙ grid.height;
   rows = All-set IsRow rows 23 cells is grid.rows;
 }
 
--- a grid's last row is a row
+-- what is the last row of a grid is a row
 pub IsRow-last : (rows : List (List ℕ)) (cells : List ℕ) → length rows ≡ 24 → IsGrid (set rows 23 cells) → IsRow cells
 IsRow-last rows cells height is =
     subst IsRow (get_or-set_same rows 23 cells [] (omega arith)) (All-get_or IsRow (set rows 23 cells) 23 [] (omega (arith, is.height)) is.rows)
@@ -279,21 +278,23 @@ pub IsReady-new : IsReady new_display
 IsReady-new = record { cells = IsGrid-blank; first = refl }
 
 module _ (grid : List (List ℕ)) (is : IsGrid grid) (d : Display) (first : IsFalse d.waiting) where
-  -- the terminal shows the painted screen, and is ready for the next
+  -- a terminal that takes the bytes of a painted grid shows that grid
   pub painted_shows : (terminal_after d (painted grid)).cells ≡ grid
   painted_shows =
       ap (λ (e : Display). e.cells) (painted_shown grid d is first) ∙ cells-behind grid 24 (0 + length (shown (get_or grid 23 [])))
 
+  -- and is ready for the next bytes
   pub painted_ready : IsReady (terminal_after d (painted grid))
   painted_ready =
       subst IsReady (sym (painted_shown grid d is first)) (IsReady-behind grid 24 (0 + length (shown (get_or grid 23 []))) is)
 
 module _ (cells : List ℕ) (is : IsRow cells) (d : Display) (before : IsReady d) where
-  -- the terminal shows the message in row 24 of what it showed, and is ready for the next
+  -- a terminal that takes the bytes of a message shows it in row 24, and in the other rows what it showed
   pub message_shows : (terminal_after d (message_text cells)).cells ≡ set d.cells 23 cells
   message_shows =
       ap (λ (e : Display). e.cells) (message_shown cells d is before.cells before.first) ∙ cells-behind (set d.cells 23 cells) 24 (0 + length cells)
 
+  -- and is ready for the next bytes
   pub message_ready : IsReady (terminal_after d (message_text cells))
   message_ready =
       subst IsReady (sym (message_shown cells d is before.cells before.first)) (IsReady-behind (set d.cells 23 cells) 24 (0 + length cells) (IsGrid-last_row d.cells cells before.cells is))

@@ -12,10 +12,11 @@ use Rattle.pv_screen.specs.declared.grid.TheConstants.{COLUMNS}
 abbrev pub spaces : ℕ → List ℕ
 spaces count = replicate count SPACE
 
--- a text at the left of so many cells, and one at the right of them
+-- a text at the left of so many cells, with spaces behind it
 abbrev pub at_left : ℕ → List ℕ → List ℕ
 at_left width text = text ++ spaces (width - length text)
 
+-- a text at the right of so many cells, with spaces before it
 abbrev pub at_right : ℕ → List ℕ → List ℕ
 at_right width text = spaces (width - length text) ++ text
 

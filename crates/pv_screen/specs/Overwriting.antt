@@ -1,6 +1,6 @@
 -- Bytes written over others.
 use Rattle.std.specs.Prelude.{ℕ, ◌+◌, List, ◌++◌, length, take, drop}
 
--- a buffer with bytes in place of what stood from a place on
-abbrev pub overwritten : List ℕ → ℕ → List ℕ → List ℕ
-overwritten buffer at bytes = take at buffer ++ bytes ++ drop (at + length bytes) buffer
+-- the text with these bytes at this place
+abbrev pub overwritten : ℕ → List ℕ → List ℕ → List ℕ
+overwritten at bytes text = take at text ++ bytes ++ drop (at + length bytes) text

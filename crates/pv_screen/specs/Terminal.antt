@@ -1,6 +1,6 @@
 -- A viewdata terminal: what it holds, and what each byte does to it. It knows nothing of painting.
-use Rattle.std.specs.Prelude.{ℕ, ◌+◌, ◌-◌, ◌≤◌, ◌<◌, Bool, true, false, IsFalse, ◌&&◌, List, [], fold, replicate, slice_set, slice_index_or, nat_le, ◌==◌, if◌then◌else◌}
-use Rattle.pv_screen.specs.Grid.{IsGrid}
+use Rattle.std.specs.Prelude.{ℕ, ◌+◌, ◌-◌, ◌≤◌, ◌<◌, Bool, true, false, IsFalse, ◌&&◌, List, [], fold, slice_set, slice_index_or, nat_le, ◌==◌, if◌then◌else◌}
+use Rattle.pv_screen.specs.Grid.{IsGrid, blank}
 use Rattle.pv_screen.specs.declared.grid.TheConstants.{ROWS, COLUMNS}
 use Rattle.pv_screen.specs.declared.codes.TheConstants.{BACK, FORWARD, DOWN, UP, CLEAR, RETURN, ESCAPE, HOME, SPACE, LAST_CELL, ATTRIBUTES, LAST_ATTRIBUTE}
 
@@ -23,25 +23,23 @@ pub record IsReady (display : Display) : Type 0 where
   pub cells : IsGrid display.cells
   pub first : IsFalse display.waiting
 
--- a screen with every cell a space
-abbrev pub blank : List (List ℕ)
-blank = replicate ROWS (replicate COLUMNS SPACE)
-
 -- the terminal as it is switched on
 abbrev pub new_display : Display
 new_display = record { cells = blank; row = 1; column = 0; waiting = false }
 
--- the row below the last is the first, and the row above the first is the last
+-- the row below the last is the first
 abbrev pub row_below : ℕ → ℕ
 row_below row = if row == ROWS then 1 else row + 1
 
+-- the row above the first is the last
 abbrev pub row_above : ℕ → ℕ
 row_above row = if row == 1 then ROWS else row - 1
 
--- the cursor one row down, and one row up
+-- the cursor one row down
 abbrev pub down : Display → Display
 down display = record display { row = row_below display.row }
 
+-- the cursor one row up
 abbrev pub up : Display → Display
 up display = record display { row = row_above display.row }
 
@@ -77,7 +75,7 @@ abbrev pub written : Display → ℕ → Display
 written display cell =
     forward (record display { cells = with_cell display.cells display.row display.column cell })
 
--- a byte that does not stand behind an escape
+-- what a byte does that does not stand behind an escape
 abbrev pub after_first : Display → ℕ → Display
 after_first display byte =
     if nat_le SPACE byte && nat_le byte LAST_CELL then written display byte
@@ -91,7 +89,7 @@ after_first display byte =
     else (if byte == HOME then home display
     else display))))))))
 
--- a byte behind an escape: 0x40 to 0x5F is an attribute, and any other does nothing
+-- what a byte does behind an escape: 0x40 to 0x5F writes an attribute, and any other does nothing
 abbrev pub after_second : Display → ℕ → Display
 after_second display byte =
     if nat_le ATTRIBUTES byte && nat_le byte LAST_ATTRIBUTE then written display (byte - ATTRIBUTES) else display
@@ -101,6 +99,6 @@ abbrev pub after_byte : Display → ℕ → Display
 after_byte display byte =
     if display.waiting then after_second (record display { waiting = false }) byte else after_first display byte
 
--- the terminal after bytes
+-- the terminal after these bytes, one after another
 abbrev pub terminal_after : Display → List ℕ → Display
 terminal_after display bytes = fold after_byte display bytes

@@ -41,4 +41,4 @@ pub const ATTRIBUTES: u8 = 0x40;
 pub const LAST_ATTRIBUTE: u8 = 0x5F;
 
 /// The highest cell.
-pub const LAST_CELL: u8 = 0x7F;
+pub const LAST_CELL: u8 = pv_cells::LAST_CELL;

@@ -56,7 +56,7 @@ fn heading(frame: &Frame, name: FrameName) -> [u8; COLUMNS]
 
 /// Writes a frame's name from its column on.
 fn put_name(name: FrameName, row: &mut [u8; COLUMNS])
-    ensures value { row.new ≡ overwritten row.old NAME_COLUMN (name_text name) }
+    ensures value { row.new ≡ overwritten NAME_COLUMN (name_text name) row.old }
     ensures within { IsName name }
 {
     let mut text = [0; 10];
@@ -67,7 +67,7 @@ fn put_name(name: FrameName, row: &mut [u8; COLUMNS])
 /// Writes a price so that it ends with the row.
 fn put_price(price: u16, row: &mut [u8; COLUMNS])
     requires { price ≤ LAST_PRICE }
-    ensures { row.new ≡ overwritten row.old (COLUMNS - length (price_text price)) (price_text price) }
+    ensures { row.new ≡ overwritten (COLUMNS - length (price_text price)) (price_text price) row.old }
 {
     if price > 0 {
         let mut buffer = Buffer::new();
@@ -80,7 +80,7 @@ fn put_price(price: u16, row: &mut [u8; COLUMNS])
 /// Writes cells from a column on.
 fn put(cells: &[u8], row: &mut [u8; COLUMNS], column: usize)
     requires { column + length cells.now ≤ COLUMNS }
-    ensures { row.new ≡ overwritten row.old column cells.now }
+    ensures { row.new ≡ overwritten column cells.now row.old }
 {
     row[column..column + cells.len()].copy_from_slice(cells);
 }

@@ -1,6 +1,7 @@
-ghost use Rattle.std.specs.Prelude.{◌≡◌, ℕ, ◌-◌, ◌<◌, ◌≤◌, List, All, Some, slice_get, slice_set, replicate};
+ghost use Rattle.std.specs.Prelude.{◌≡◌, ◌-◌, ◌<◌, ◌≤◌, All, Some, slice_get, slice_set};
+ghost use Rattle.pv_cells.specs.Row.{IsCell};
 
-use crate::codes::{LAST_CELL, SPACE};
+use crate::codes::SPACE;
 use std::marker::Model;
 
 /// How many rows a screen has.
@@ -29,12 +30,12 @@ impl Model for Grid {
 }
 
 impl Grid {
-    ghost use Rattle.pv_screen.specs.Grid.{IsGrid, IsRow};
+    ghost use Rattle.pv_screen.specs.Grid.{IsGrid, IsRow, blank};
     ghost use Rattle.pv_screen.specs.Terminal.{with_cell};
 
     /// A screen with every cell a space.
     pub fn blank() -> Self
-        ensures value { result ≡ replicate ROWS (replicate COLUMNS SPACE) }
+        ensures value { result ≡ blank }
         ensures cells { IsGrid result }
     {
         Grid {
@@ -59,17 +60,18 @@ impl Grid {
     pub fn set_row(&mut self, row: u8, cells: &[u8; COLUMNS])
         requires from { 1 ≤ row }
         requires to { row ≤ ROWS }
-        requires cells { All (λ cell. cell ≤ LAST_CELL) cells.now }
+        requires cells { All IsCell cells.now }
         ensures { self.new ≡ slice_set self.old (row - 1) cells.now }
     {
         self.rows[row as usize - 1] = *cells;
     }
+
     /// Puts a cell of 0 to 127 in a column, which is counted from 0 at the left, of a row, which is counted from 1.
     pub(crate) fn set_cell(&mut self, row: u8, column: u8, cell: u8)
         requires from { 1 ≤ row }
         requires to { row ≤ ROWS }
         requires column { column < COLUMNS }
-        requires cell { cell ≤ LAST_CELL }
+        requires cell { IsCell cell }
         ensures value { self.new ≡ with_cell self.old row column cell }
         ensures cells { IsGrid self.new }
     {

@@ -1,10 +1,11 @@
 ghost use Rattle.std.specs.Prelude.{◌≡◌, ℕ, ◌+◌, ◌-◌, ◌*◌, ◌≤◌, List, [], ◌∷◌, ◌++◌, All, IsFalse, length, take, drop, slice_set};
+ghost use Rattle.pv_cells.specs.Row.{IsCell};
 ghost use Rattle.pv_screen.specs.Grid.{IsGrid};
 ghost use Rattle.pv_screen.specs.Terminal.{Display, IsReady, terminal_after};
 ghost use Rattle.pv_screen.specs.Painting.{painted, message_text, cell_bytes, cells_bytes, shown, line_bytes};
 ghost use Rattle.pv_screen.specs.Overwriting.{overwritten};
 
-use crate::codes::{ATTRIBUTES, CLEAR, DOWN, ESCAPE, HOME, LAST_CELL, RETURN, SPACE, UP};
+use crate::codes::{ATTRIBUTES, CLEAR, DOWN, ESCAPE, HOME, RETURN, SPACE, UP};
 use crate::grid::{COLUMNS, Grid, ROWS};
 
 /// How many bytes the caller's buffer has.
@@ -43,13 +44,13 @@ pub fn message(cells: &[u8; COLUMNS], into: &mut [u8; BUFFER]) -> usize
     ensures behind { drop result into.new ≡ drop result into.old }
 
     // The terminal that takes these bytes shows the cells in row 24, and in the other rows what it showed.
-    ensures shows { All (λ cell. cell ≤ LAST_CELL) cells.now → (t : Display) → IsReady t
+    ensures shows { All IsCell cells.now → (t : Display) → IsReady t
         → (terminal_after t (take result into.new)).cells ≡ slice_set t.cells (ROWS - 1) cells.now }
-    ensures ready { All (λ cell. cell ≤ LAST_CELL) cells.now → (t : Display) → IsReady t
+    ensures ready { All IsCell cells.now → (t : Display) → IsReady t
         → IsReady (terminal_after t (take result into.new)) }
 
     // After any painted screen, they change row 24 of that screen alone.
-    ensures after_a_screen { All (λ cell. cell ≤ LAST_CELL) cells.now → (grid : List (List ℕ)) → IsGrid grid
+    ensures after_a_screen { All IsCell cells.now → (grid : List (List ℕ)) → IsGrid grid
         → (t : Display) → IsFalse t.waiting
         → (terminal_after t (painted grid ++ take result into.new)).cells
         ≡ slice_set grid (ROWS - 1) cells.now }
@@ -62,7 +63,7 @@ pub fn message(cells: &[u8; COLUMNS], into: &mut [u8; BUFFER]) -> usize
 fn put_line(row: &[u8; COLUMNS], into: &mut [u8], at: usize) -> usize
     requires { at + 2 * COLUMNS ≤ length into.old }
     ensures end { result ≡ at + length (line_bytes row.now) }
-    ensures value { into.new ≡ overwritten into.old at (line_bytes row.now) }
+    ensures value { into.new ≡ overwritten at (line_bytes row.now) into.old }
 {
     let cells = shown(row);
     let end = put_cells(cells, into, at);
@@ -88,7 +89,7 @@ fn shown(row: &[u8; COLUMNS]) -> &[u8]
 fn put_cells(cells: &[u8], into: &mut [u8], at: usize) -> usize
     requires { at + 2 * length cells.now ≤ length into.old }
     ensures end { result ≡ at + length (cells_bytes cells.now) }
-    ensures value { into.new ≡ overwritten into.old at (cells_bytes cells.now) }
+    ensures value { into.new ≡ overwritten at (cells_bytes cells.now) into.old }
 {
     let mut end = at;
     for cell in cells {
@@ -101,7 +102,7 @@ fn put_cells(cells: &[u8], into: &mut [u8], at: usize) -> usize
 fn put_cell(cell: u8, into: &mut [u8], at: usize) -> usize
     requires { at + 2 ≤ length into.old }
     ensures end { result ≡ at + length (cell_bytes cell) }
-    ensures value { into.new ≡ overwritten into.old at (cell_bytes cell) }
+    ensures value { into.new ≡ overwritten at (cell_bytes cell) into.old }
 {
     if cell < SPACE {
         put_pair(ESCAPE, cell + ATTRIBUTES, into, at)
@@ -115,7 +116,7 @@ fn put_cell(cell: u8, into: &mut [u8], at: usize) -> usize
 fn put_pair(first: u8, second: u8, into: &mut [u8], at: usize) -> usize
     requires { at + 2 ≤ length into.old }
     ensures end { result ≡ at + 2 }
-    ensures value { into.new ≡ overwritten into.old at (first ∷ second ∷ []) }
+    ensures value { into.new ≡ overwritten at (first ∷ second ∷ []) into.old }
 {
     into[at] = first;
     into[at + 1] = second;

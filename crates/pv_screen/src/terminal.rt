@@ -1,4 +1,5 @@
-ghost use Rattle.std.specs.Prelude.{◌≡◌, ◌≤◌};
+ghost use Rattle.std.specs.Prelude.{◌≡◌};
+ghost use Rattle.pv_cells.specs.Row.{IsCell};
 
 use crate::codes::{
     ATTRIBUTES, BACK, CLEAR, DOWN, ESCAPE, FORWARD, HOME, LAST_ATTRIBUTE, LAST_CELL, RETURN, SPACE,
@@ -95,14 +96,14 @@ impl Terminal {
     fn take_second(&mut self, byte: u8)
         ensures { self.new ≡ after_second self.old byte }
     {
-        if byte >= ATTRIBUTES && byte <= LAST_ATTRIBUTE {
+        if matches!(byte, ATTRIBUTES..=LAST_ATTRIBUTE) {
             self.write(byte - ATTRIBUTES);
         }
     }
 
     /// Writes a cell at the cursor, which goes forward.
     fn write(&mut self, cell: u8)
-        requires { cell ≤ LAST_CELL }
+        requires { IsCell cell }
         ensures { self.new ≡ written self.old cell }
     {
         self.grid.set_cell(self.row, self.column, cell);

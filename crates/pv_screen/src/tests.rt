@@ -1,4 +1,5 @@
 ghost use Rattle.std.specs.Prelude.{◌≡◌, ◌≤◌, All, length};
+ghost use Rattle.pv_cells.specs.Row.{IsCell};
 ghost use Rattle.pv_frame.specs.declared.layout.TheConstants.{BODY_CELLS};
 
 use super::*;
@@ -32,7 +33,7 @@ fn assert_painted(rt: &impl Abort, grid: &Grid, parts: &[&[u8]]) {
 /// A row that begins with `text`, whose bytes are at most 0x7F.
 fn row_of(text: &[u8]) -> [u8; COLUMNS]
     requires { length text.now ≤ COLUMNS }
-    ensures { All (λ cell. cell ≤ LAST_CELL) result }
+    ensures { All IsCell result }
 {
     let mut row = [SPACE; COLUMNS];
     for (at, byte) in text.iter().enumerate() {
@@ -220,7 +221,7 @@ fn each_byte_moves_the_cursor(rt: HostRuntime) {
             terminal.take(byte);
             let blank = if byte == codes::CLEAR { SPACE } else { b'A' };
             assert_eq!(rt; cell_at(&rt, &terminal, 1, 0), blank);
-            let written = if byte >= 0x20 && byte <= 0x7F {
+            let written = if matches!(byte, 0x20..=0x7F) {
                 byte
             } else {
                 SPACE
@@ -240,7 +241,7 @@ fn each_byte_behind_an_escape(rt: HostRuntime) {
         terminal.take(codes::ESCAPE);
         terminal.take(byte);
         terminal.take(b'X');
-        if byte >= 0x40 && byte <= 0x5F {
+        if matches!(byte, 0x40..=0x5F) {
             assert_eq!(rt; cell_at(&rt, &terminal, 2, 2), byte - 0x40);
             assert_eq!(rt; cell_at(&rt, &terminal, 2, 3), b'X', "after {byte}");
         } else {

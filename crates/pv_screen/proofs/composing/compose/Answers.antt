@@ -1,7 +1,8 @@
-use Rattle.std.proofs.Common.{◌≡◌, ◌≤◌, ◌-◌, [], ◌∷◌, ◌++◌, ℕ, All, length, get_or, take, drop, ap, subst, sym, ◌∙◌}
+use Rattle.std.proofs.Common.{◌≡◌, ◌-◌, [], ◌∷◌, ◌++◌, All, length, get_or, take, drop, ap, subst, sym, ◌∙◌}
 use Rattle.std.specs.Prelude.{slice_set, slice_range}
 use Rattle.std.specs.List.{concat}
 use Rattle.pv_page.specs.Names.{name_text}
+use Rattle.pv_cells.specs.Row.{IsCell}
 use Rattle.pv_frame.specs.Content.{Content, IsFrame}
 use Rattle.pv_screen.specs.Composing.{body_rows, composed, price_text, spaces}
 use Rattle.pv_screen.specs.Grid.{IsGrid, IsRow}
@@ -9,7 +10,7 @@ use Rattle.pv_screen.proofs.Placing.{fits_body, composed_is_grid, title_stands, 
 use Rattle.pv_screen.proofs.composing.compose.Goals as goal
 
 pub with_body-grid-requires : goal.with_body-grid-requires
-with_body-grid-requires c = subst (λ (f : Content). All (λ (cell : ℕ). cell ≤ 127) f.body) (sym c.frame.view_is) (fits_body c.args.frame.now c.requires)
+with_body-grid-requires c = subst (λ (f : Content). All IsCell f.body) (sym c.frame.view_is) (fits_body c.args.frame.now c.requires)
 
 -- the heading stands above the body, and each part of the frame where it should
 pub returns : goal.returns

@@ -1,4 +1,4 @@
-use Rattle.std.proofs.Common.{◌≡◌, ◌-◌, ◌≤◌, List, ℕ, length, ap, subst, sym, ◌∙◌, arith}
+use Rattle.std.proofs.Common.{◌≡◌, ◌-◌, ◌≤◌, length, ap, subst, sym, ◌∙◌, arith}
 use Rattle.pv_page.specs.Names.{name_text}
 use Rattle.pv_page.proofs.CallerLemmas.{length-name_text}
 use Rattle.pv_frame.specs.Content.{Content, IsFrame}
@@ -15,9 +15,8 @@ written c =
     let title = c.frame.inside.title in
     let text = name_text c.args.name in
     let price = price_text c.frame.inside.price in
-    let with_price : List ℕ → List ℕ = λ row. overwritten row (40 - length price) price in
     c.put_price.ensures
-    ∙ ap with_price (c.put_name.ensures.value ∙ ap (λ row. overwritten row 25 text) c.put.ensures)
+    ∙ ap (overwritten (40 - length price) price) (c.put_name.ensures.value ∙ ap (overwritten 25 text) c.put.ensures)
     ∙ heading_written title text price c.frame.invariant.holds.title (omega (arith, length-name_text c.args.name c.put_name.ensures.within)) (omega (arith, length-price_text c.frame.inside.price (subst (λ (f : Content). f.price ≤ 99) (sym c.frame.view_is) c.requires.price)))
     ∙ ap (λ (f : Content). heading f c.args.name) c.frame.view_is
 

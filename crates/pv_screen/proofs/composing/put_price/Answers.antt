@@ -18,4 +18,4 @@ returns-then-price-gt0 c =
     let at : 39 - length digits ≡ 40 - length (price_text c.args.price) = omega arith in
     let end : 39 ≡ 39 - length digits + length digits = omega arith in
     written_behind row c.put.new.row c.put-then-price-gt0.new.row (39 - length digits) 39 digits (112 ∷ []) c.put.ensures end c.put-then-price-gt0.ensures (omega (arith, c.told-row))
-    ∙ ap (overwritten row (39 - length digits)) text ∙ ap (λ n. overwritten row n (price_text c.args.price)) at
+    ∙ ap (λ cells. overwritten (39 - length digits) cells row) text ∙ ap (λ n. overwritten n (price_text c.args.price) row) at

@@ -1,8 +1,7 @@
 use Rattle.std.proofs.Common.{◌≡◌, ◌+◌, ◌-◌, ◌/◌, [], refl, length, All, get_or, set, ap, subst, sym, ◌∙◌, arith}
 use Rattle.std.specs.Simd.{first_chunks}
 use Rattle.std.proofs.lemmas.List.Elements.{All-get_or}
-use Rattle.pv_screen.specs.Grid.{IsRow}
-use Rattle.pv_screen.specs.Terminal.{blank}
+use Rattle.pv_screen.specs.Grid.{IsRow, blank}
 use Rattle.pv_screen.proofs.Placing.{rows-first_chunks, length-first_chunks, with_rows, with_rows_more}
 use Rattle.pv_screen.proofs.composing.with_body.Goals as goal
 use Rattle.pv_screen.proofs.composing.with_body.Goals.{After-as_chunks}

@@ -1,5 +1,5 @@
 use Rattle.std.proofs.Common.{◌≡◌}
-use Rattle.pv_screen.specs.Terminal.{blank}
+use Rattle.pv_screen.specs.Grid.{blank}
 use Rattle.pv_screen.proofs.Placing.{with_rows}
 use Rattle.pv_screen.proofs.composing.with_body.Given as goal
 

@@ -17,7 +17,7 @@ loop-row-preserved c =
     record {
       at = omega (arith, ap length more, length-append above (line_bytes row), c.put_line-at.ensures.end, c.loop-row.invariant.at);
       within = omega (arith, short, c.put_line-at.ensures.end);
-      into = written_behind c.args.into.now c.loop-row.into c.put_line-at.new.into 0 c.loop-row.at (12 ∷ above) (line_bytes row) c.loop-row.invariant.into c.loop-row.invariant.at c.put_line-at.ensures.value (omega (arith, c.loop-row.invariant.within, c.loop-row.invariant.at, c.told-into)) ∙ ap (overwritten c.args.into.now 0) (sym more);
+      into = written_behind c.args.into.now c.loop-row.into c.put_line-at.new.into 0 c.loop-row.at (12 ∷ above) (line_bytes row) c.loop-row.invariant.into c.loop-row.invariant.at c.put_line-at.ensures.value (omega (arith, c.loop-row.invariant.within, c.loop-row.invariant.at, c.told-into)) ∙ ap (λ bytes. overwritten 0 bytes c.args.into.now) (sym more);
       room = omega arith;
     }
 

@@ -9,6 +9,6 @@ abbrev pub invariant-loop-row : goal.invariant-loop-row
 invariant-loop-row l = record {
   at : l.at ≡ 0 + length (12 ∷ flat_map line_bytes (take (l.row - 1) l.grid));
   within : l.at ≤ 1 + 80 * (l.row - 1);
-  into : l.into ≡ overwritten l.fn.into 0 (12 ∷ flat_map line_bytes (take (l.row - 1) l.grid));
+  into : l.into ≡ overwritten 0 (12 ∷ flat_map line_bytes (take (l.row - 1) l.grid)) l.fn.into;
   room : length l.into ≡ 2048;
 }

@@ -7,5 +7,5 @@ use Rattle.pv_screen.proofs.painting.put_cells.Given as goal
 abbrev pub invariant-loop-cell : goal.invariant-loop-cell
 invariant-loop-cell l = record {
   end : l.end ≡ l.fn.at + length (cells_bytes (take l.cell-index l.cells));
-  into : l.into ≡ overwritten l.fn.into l.fn.at (cells_bytes (take l.cell-index l.cells));
+  into : l.into ≡ overwritten l.fn.at (cells_bytes (take l.cell-index l.cells)) l.fn.into;
 }

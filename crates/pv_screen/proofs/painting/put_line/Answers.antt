@@ -17,4 +17,4 @@ returns-then-cells-lt-COLUMNS-clause-value c =
     ap (λ l. cells_bytes l ++ 13 ∷ 10 ∷ []) c.shown-cells.ensures ∙ ap (λ end. row_bytes row ++ end) (sym (line_end_short row short))
     in
     written_behind old c.put_cells-end.new.into c.put_pair.new.into c.args.at c.put_cells-end.result (cells_bytes cells) (13 ∷ 10 ∷ []) c.put_cells-end.ensures.value c.put_cells-end.ensures.end c.put_pair.ensures.value (omega (arith, length-cells_bytes-le cells))
-    ∙ ap (overwritten old c.args.at) whole
+    ∙ ap (λ bytes. overwritten c.args.at bytes old) whole

@@ -1,7 +1,7 @@
 use Rattle.std.proofs.Common.{refl, subst, sym}
-use Rattle.pv_screen.specs.Grid.{IsGrid}
+use Rattle.pv_screen.specs.Grid.{IsGrid, blank}
 use Rattle.pv_screen.specs.Showing.{HasCells, IsScreen}
-use Rattle.pv_screen.specs.Terminal.{blank, new_display}
+use Rattle.pv_screen.specs.Terminal.{new_display}
 use Rattle.pv_screen.proofs.Shows.{IsReady-new, IsRow-last}
 use Rattle.pv_screen.proofs.screen.Screen.bytes.Goals as goal
 
