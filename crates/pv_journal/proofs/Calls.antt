@@ -1,23 +1,26 @@
 -- What a disk tells of its room and of the calls that are left, over one call of it and over more.
-use Rattle.std.proofs.Common.{◌≡◌, ℕ, zero, suc, ◌+◌, ◌-◌, ◌≤◌, Option, Some, None, IfSome, Result, Ok, Err, IsErr, refl, sym, ◌∙◌, ap, subst, arith}
+use Rattle.std.proofs.Common.{◌≡◌, ℕ, zero, suc, ◌+◌, ◌-◌, ◌≤◌, Option, Some, None, IfSome, Result, Ok, Err, IsErr, sym, ◌∙◌, ap, subst, arith}
 use Rattle.std.proofs.lemmas.Bool.{false≢true}
 use Rattle.std.specs.Option.{option_map}
 use Rattle.pv_outside.specs.Disk.{NoMore, Budget, clock_after, budget_after, HasCalls, IsEndless, IsSpent}
 use Rattle.pv_outside.specs.declared.disk.Disk as disk
 use Rattle.pv_journal.specs.Journal.{HasLeft, IsPaid, Remains}
 
--- a call leaves the room, and takes one of the calls that are left
+-- a call that is paid for leaves the room, and takes one of the calls that are left
 abbrev pub Pays : (Budget → Budget) → Type 0
 Pays pay = (b : Budget) → ((pay b).room ≡ b.room) × ((pay b).left ≡ option_map (λ n. n - 1) b.left)
 
+-- of n + 1 calls that are left, n still are after one
 one_less : (n : ℕ) → suc n - 1 ≡ n
 one_less n = omega arith
 
+-- however many calls are left, it is at least none
 any_left : (o : Option ℕ) → IfSome o (λ left. 0 ≤ left)
 any_left None = tt
 any_left (Some n) = omega arith
 
 module _ {T E : Type 0} where
+  -- a disk that has this room and calls without end still has both after a call of it, whatever the call answers
   pub endless_after : (r : Result T E) (pay : Budget → Budget) → Pays pay → (old new : Option Budget) → new ≡ budget_after r pay old
       → (room : ℕ) → IsEndless room old → IsEndless room new
   endless_after (Err e) pay pays old new is room endless = subst (IsEndless room) (sym is) endless
@@ -25,6 +28,7 @@ module _ {T E : Type 0} where
   endless_after (Ok x) pay pays (Some b) new is room endless =
       subst (IsEndless room) (sym is) (subst (λ (k : ℕ). room ≤ k) (sym (pays b).0) endless.0, (pays b).1 ∙ ap (option_map (λ n. n - 1)) endless.1)
 
+  -- a disk that tells its budget with at least this room tells it so after a call of it
   pub told_after : (r : Result T E) (pay : Budget → Budget) → Pays pay → (old new : Option Budget) → new ≡ budget_after r pay old
       → (room : ℕ) → HasCalls 0 room old → HasCalls 0 room new
   told_after (Err e) pay pays old new is room told = subst (HasCalls 0 room) (sym is) told
@@ -32,6 +36,7 @@ module _ {T E : Type 0} where
   told_after (Ok x) pay pays (Some b) new is room told =
       subst (HasCalls 0 room) (sym is) (subst (λ (k : ℕ). room ≤ k) (sym (pays b).0) told.0, any_left (pay b).left)
 
+  -- a call that succeeds is one of those that were left, and one that fails takes none
   pub paid_after : (r : Result T E) (pay : Budget → Budget) → Pays pay → (old new : Option Budget) (before now : ℕ) → new ≡ budget_after r pay old
       → now ≡ clock_after r before → (IsSpent old → IsErr r) → (n : ℕ) → HasLeft n old → (m : ℕ) × HasLeft m new × (now + m ≤ before + n)
   paid_after (Err e) pay pays old new before now is clock spent n has = (n, subst (HasLeft n) (sym is) has, omega (arith, clock))
@@ -41,7 +46,7 @@ module _ {T E : Type 0} where
       (n, subst (HasLeft n) (sym is) ((pays b).1 ∙ ap (option_map (λ n. n - 1)) has ∙ ap Some (one_less n)), omega (arith, clock))
 
 module _ {D F : Type 0} (g : disk.Ghosts D F) where
-  -- what a call that wrote nothing leaves
+  -- a call that wrote nothing, whatever it answers, leaves the disk as it was but for the call that was paid
   pub remains_after : {T E : Type 0} (old new : D) (r : Result T E) (pay : Budget → Budget) → Pays pay
       → g.reads new ≡ g.reads old → NoMore (g.may_leave old) (g.may_leave new)
       → g.budget new ≡ budget_after r pay (g.budget old) → g.clock new ≡ clock_after r (g.clock old) → (IsSpent (g.budget old) → IsErr r)
@@ -55,37 +60,7 @@ module _ {D F : Type 0} (g : disk.Ghosts D F) where
     counted = counted;
   }
 
+  -- one call of a disk takes at most one of those that are left, and only if it succeeds
   pub paid_call : {T E : Type 0} (old new : D) (r : Result T E) (pay : Budget → Budget) → Pays pay
       → g.budget new ≡ budget_after r pay (g.budget old) → g.clock new ≡ clock_after r (g.clock old) → (IsSpent (g.budget old) → IsErr r) → IsPaid g old new
   paid_call old new r pay pays budget clock spent = paid_after r pay pays (g.budget old) (g.budget new) (g.clock old) (g.clock new) budget clock spent
-
-  pub paid_then : (first second third : D) → IsPaid g first second → IsPaid g second third → IsPaid g first third
-  paid_then first second third a b = λ n has.
-      let one = a n has in
-      let two = b one.0 one.1 in
-      (two.0, two.1, omega (arith, one.2, two.2))
-
-  -- where nothing was called nothing was paid
-  pub paid_none : (d : D) → IsPaid g d d
-  paid_none d = λ n has. (n, has, omega arith)
-
-  -- where nothing was called all remains
-  pub remains_none : (d : D) → Remains g d d
-  remains_none d = record {
-    reads = refl;
-    images = λ image left. left;
-    endless = λ room endless. endless;
-    told = λ room told. told;
-    paid = paid_none d;
-    counted = omega arith;
-  }
-
-  pub remains_then : (first second third : D) → Remains g first second → Remains g second third → Remains g first third
-  remains_then first second third a b = record {
-    reads = b.reads ∙ a.reads;
-    images = λ image left. a.images image (b.images image left);
-    endless = λ room endless. b.endless room (a.endless room endless);
-    told = λ room told. b.told room (a.told room told);
-    paid = paid_then first second third a.paid b.paid;
-    counted = omega (arith, a.counted, b.counted);
-  }

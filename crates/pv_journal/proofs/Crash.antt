@@ -8,7 +8,7 @@ use Rattle.pv_outside.specs.Disk.{Torn, overwritten}
 use Rattle.pv_journal.specs.declared.block.TheConstants.{MARK}
 use Rattle.pv_journal.specs.Text.{IsBody, block, front, Spells, SpellsEither, written_behind}
 
--- a list that has the elements of a shorter one in front begins with it
+-- a list that has the elements of a shorter one at its places begins with that one
 begins_with : (xs ys : List ℕ) → length xs ≤ length ys → ((i : ℕ) → i < length xs → get_or ys i 0 ≡ get_or xs i 0) → ys ≡ xs ++ drop (length xs) ys
 begins_with [] ys le same = refl
 begins_with (x ∷ xs) [] le same = absurd (omega arith)
@@ -23,7 +23,7 @@ keeps_front xs ys c at n before torn =
     begins_with xs c (omega (arith, torn.no_shorter, length-append xs ys)) (λ i h.
     torn.outside i (omega (arith, length-append xs ys)) (inl (omega arith)) ∙ get_or_append_left xs ys 0 i h)
 
--- and what lies behind it, up to the old end
+-- a torn write of one byte leaves all other bytes up to the old end, whatever stands at that place and past the end
 keeps_back : (xs ys c : List ℕ) (g : ℕ) → Torn (length xs) 1 (xs ++ g ∷ ys) c → c ≡ xs ++ get_or c (length xs) 0 ∷ (ys ++ drop (length ys) (drop (length xs + 1) c))
 keeps_back xs ys c g torn =
     let whole : length (xs ++ g ∷ ys) ≡ length xs + (length ys + 1) = omega (arith, length-append xs (g ∷ ys)) in
@@ -36,28 +36,30 @@ keeps_back xs ys c g torn =
     ∙ get_or-append-add xs (g ∷ ys) (suc i) 0) in
     in_front ∙ ap (λ (l : List ℕ). xs ++ l) (drop_more c (length xs) 0 (omega (arith, torn.no_shorter, whole)) ∙ ap (λ (l : List ℕ). get_or c (length xs) 0 ∷ l) behind)
 
--- bytes that spell the bodies, and have a further one whole behind the gate
+-- The bytes spell these bodies but for the gate behind them, which may be anything, and behind it stand a further body whole and a closed gate.
 pub record IsStaged (bodies : List (List ℕ)) (body bytes : List ℕ) : Type 0 where
   pub gate : ℕ
   pub rest : List ℕ
   pub text : bytes ≡ front bodies ++ gate ∷ (written_behind body ++ rest)
   pub sizes : All IsBody bodies
 
+-- to append a body, three bytes more than it has are written behind the gate
 pub length-written_behind : (body : List ℕ) → length (written_behind body) ≡ length body + 3
 length-written_behind body = omega (arith, length-append (to_be_bytes w16 (length body) ++ body) (0 ∷ []), length-append (to_be_bytes w16 (length body)) body)
 
--- with its gate open the body is one of those that the bytes spell
+-- with the gate in front of it open, the body that was written is the last that the bytes spell
 opened : (bodies : List (List ℕ)) (body rest : List ℕ) → front bodies ++ 1 ∷ (written_behind body ++ rest) ≡ front (bodies ++ body ∷ []) ++ 0 ∷ rest
 opened bodies body rest =
     ap (λ (l : List ℕ). front bodies ++ 1 ∷ l) (append_assoc (to_be_bytes w16 (length body) ++ body) (0 ∷ []) rest)
     ∙ sym (append_assoc (front bodies) (block body) (0 ∷ rest))
     ∙ ap (λ (l : List ℕ). l ++ 0 ∷ rest) (flat_map_more block MARK bodies body)
 
+-- a gate of 0 is closed
 zero_is_closed : ◌≢◌ {A = ℕ} 0 1
 zero_is_closed e = omega arith
 
 module _ (bodies : List (List ℕ)) where
-  -- the closed gate stands in each outcome of the first write
+  -- whatever a crash makes of a write behind the closed gate, the bytes spell the bodies that they spelled
   pub torn_behind : (at n : ℕ) (d c : List ℕ) → at ≡ length (front bodies) + 1 → Spells d bodies → Torn at n d c → Spells c bodies
   torn_behind at n d c is spells torn =
       let closed_front = front bodies ++ spells.gate ∷ [] in
@@ -71,7 +73,7 @@ module _ (bodies : List (List ℕ)) where
         sizes = spells.sizes;
       }
 
-  -- what the first write leaves where it succeeds
+  -- the first write of an append, where it succeeds, leaves the body whole behind the gate
   pub staged : (at : ℕ) (body text : List ℕ) → at ≡ length (front bodies) + 1 → Spells text bodies → IsStaged bodies body (overwritten at (written_behind body) text)
   staged at body text is spells =
       let closed_front = front bodies ++ spells.gate ∷ [] in
@@ -87,7 +89,7 @@ module _ (bodies : List (List ℕ)) where
         sizes = spells.sizes;
       }
 
-  -- the body stands whole in each outcome of the second write
+  -- whatever a crash makes of the write of the gate, the bytes spell the list without the body behind it or with it
   pub torn_gate : (at : ℕ) (body text c : List ℕ) → at ≡ length (front bodies) → IsBody body → IsStaged bodies body text → Torn at 1 text c → SpellsEither bodies body c
   torn_gate at body text c is sized staged torn =
       let behind = written_behind body ++ staged.rest in
@@ -109,7 +111,7 @@ module _ (bodies : List (List ℕ)) where
         | inr is_closed ↦ inl (record { gate = gate; rest = behind ++ past; text = stands; closed = is_closed; sizes = staged.sizes })
       ]
 
-  -- what the second write leaves where it succeeds
+  -- the write of the open gate, where it succeeds, makes the body the last of the list
   pub stored : (at : ℕ) (body text : List ℕ) → at ≡ length (front bodies) → IsBody body → IsStaged bodies body text → Spells (overwritten at (1 ∷ []) text) (bodies ++ body ∷ [])
   stored at body text is sized staged =
       let behind = written_behind body ++ staged.rest in

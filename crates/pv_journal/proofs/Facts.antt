@@ -6,10 +6,11 @@ use Rattle.pv_journal.specs.Text.{front, first_eight, written_behind, IsBroken}
 pub no_bodies : front [] ++ 0 ∷ [] ≡ codes "PVJOURN1" ++ 0 ∷ []
 no_bodies = refl
 
--- a journal with one body of two bytes, and what was written behind the gate to append it
+-- a journal with the one body AB: the mark, an open gate, the length 2, the body, and a closed gate
 pub one_body : front (codes "AB" ∷ []) ++ 0 ∷ [] ≡ codes "PVJOURN1" ++ 1 ∷ 0 ∷ 2 ∷ 65 ∷ 66 ∷ 0 ∷ []
 one_body = refl
 
+-- what was written behind the gate to append AB: its length, the body, and a closed gate
 pub one_written : written_behind (codes "AB") ≡ 0 ∷ 2 ∷ 65 ∷ 66 ∷ 0 ∷ []
 one_written = refl
 

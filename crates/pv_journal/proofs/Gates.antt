@@ -12,29 +12,30 @@ pub record IsBehind (gate size : ℕ) (text : List ℕ) : Type 0 where
   pub next : HasClosedGate (gate + size + 3) text
 
 module _ (at : ℕ) (bytes text : List ℕ) (within : at ≤ length text) where
+  -- before the place of a write stand as many bytes as the place says
   front_size : length (take at text) ≡ at
   front_size = length-take-le at text within
 
-  -- a write makes no disk shorter, and it reaches at least to the write's end
+  -- after a write the text ends where it ended, or at the write's end where that lies further
   pub length-overwritten : length (overwritten at bytes text) ≡ at + length bytes + (length text - (at + length bytes))
   length-overwritten =
       omega (arith, length-append (take at text ++ bytes) (drop (at + length bytes) text), length-append (take at text) bytes, front_size, length-drop (at + length bytes) text)
 
-  -- what lies before the range stands
+  -- what lies before the range of a write stands
   pub before : (i : ℕ) → i < at → get_or (overwritten at bytes text) i 0 ≡ get_or text i 0
   before i h =
       get_or_append_left (take at text ++ bytes) (drop (at + length bytes) text) 0 i (omega (arith, length-append (take at text) bytes, front_size))
       ∙ get_or_append_left (take at text) bytes 0 i (omega (arith, front_size))
       ∙ get_or-take at text i 0 h
 
-  -- in the range stand the bytes
+  -- in the range of a write stand the bytes that were written
   pub inside : (k i : ℕ) → i ≡ at + k → k < length bytes → get_or (overwritten at bytes text) i 0 ≡ get_or bytes k 0
   inside k i is h =
       get_or_append_left (take at text ++ bytes) (drop (at + length bytes) text) 0 i (omega (arith, length-append (take at text) bytes, front_size))
       ∙ ap (λ (n : ℕ). get_or (take at text ++ bytes) n 0) (let e : i ≡ length (take at text) + k = omega (arith, front_size) in e)
       ∙ get_or-append-add (take at text) bytes k 0
 
-  -- and what lies behind it stands
+  -- what lies behind the range of a write stands
   pub behind : (i : ℕ) → at + length bytes ≤ i → get_or (overwritten at bytes text) i 0 ≡ get_or text i 0
   behind i h =
       let parts : length (take at text ++ bytes) ≡ at + length bytes = omega (arith, length-append (take at text) bytes, front_size) in
@@ -42,12 +43,13 @@ module _ (at : ℕ) (bytes text : List ℕ) (within : at ≤ length text) where
       ∙ get_or-drop (at + length bytes) text (i - (at + length bytes)) 0
       ∙ ap (λ (n : ℕ). get_or text n 0) (let e : at + length bytes + (i - (at + length bytes)) ≡ i = omega arith in e)
 
--- the last byte that is written behind a gate is a closed gate
+-- the last byte that is written behind a gate to append a body is a closed gate
 last_is_closed : (body : List ℕ) → get_or (written_behind body) (length body + 2) 0 ≡ 0
 last_is_closed body =
     get_or-append_right (to_be_bytes w16 (length body) ++ body) (0 ∷ []) (length body + 2) (length body + 2) 0 (omega (arith, length-append (to_be_bytes w16 (length body)) body)) (omega arith)
     ∙ ap (λ (n : ℕ). get_or (0 ∷ []) n 0) (let e : length body + 2 - (length body + 2) ≡ 0 = omega arith in e)
 
+-- the first write of an append, where it succeeds, leaves the gate closed and a closed one behind the body
 pub behind_written : (gate : ℕ) (body bytes text : List ℕ) → bytes ≡ written_behind body → HasClosedGate gate text → IsBehind gate (length body) (overwritten (gate + 1) bytes text)
 behind_written gate body bytes text is closed =
     let size : length bytes ≡ length body + 3 = ap length is ∙ length-written_behind body in
@@ -60,22 +62,27 @@ behind_written gate body bytes text is closed =
       next = (omega (arith, long, size), λ e. omega (arith, last, e));
     }
 
+-- behind a gate that is closed a body may be in hand
 pub may_have : (gate size : ℕ) (text : List ℕ) → IsBehind gate size text → MayHaveBody gate size text
 may_have gate size text behind = (behind.here.0, λ e. absurd (behind.here.1 e))
 
+-- in front of a closed gate a body of that size may be in hand
 pub before_closed : (gate size : ℕ) (text : List ℕ) → HasClosedGate (gate + size + 3) text → MayHaveBody gate size text
 before_closed gate size text closed = (omega (arith, closed.0), λ e. closed)
 
+-- a write behind a closed gate, where it fails, leaves a gate behind which a body may be in hand
 pub kept_by_torn : (gate size n : ℕ) (old new : List ℕ) → HasClosedGate gate old → Torn (gate + 1) n old new → MayHaveBody gate size new
 kept_by_torn gate size n old new closed torn =
     (omega (arith, closed.0, torn.no_shorter), λ e. absurd (closed.1 (sym (torn.outside gate closed.0 (inl (omega arith))) ∙ e)))
 
+-- a write at the gate, where it fails, leaves a gate behind which the body may be in hand
 pub behind_torn : (gate size : ℕ) (old new : List ℕ) → IsBehind gate size old → Torn gate 1 old new → MayHaveBody gate size new
 behind_torn gate size old new behind torn = (
   omega (arith, behind.here.0, torn.no_shorter),
   λ e. (omega (arith, behind.next.0, torn.no_shorter), λ f. behind.next.1 (sym (torn.outside (gate + size + 3) behind.next.0 (inr (omega arith))) ∙ f)),
 )
 
+-- once the gate was opened, the one behind the body is still closed
 pub behind_opened : (gate size : ℕ) (text : List ℕ) → IsBehind gate size text → HasClosedGate (gate + size + 3) (overwritten gate (1 ∷ []) text)
 behind_opened gate size text stands =
     let within : gate ≤ length text = omega (arith, stands.here.0) in (

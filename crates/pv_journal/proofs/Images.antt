@@ -5,11 +5,12 @@ use Rattle.pv_outside.specs.Disk.{Torn, Follows, NoMore, Turns}
 use Rattle.pv_outside.specs.declared.disk.Disk as disk
 use Rattle.pv_journal.specs.Journal.{EachImage}
 
--- what holds whatever was answered holds after an error, and after a success
+-- what holds whatever was answered holds after an error
 pub on_err : {T E P : Type 0} (r : Result T E) → P → OnErr r P
 on_err (Ok x) p = tt
 on_err (Err e) p = p
 
+-- what holds whatever was answered holds after a success
 pub on_ok : {T E P : Type 0} (r : Result T E) → P → OnOk r P
 on_ok (Ok x) p = p
 on_ok (Err e) p = tt
@@ -24,31 +25,36 @@ pub if_both : (o : Option (List ℕ)) (P Q R : List ℕ → Type 0) → ((x : Li
 if_both (Some x) P Q R both p q = both x p q
 if_both None P Q R both p q = tt
 
--- a disk that told nothing of what it reads tells nothing after a write
+-- a disk that tells what it reads after a write that failed told it before
 turns_told : (step : List ℕ → List ℕ → Type 0) (old new : Option (List ℕ)) → Turns step old new → IsSome new → IsSome old
 turns_told step (Some a) (Some b) turns told = refl
 turns_told step (Some a) None turns told = refl
 turns_told step None (Some b) turns told = absurd turns
 turns_told step None None turns told = told
 
+-- a disk that tells what it reads after a write that succeeded told it before
 map_told : (f : List ℕ → List ℕ) (old new : Option (List ℕ)) → new ≡ option_map f old → IsSome new → IsSome old
 map_told f (Some a) new is told = refl
 map_told f None new is told = subst (λ (o : Option (List ℕ)). IsSome o) is told
 
+-- where a write gives each text with P one with Q, a disk that read as one with P reads as one with Q
 pub if_map : (f : List ℕ → List ℕ) (P Q : List ℕ → Type 0) (old new : Option (List ℕ)) → ((x : List ℕ) → P x → Q (f x)) → new ≡ option_map f old → IfSome old P → IfSome new Q
 if_map f P Q (Some a) new step is p = subst (λ (o : Option (List ℕ)). IfSome o Q) (sym is) (step a p)
 if_map f P Q None new step is p = subst (λ (o : Option (List ℕ)). IfSome o Q) (sym is) tt
 
+-- where a failed write makes of each text with P one with Q, a disk that read as one with P reads as one with Q
 pub if_turns : (step : List ℕ → List ℕ → Type 0) (P Q : List ℕ → Type 0) (old new : Option (List ℕ)) → ((x y : List ℕ) → P x → step x y → Q y) → Turns step old new → IfSome old P → IfSome new Q
 if_turns step P Q (Some a) (Some b) next turns p = next a b p turns
 if_turns step P Q (Some a) None next turns p = tt
 if_turns step P Q None (Some b) next turns p = absurd turns
 if_turns step P Q None None next turns p = tt
 
+-- what each image has, the text of the disk has, which is one of them
 is_text : (o : Option (List ℕ)) (L P : List ℕ → Type 0) → IfSome o L → (IsSome o → (image : List ℕ) → L image → P image) → IfSome o P
 is_text (Some text) L P left each = each refl text left
 is_text None L P left each = tt
 
+-- where a crash leaves only what the disk reads as, each image has what that text has
 only_text : (o : Option (List ℕ)) (L P : List ℕ → Type 0) → IfSome o (λ text. (image : List ℕ) → L image → image ≡ text) → IfSome o P → IsSome o → (image : List ℕ) → L image → P image
 only_text (Some text) L P durable p told image left = subst P (sym (durable image left)) p
 only_text None L P durable p told image left = absurd (cc told)
@@ -58,24 +64,24 @@ module _ {D F : Type 0} (g : disk.Ghosts D F) where
   pub text_of_each : (d : D) (P : List ℕ → Type 0) → IfSome (g.reads d) (g.may_leave d) → EachImage g d P → IfSome (g.reads d) P
   text_of_each d P left each = is_text (g.reads d) (g.may_leave d) P left each
 
-  -- a call that wrote nothing
+  -- a call that wrote nothing leaves each image what all had before
   pub each_kept : (old new : D) (P : List ℕ → Type 0) → g.reads new ≡ g.reads old → NoMore (g.may_leave old) (g.may_leave new) → EachImage g old P → EachImage g new P
   each_kept old new P same no_more each told image left = each (subst (λ (o : Option (List ℕ)). IsSome o) same told) image (no_more image left)
 
-  -- a write that succeeded, where each torn image of those with P has Q
+  -- after a write that succeeded each image has Q, where each torn image of those with P does
   pub each_written : (old new : D) (P Q : List ℕ → Type 0) (at n : ℕ) (f : List ℕ → List ℕ) → ((d c : List ℕ) → P d → Torn at n d c → Q c)
       → g.reads new ≡ option_map f (g.reads old) → Follows (Torn at n) (g.may_leave old) (g.may_leave new) → EachImage g old P → EachImage g new Q
   each_written old new P Q at n f step written follows each told image left =
       let from = follows image left in
       step from.0 image (each (map_told f (g.reads old) (g.reads new) written told) from.0 from.1) from.2
 
-  -- a write that failed
+  -- after a write that failed each image has Q, where each torn image of those with P does
   pub each_torn : (old new : D) (P Q : List ℕ → Type 0) (at n : ℕ) → ((d c : List ℕ) → P d → Torn at n d c → Q c)
       → Turns (Torn at n) (g.reads old) (g.reads new) → Follows (Torn at n) (g.may_leave old) (g.may_leave new) → EachImage g old P → EachImage g new Q
   each_torn old new P Q at n step turns follows each told image left =
       let from = follows image left in
       step from.0 image (each (turns_told (Torn at n) (g.reads old) (g.reads new) turns told) from.0 from.1) from.2
 
-  -- a sync that succeeded, of a disk that reads as bytes with P
+  -- after a sync that succeeded, of a disk that reads as bytes with P, each image has P
   pub each_synced : (new : D) (P : List ℕ → Type 0) → IfSome (g.reads new) (λ text. (image : List ℕ) → g.may_leave new image → image ≡ text) → IfSome (g.reads new) P → EachImage g new P
   each_synced new P durable reads = only_text (g.reads new) (g.may_leave new) P durable reads

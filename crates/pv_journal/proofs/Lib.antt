@@ -1,4 +1,5 @@
 mod Append
+pub mod CallerLemmas
 mod Calls
 mod Counted
 mod Crash

@@ -10,7 +10,7 @@ use Rattle.pv_journal.specs.Text.{block, HasBlock, IsClosed, IsBroken, first_eig
 use Rattle.std.proofs.lemmas.Bool.{cases_lt}
 use Rattle.pv_journal.specs.declared.block.TheConstants.{MARK}
 
--- two bytes below 256
+-- both of two bytes below 256 are
 two_bytes : (high low : ℕ) → high < 256 → low < 256 → (i : ℕ) → get_or (high ∷ low ∷ []) i 0 < 256
 two_bytes high low h l zero = h
 two_bytes high low h l (suc zero) = l
@@ -73,11 +73,12 @@ block_read text into rest gate held is within read =
     ap (λ (k : ℕ). take k (drop gate text)) (let e : held ≡ min 2051 (length (drop gate text)) = omega (arith, length-drop gate text) in e) ∙ take_min 2051 (drop gate text) in
     take_at into rest held size ∙ read ∙ same
 
--- The bytes of at most a longest block tell what stands there.
+-- at a gate stands what a read of at most a longest block there shows: a closed gate
 closed_there : (rest : List ℕ) → IsClosed (take 2051 rest) → IsClosed rest
 closed_there [] closed = closed
 closed_there (gate ∷ rest) closed = closed
 
+-- the block that such a read shows
 block_there : (rest : List ℕ) (size : ℕ) → HasBlock (take 2051 rest) (take size (drop 3 (take 2051 rest))) → HasBlock rest (take size (drop 3 (take 2051 rest)))
 block_there rest size has = record {
   rest = has.rest ++ drop 2051 rest;
@@ -85,6 +86,7 @@ block_there rest size has = record {
   size = has.size;
 }
 
+-- the broken gate that such a read shows
 broken_there : (rest : List ℕ) → IsBroken (take 2051 rest) → IsBroken rest
 broken_there [] broken = tt
 broken_there (gate ∷ []) broken = broken
@@ -97,19 +99,21 @@ broken_there (gate ∷ high ∷ low ∷ rest) broken = (broken.0, ⊎_elim (λ n
       | inr h ↦ inl (omega (arith, length-take 2048 rest))
     ]
 
--- what the bytes of at most a longest block begin with stands there
+-- where the bytes of at most a longest block begin with a closed gate, one stands there
 pub closed_at : (bytes rest : List ℕ) → bytes ≡ take 2051 rest → IsClosed bytes → IsClosed rest
 closed_at bytes rest is closed = closed_there rest (subst IsClosed is closed)
 
+-- where they begin with a broken gate, one stands there
 pub broken_at : (bytes rest : List ℕ) → bytes ≡ take 2051 rest → IsBroken bytes → IsBroken rest
 broken_at bytes rest is broken = broken_there rest (subst IsBroken is broken)
 
+-- where they begin with a block, the block of that body stands there
 pub block_at : (bytes rest body : List ℕ) (size : ℕ) → bytes ≡ take 2051 rest → body ≡ take size (drop 3 bytes) → HasBlock bytes (take size (drop 3 bytes)) → HasBlock rest body
 block_at bytes rest body size is same has =
     subst (λ (b : List ℕ). HasBlock rest b) (ap (λ (l : List ℕ). take size (drop 3 l)) (sym is) ∙ sym same)
     (block_there rest size (subst (λ (l : List ℕ). HasBlock l (take size (drop 3 l))) is has))
 
--- what was copied is the body
+-- what was copied out of a block is its body
 pub copied : (into rest bytes : List ℕ) (size : ℕ) → into ≡ slice_range bytes 3 (3 + size) → length (take size (drop 3 bytes)) ≡ size → take size (into ++ rest) ≡ take size (drop 3 bytes)
 copied into rest bytes size copy whole =
     let same : into ≡ take size (drop 3 bytes) = copy ∙ ap (λ (k : ℕ). take k (drop 3 bytes)) (let e : 3 + size - 3 ≡ size = omega arith in e) in

@@ -95,7 +95,6 @@ impl<D: Disk> Journal<D> {
         ensures goes_on { IfOk result (λ answer. IfSome answer (λ n. IsStillReading self.new.phase)) }
         ensures at_rest { result ≡ Ok None → IsNoneInHand self.old.phase → IsAtRest self.new }
         ensures ended { result ≡ Ok None → (bodies : List (List ℕ)) → IsReading ⟦<D as Disk>⟧ self.old bodies → Holds ⟦<D as Disk>⟧ self.new bodies }
-        ensures stays { OnErr result (self.new.phase ≡ self.old.phase) }
         ensures kept { OnErr result (self.new ≡ record self.old { disk = self.new.disk }) }
         ensures rests { IsAllRead self.old.phase → result ≡ Ok None }
         ensures unchanged { IsAllRead self.old.phase → self.new ≡ self.old }
@@ -200,7 +199,6 @@ impl<D: Disk> Journal<D> {
         ensures kept { OnErr result (self.new ≡ record self.old { disk = self.new.disk }) }
         ensures put_down { result ≡ Ok (Some false) → self.new ≡ record self.old { disk = self.new.disk; phase = self.new.phase } }
         ensures in_hand { OnErr result ((bodies : List (List ℕ)) (body : List ℕ) → HoldsInHand ⟦<D as Disk>⟧ self.old bodies body → HoldsInHand ⟦<D as Disk>⟧ self.new bodies body) }
-        ensures stays { OnErr result (self.new.phase ≡ self.old.phase) }
         ensures same { Remains ⟦<D as Disk>⟧ self.old.disk self.new.disk }
         ensures limit { self.new.limit ≡ self.old.limit }
         ensures failed { IsErr result → Rose (D.faults self.old.disk) (D.faults self.new.disk) }

@@ -1,10 +1,10 @@
 -- Texts that differ only in some ranges.
-use Rattle.std.proofs.Common.{◌≡◌, inl, inr, ℕ, ◌+◌, ◌-◌, ◌<◌, ◌≤◌, Bool, ◌&&◌, List, ◌++◌, length, get_or, take, drop, sym, ◌∙◌, ap, arith, nat_le, nat_lt, if◌then◌else◌}
+use Rattle.std.proofs.Common.{◌≡◌, inl, inr, ℕ, ◌+◌, ◌-◌, ◌≤◌, Bool, ◌&&◌, List, ◌++◌, length, get_or, take, drop, sym, ◌∙◌, ap, arith, nat_le, nat_lt, if◌then◌else◌}
 use Rattle.std.specs.List.{slice_range}
-use Rattle.std.proofs.lemmas.List.{get_or_append_left, get_or-append_right, get_or-take, get_or-drop, length-take-le, length-drop, ext_get_or}
+use Rattle.std.proofs.lemmas.List.{get_or_append_left, get_or-append_right, get_or-take, get_or-drop, length-take-le, length-drop}
 use Rattle.std.proofs.lemmas.Bool.{cases_lt, lt-ltb, le-ltb, le-leb, lt-leb}
 
--- a range of the text put in the place of that of the copy
+-- a copy into which a range of the text was put has the text's bytes within the range, and its own outside
 pub part_copied : (copy text : List ℕ) (at size k : ℕ) → at + size ≤ length text → length copy ≡ length text
     → get_or (take at copy ++ (slice_range text at (at + size) ++ drop (at + size - at) (drop at copy))) k 0 ≡ (if nat_le at k && nat_lt k (at + size) then get_or text k 0 else get_or copy k 0)
 part_copied copy text at size k within long = elim (cases_lt k at) [
@@ -40,7 +40,3 @@ part_copied copy text at size k within long = elim (cases_lt k at) [
 
     size_is : length middle ≡ size
     size_is = length-take-le (at + size - at) (drop at text) (omega (arith, length-drop at text)) ∙ (let e : at + size - at ≡ size = omega arith in e)
-
--- two texts of one length that agree at each place are one
-pub same_text : (xs ys : List ℕ) → length xs ≡ length ys → ((k : ℕ) → k < length ys → get_or xs k 0 ≡ get_or ys k 0) → xs ≡ ys
-same_text xs ys long same = ext_get_or 0 xs ys long (λ k h. same k (omega arith))

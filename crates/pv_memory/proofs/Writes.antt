@@ -5,22 +5,26 @@ use Rattle.std.proofs.lemmas.List.{get_or_append_left, get_or-append_right, get_
 use Rattle.std.proofs.lemmas.List.FromFn.{length-map-range_with_len, get_or-map-range_with_len}
 use Rattle.std.proofs.lemmas.List.Folds.{list_any-append}
 use Rattle.std.proofs.lemmas.List.Elements.{All-push}
-use Rattle.std.proofs.lemmas.Bool.{cases_lt, lt-leb, le-leb, le-ltb, lt-ltb, true≢false}
+use Rattle.std.proofs.lemmas.Bool.{cases_lt, lt-leb, le-leb, le-ltb, lt-ltb, true≢false, or_parts, or_from}
+use Rattle.std.proofs.Math.Bool.{and-false}
 use Rattle.pv_outside.specs.Disk.{Torn, overwritten, Follows}
 use Rattle.pv_memory.specs.declared.past.Range.{Range}
 use Rattle.pv_memory.specs.Medium.{is_within, is_pending, Moment, IsTorn, IsImage, IsSound, IsEachWithin}
 
 module _ (at : ℕ) (bytes text : List ℕ) (within : at ≤ length text) where
+  -- before the place of a write stand as many bytes as the place says
   front : length (take at text) ≡ at
   front = length-take-le at text within
 
+  -- with the bytes that are written there are as many as the place and their number
   written : length (take at text ++ bytes) ≡ at + length bytes
   written = omega (arith, length-append (take at text) bytes, front)
 
+  -- after a write the text ends where it ended, or at the write's end where that lies further
   length-overwritten : length (overwritten at bytes text) ≡ at + length bytes + (length text - (at + length bytes))
   length-overwritten = omega (arith, length-append (take at text ++ bytes) (drop (at + length bytes) text), written, length-drop (at + length bytes) text)
 
-  -- outside of the range the bytes stand
+  -- outside of its range a write changes no byte
   stands : (k : ℕ) → (k < at) ⊎ (at + length bytes ≤ k) → get_or (overwritten at bytes text) k 0 ≡ get_or text k 0
   stands k (inl h) =
       get_or_append_left (take at text ++ bytes) (drop (at + length bytes) text) 0 k (omega (arith, written))
@@ -31,7 +35,7 @@ module _ (at : ℕ) (bytes text : List ℕ) (within : at ≤ length text) where
       ∙ get_or-drop (at + length bytes) text (k - (at + length bytes)) 0
       ∙ ap (λ (n : ℕ). get_or text n 0) (let e : at + length bytes + (k - (at + length bytes)) ≡ k = omega arith in e)
 
-  -- and what stood there can be put back
+  -- what stood in the range of a write, put back there, gives the text from before the write
   pub put_back : take at (overwritten at bytes text) ++ take (length bytes) (drop at text) ++ drop (at + length bytes) (overwritten at bytes text) ≡ text
   put_back =
       let before : take at (overwritten at bytes text) ≡ take at text =
@@ -43,7 +47,7 @@ module _ (at : ℕ) (bytes text : List ℕ) (within : at ≤ length text) where
       ∙ ap (λ (l : List ℕ). take at text ++ l) (take-append-drop (length bytes) (drop at text))
       ∙ take-append-drop at text
 
--- a place is within a range, or outside of it
+-- a place that is not within a range lies before it or behind it
 outside : (range : Range) (k : ℕ) → is_within range k ≡ false → (k < range.at) ⊎ (range.at + range.size ≤ k)
 outside range k out = elim (cases_lt k range.at) [
   | inl before ↦ inl before
@@ -53,44 +57,40 @@ outside range k out = elim (cases_lt k range.at) [
   ]
 ]
 
+-- a place that lies before a range or behind it is not within it
 is_outside : (range : Range) (k : ℕ) → (k < range.at) ⊎ (range.at + range.size ≤ k) → is_within range k ≡ false
 is_outside range k (inl before) = ap (λ (b : Bool). b && nat_lt k (range.at + range.size)) (lt-leb range.at k before)
-is_outside range k (inr behind) = ap (λ (b : Bool). nat_le range.at k && b) (le-ltb k (range.at + range.size) behind) ∙ no_and (nat_le range.at k)
-  where
-    no_and : (b : Bool) → (b && false) ≡ false
-    no_and true = refl
-    no_and false = refl
+is_outside range k (inr behind) = ap (λ (b : Bool). nat_le range.at k && b) (le-ltb k (range.at + range.size) behind) ∙ and-false (nat_le range.at k)
 
--- a place is in one of the ranges, or in the one that is added
+-- a place is pending after one write more where it was before, or where it lies in the range of this write
 pending_push : (pending : List Range) (range : Range) (k : ℕ) → is_pending (pending ++ range ∷ []) k ≡ (is_pending pending k || (is_within range k || false))
 pending_push pending range k = list_any-append (λ r. is_within r k) pending (range ∷ [])
 
-neither : (a b : Bool) → (a || (b || false)) ≡ false → (a ≡ false) × (b ≡ false)
-neither false false e = (refl, refl)
-neither false true e = absurd (true≢false e)
-neither true b e = absurd (true≢false e)
-
-both_out : (a b : Bool) → a ≡ false → b ≡ false → (a || (b || false)) ≡ false
-both_out a b p q = (λ i. p i || (q i || false))
-
+-- a place that is not pending after a write was not pending before, and does not lie in its range
 not_in_push : (pending : List Range) (range : Range) (k : ℕ) → is_pending (pending ++ range ∷ []) k ≡ false → (is_pending pending k ≡ false) × (is_within range k ≡ false)
-not_in_push pending range k out = neither (is_pending pending k) (is_within range k) (sym (pending_push pending range k) ∙ out)
+not_in_push pending range k out =
+    let parts = or_parts (is_pending pending k) (is_within range k || false) (sym (pending_push pending range k) ∙ out) in
+    (parts.0, (or_parts (is_within range k) false parts.1).0)
 
+-- a place that was not pending, and does not lie in the range of a write, is not pending after it
 in_neither : (pending : List Range) (range : Range) (k : ℕ) → is_pending pending k ≡ false → is_within range k ≡ false → is_pending (pending ++ range ∷ []) k ≡ false
-in_neither pending range k p q = pending_push pending range k ∙ both_out (is_pending pending k) (is_within range k) p q
+in_neither pending range k p q = pending_push pending range k ∙ or_from (is_pending pending k) (is_within range k || false) p (or_from (is_within range k) false q refl)
 
 -- A write of these bytes at this place.
 module _ (at : ℕ) (bytes text synced : List ℕ) (pending : List Range) (sound : IsSound text synced pending) (within : at ≤ length text) where
+  -- the range of this write
   abbrev range : Range
   range = record { at = at; size = length bytes }
 
+  -- after it the text ends where it ended, or at the write's end where that lies further
   long : length (overwritten at bytes text) ≡ at + length bytes + (length text - (at + length bytes))
   long = length-overwritten at bytes text within
 
+  -- the ranges that were written before still lie within the text
   still_within : IsEachWithin pending (length (overwritten at bytes text))
   still_within k d h = omega (arith, long, sound.within k d h)
 
-  -- keeps what the disk keeps
+  -- a write keeps what a disk keeps: the text and that of the last sync differ in the ranges written since alone
   pub sound_after : length pending < 8 → IsSound (overwritten at bytes text) synced (pending ++ range ∷ [])
   sound_after few = record {
     shorter = omega (arith, sound.shorter, long);
@@ -100,40 +100,47 @@ module _ (at : ℕ) (bytes text synced : List ℕ) (pending : List Range) (sound
     few = omega (arith, few, length-append pending (range ∷ []));
   }
 
+  -- what a crash depends on before the write
   abbrev old_moment : Moment
   old_moment = record { text = text; end = length synced; pending = pending }
 
+  -- what a crash depends on after the write
   abbrev new_moment : Moment
   new_moment = record { text = overwritten at bytes text; end = length synced; pending = pending ++ range ∷ [] }
 
-  -- the image before the write: in its range what stood there, and else what the image has
+  -- a byte of the image from before the write: in the write's range what the disk read there, and else what the image has
   byte_before : List ℕ → ℕ → ℕ
   byte_before image k = if is_within range k then get_or text k 0 else get_or image k 0
 
+  -- the image from before the write, as long as the disk was at the last sync
   image_before : List ℕ → List ℕ
   image_before image = map (byte_before image) (range_with_len 0 (length synced))
 
-  -- a write that is done is one that was not torn
+  -- the text after the write is the one from before, torn in the write's range
   torn_text : Torn at (length bytes) text (overwritten at bytes text)
   torn_text = record { no_shorter = omega (arith, long); outside = λ k h out. stands at bytes text within k out }
 
+  -- the image from before the write has its bytes
   byte_is : (image : List ℕ) (k : ℕ) → k < length synced → get_or (image_before image) k 0 ≡ byte_before image k
   unfolding image_before
   byte_is image k h = get_or-map-range_with_len (byte_before image) 0 (length synced) k k 0 h (omega arith)
 
+  -- the image from before the write is as long as the disk was at the last sync
   length-image_before : (image : List ℕ) → length (image_before image) ≡ length synced
   unfolding image_before
   length-image_before image = length-map-range_with_len (byte_before image) 0 (length synced)
 
+  -- outside of the write's range the image has the same bytes before the write and after it
   outside_byte : (image : List ℕ) (k : ℕ) → is_within range k ≡ false → byte_before image k ≡ get_or image k 0
   unfolding byte_before
   outside_byte image k out = ap (λ (b : Bool). if b then get_or text k 0 else get_or image k 0) out
 
   module _ (image : List ℕ) (torn : IsTorn new_moment image) where
-    -- what was not written since the last sync stands in the image
+    -- what was not written since the last sync stands in the image as it stood in the text
     kept_byte : (k : ℕ) → k < length synced → is_pending pending k ≡ false → is_within range k ≡ false → get_or image k 0 ≡ get_or text k 0
     kept_byte k h p q = torn.kept k h (in_neither pending range k p q) ∙ stands at bytes text within k (outside range k q)
 
+    -- what was not pending before the write stands in the image from before it as it stood in the text
     kept_before : (k : ℕ) → k < length synced → is_pending pending k ≡ false → byte_before image k ≡ get_or text k 0
     unfolding byte_before
     kept_before k h p = go (is_within range k) refl
@@ -142,12 +149,14 @@ module _ (at : ℕ) (bytes text synced : List ℕ) (pending : List Range) (sound
         go true e = ap (λ (b : Bool). if b then get_or text k 0 else get_or image k 0) e
         go false e = ap (λ (b : Bool). if b then get_or text k 0 else get_or image k 0) e ∙ kept_byte k h p e
 
+    -- where nothing else was written since the last sync, the image is the old text, torn in the write's range
     from_text : length pending ≡ 0 → Torn at (length bytes) text image
     from_text none = record {
       no_shorter = omega (arith, sound.settled none, torn.no_shorter);
       outside = λ k h out. kept_byte k (omega (arith, sound.settled none)) (ap (λ ranges. is_pending ranges k) (nil_from_length pending none)) (is_outside range k out);
     }
 
+    -- where something was, the image from before the write is one that a crash might have left then, and the image is that one, torn in the write's range
     from_torn : 0 < length pending → IsTorn old_moment (image_before image) × Torn at (length bytes) (image_before image) image
     from_torn some = (
       record {
@@ -161,7 +170,7 @@ module _ (at : ℕ) (bytes text synced : List ℕ) (pending : List Range) (sound
       },
     )
 
-  -- each image of the disk after it is one from before it, torn in its range
+  -- each image that a crash may leave after a write is one that it might have left before, torn in the write's range
   pub torn_by : Follows (Torn at (length bytes)) (IsImage old_moment) (IsImage new_moment)
   torn_by image (inl same) = (text, inl refl, subst (λ (l : List ℕ). Torn at (length bytes) text l) (sym same) torn_text)
   torn_by image (inr torn) = elim (cases_lt 0 (length pending)) [

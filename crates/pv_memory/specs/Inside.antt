@@ -4,6 +4,7 @@ use Rattle.pv_outside.specs.declared.disk.TheConstants.{MAX_UNSYNCED}
 use Rattle.pv_memory.specs.Medium.{Medium, IsSound}
 use Rattle.pv_memory.specs.declared.disk.MemDisk.TheInside.{Inside}
 
+-- the disk that contracts see: the vectors as lists, without their capacities
 abbrev pub medium_of : Inside → Medium
 medium_of d = record { text = d.text.items; synced = d.synced.items; pending = d.pending.items; past = d.past; room = d.room; left = d.left; clock = d.clock; plan = d.faults }
 

@@ -29,10 +29,11 @@ pub record Medium : Type 0 where
   pub clock : ℕ
   pub plan : Plan
 
--- whether the place lies in one of the ranges
+-- whether the place lies in the range
 abbrev pub is_within : Range → ℕ → Bool
 is_within range place = nat_le range.at place && nat_lt place (range.at + range.size)
 
+-- whether the place lies in one of the ranges that were written since the last sync
 abbrev pub is_pending : List Range → ℕ → Bool
 is_pending ranges place = list_any (λ range. is_within range place) ranges
 
@@ -42,6 +43,7 @@ pub record Moment : Type 0 where
   pub end : ℕ
   pub pending : List Range
 
+-- what a crash of this disk now depends on
 abbrev pub moment_of : Medium → Moment
 moment_of m = record { text = m.text; end = length m.synced; pending = m.pending }
 
@@ -89,6 +91,7 @@ image_bytes text synced pending (suc zero) = text
 image_bytes text synced pending (suc (suc n)) =
     map (λ place. if is_pending pending place then (31 * (n + 2) + 17 * place) % 256 else slice_index text place) (range_with_len 0 (length text))
 
+-- the bytes that the image of this number of the disk has
 abbrev pub image_of : Medium → ℕ → List ℕ
 image_of m image = image_bytes m.text m.synced m.pending image
 

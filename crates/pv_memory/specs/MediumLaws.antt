@@ -3,20 +3,21 @@ use Rattle.std.specs.Prelude.{◌≡◌, ◌⊎◌, ℕ, zero, suc, ◌-◌, ◌
 use Rattle.std.proofs.Common.{inl, inr, subst, arith}
 use Rattle.pv_memory.specs.Medium.{Medium, Moment, Change, IsImage, LeftIn, moment_of, IsForgotten, LeftSince}
 
--- a new disk
+-- a new disk with this room, which has no bytes, and of which the calls of these numbers fail
 abbrev pub fresh : ℕ → List ℕ → Medium
 fresh room fails = record { text = []; synced = []; pending = []; past = []; room = room; left = None; clock = 0; plan = record { call = 0; failing = fails; faults = 0 } }
 
+-- what a crash may leave now is among what it might have left in the last n calls, whatever these changed
 now_in : (now : Moment) (past : List Change) (n : ℕ) (image : List ℕ) → IsImage now image → LeftIn now past n image
 now_in now past zero image here = here
 now_in now [] (suc n) image here = here
 now_in now (c ∷ past) (suc n) image here = inl here
 
--- this moment is one of those since an earlier one
+-- what a crash may leave now it might have left since any earlier time
 pub now_counts : (m : Medium) (t : ℕ) (image : List ℕ) → t ≤ m.clock → IsImage (moment_of m) image → LeftSince m t image
 now_counts m t image le here = inr (now_in (moment_of m) m.past (m.clock - t) image here)
 
--- since this moment there is no other
+-- what a crash might have left since this time of the clock it may leave now, unless the clock stands at its end
 pub only_now : (m : Medium) (image : List ℕ) → LeftSince m m.clock image → IsImage (moment_of m) image ⊎ IsForgotten m m.clock
 only_now m image (inl forgotten) = inr forgotten
 only_now m image (inr there) = inl (subst (λ (n : ℕ). LeftIn (moment_of m) m.past n image) none there)

@@ -5,10 +5,11 @@ use Rattle.std.proofs.lemmas.List.Elements.{All-push}
 use Rattle.pv_outside.specs.declared.disk.Disk as disk
 use Rattle.pv_journal.specs.Text.{Spells}
 use Rattle.pv_journal.specs.Log.{Log}
-use Rattle.pv_journal.specs.Journal.{DiskSpells, IsPaid, IsReading, Remains}
+use Rattle.pv_journal.specs.Journal.{DiskSpells, IsReading, Remains}
 use Rattle.pv_journal.specs.Faults.{NextSpells, IsNext}
 use Rattle.pv_journal.specs.declared.fault.OpenFault.{OpenFault}
 use Rattle.pv_journal.specs.declared.fault.OpenFault.TheVariants.{Disk, NotFormatted, Broken, TooMany}
+use Rattle.pv_journal.proofs.CallerLemmas.{remains_then}
 use Rattle.pv_node.specs.declared.rules.Rules as rules
 use Rattle.pv_node.specs.Standing.{DiskStands, EachHasRoom, Meets}
 use Rattle.pv_node.specs.Opening.{fault_of, IsOutside, IsOpenDiskFault, HasRead, ComesNext, AreAll}
@@ -18,7 +19,7 @@ use Rattle.pv_node.proofs.Rooms.{meets_more}
 use Rattle.pv_node.proofs.Records.{all_at, first_of}
 
 module _ {S State Request Rec Reply D F : Type 0} (r : rules.Ghosts S State Request Rec Reply) (d : disk.Ghosts D F) where
-  -- how many records were read
+  -- a journal that was read so far has counted the records that were read
   pub read_count : (log : Log D) (state : State) (records : List Rec) → HasRead r d log state records → log.count ≡ length records
   read_count log state records read = read.journal.counted.count ∙ length-map records r.spelling
 
@@ -26,7 +27,7 @@ module _ {S State Request Rec Reply D F : Type 0} (r : rules.Ghosts S State Requ
   pub disk_spells : (disk : D) (records more : List Rec) → DiskStands r d disk (records ++ more) → DiskSpells d disk (map r.spelling records ++ map r.spelling more)
   disk_spells disk records more stands = (stands.0, stands.1, subst (λ (l : List (List ℕ)). Spells stands.0 l) (map-append r.spelling records more) stands.2.text)
 
-  -- one record more was read
+  -- a record that was read from the journal and absorbed joins those that were read
   pub read_more : (grows : (state : State) (records : List Rec) (rec : Rec) → r.stands state records → r.is_record rec → r.fits state rec → length records < (r.limits_of state).records → r.stands (r.after state rec (length records)) (records ++ rec ∷ []))
       (same_room : (one other : State) (records : List Rec) (rec : Rec) → r.stands one records → r.stands other records → r.limits_of one ≡ r.limits_of other → r.fits one rec → r.fits other rec)
       (limits_stay : (state : State) (rec : Rec) (place : ℕ) → r.limits_of (r.after state rec place) ≡ r.limits_of state)
@@ -55,7 +56,7 @@ module _ {S State Request Rec Reply D F : Type 0} (r : rules.Ghosts S State Requ
       let same : f.0 ≡ rec = one_meaning f.0 rec (all_at r.is_record records f.0 f.1 all) is (f.3 ∙ sym spelled) in
       (f.1, f.2 ∙ ap (λ (x : Rec). x ∷ f.1) same)
 
-  -- and it has room
+  -- where a disk stands for those that were read and for more, the next body is the spelling of a record that has room
   pub next_fits : (disk : D) (state : State) (records more : List Rec) (body : List ℕ) (others : List (List ℕ)) → r.stands state records → DiskStands r d disk (records ++ more) → EachHasRoom r (r.limits_of state) (records ++ more) → map r.spelling more ≡ body ∷ others
       → (rec : Rec) × r.is_record rec × (r.spelling rec ≡ body) × r.fits state rec
   next_fits disk state records more body others stood stands room e =
@@ -63,7 +64,7 @@ module _ {S State Request Rec Reply D F : Type 0} (r : rules.Ghosts S State Requ
       let all : All r.is_record (records ++ f.0 ∷ f.1) = subst (λ (l : List Rec). All r.is_record (records ++ l)) f.2 stands.2.each in
       (f.0, all_at r.is_record records f.0 f.1 all, f.3, room records f.1 f.0 state (ap (λ (l : List Rec). records ++ l) f.2) stood refl)
 
-  -- a fault of the journal is then one of the disk
+  -- on a disk that stands for records within the limit, a fault of the journal's reading is a failure of the disk
   pub only_outside : (old : Log D) (state : State) (records more : List Rec) (into : List ℕ) (fault : OpenFault D F) → HasRead r d old state records → length (records ++ more) ≤ old.limit
       → IsNext old (Err fault) → NextSpells (map r.spelling more) into (Err fault) → IsOutside (fault_of fault)
   only_outside old state records more into (Disk failure) read within known spells = tt
@@ -72,45 +73,12 @@ module _ {S State Request Rec Reply D F : Type 0} (r : rules.Ghosts S State Requ
   only_outside old state records more into (TooMany count) read within known spells =
       absurd (omega (arith, read_count old state records read, known.1, spells, within, length-append records more, length-map more r.spelling))
 
-  -- a fault of the disk is told as one
+  -- what a node tells as a failure of the disk was one in the journal
   pub disk_fault : (fault : OpenFault D F) → IsOpenDiskFault (fault_of fault) → Rattle.pv_journal.specs.Faults.IsDiskFault fault
   disk_fault (Disk failure) is = tt
   disk_fault (NotFormatted kept) is = is
   disk_fault (Broken at) is = is
   disk_fault (TooMany count) is = is
-
-  -- where nothing was called nothing was paid
-  pub paid_none : (disk : D) → IsPaid d disk disk
-  paid_none disk = λ n has. (n, has, omega arith)
-
-  -- what was paid over two stretches
-  pub paid_then : (first second third : D) → IsPaid d first second → IsPaid d second third → IsPaid d first third
-  paid_then first second third a b = λ n has.
-      let one = a n has in
-      let two = b one.0 one.1 in
-      (two.0, two.1, omega (arith, one.2, two.2))
-
-  -- a disk that was not called remains
-  pub remains_none : (disk : D) → Remains d disk disk
-  remains_none disk = record {
-    reads = refl;
-    images = λ image left. left;
-    endless = λ room endless. endless;
-    told = λ room told. told;
-    paid = paid_none disk;
-    counted = omega arith;
-  }
-
-  -- a disk that remains twice remains
-  pub remains_then : (first second third : D) → Remains d first second → Remains d second third → Remains d first third
-  remains_then first second third a b = record {
-    reads = b.reads ∙ a.reads;
-    images = λ image left. a.images image (b.images image left);
-    endless = λ room endless. b.endless room (a.endless room endless);
-    told = λ room told. b.told room (a.told room told);
-    paid = paid_then first second third a.paid b.paid;
-    counted = omega (arith, a.counted, b.counted);
-  }
 
   -- a disk that remains stands for what it stood for
   pub stands_still : (first now : D) (records : List Rec) → Remains d first now → DiskStands r d first records → DiskStands r d now records
@@ -125,7 +93,7 @@ module _ {S State Request Rec Reply D F : Type 0} (r : rules.Ghosts S State Requ
     pub same : Remains d began.disk now.disk
     pub begins : (all : List Rec) → DiskStands r d began.disk all → (more : List Rec) × (all ≡ records ++ more)
 
-  -- it goes on with the next record
+  -- a replay that has read one record more goes on
   pub goes_on : (began old new : Log D) (first state after : State) (rec : Rec) (so_far : GoesOn began old first state) → HasRead r d new after (so_far.records ++ rec ∷ []) → ComesNext r d old.disk so_far.records rec
       → new.limit ≡ old.limit → r.limits_of after ≡ r.limits_of state → Remains d old.disk new.disk → GoesOn began new first after
   goes_on began old new first state after rec so_far read next limit limits same = record {
@@ -133,14 +101,14 @@ module _ {S State Request Rec Reply D F : Type 0} (r : rules.Ghosts S State Requ
     read = read;
     limit = limit ∙ so_far.limit;
     limits = limits ∙ so_far.limits;
-    same = remains_then began.disk old.disk new.disk so_far.same same;
+    same = remains_then d began.disk old.disk new.disk so_far.same same;
     begins = λ all stands.
         let b = so_far.begins all stands in
         let n = next b.0 (subst (λ (l : List Rec). DiskStands r d old.disk l) b.1 (stands_still began.disk old.disk all so_far.same stands)) in
         (n.0, b.1 ∙ ap (λ (l : List Rec). so_far.records ++ l) n.1 ∙ sym (append_assoc so_far.records (rec ∷ []) n.0));
   }
 
-  -- behind the last record it has read all
+  -- behind the last record a replay has read all that the disk stands for
   pub all_of : (began old : Log D) (first state : State) (so_far : GoesOn began old first state) → AreAll r d old.disk so_far.records
       → (all : List Rec) → DiskStands r d began.disk all → all ≡ so_far.records
   all_of began old first state so_far are_all all stands =

@@ -13,7 +13,7 @@ pub first_of : {X : Type 0} (f : X → List ℕ) (more : List X) (body : List �
 first_of f [] body others e = cc
 first_of f (x ∷ rest) body others e = (x, rest, refl, ap (λ (l : List (List ℕ)). get_or l 0 []) e)
 
--- where there are none, there are no records
+-- where there are no spellings there are no records
 pub none_of : {X : Type 0} (f : X → List ℕ) (more : List X) → map f more ≡ [] → more ≡ []
 none_of f [] e = refl
 none_of f (x ∷ rest) e = cc

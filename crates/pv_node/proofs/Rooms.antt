@@ -5,14 +5,15 @@ use Rattle.pv_outside.specs.declared.limits.Limits.{Limits}
 use Rattle.pv_node.specs.declared.rules.Rules as rules
 use Rattle.pv_node.specs.Standing.{EachHasRoom, Meets}
 
--- no list is empty that has an element
+-- the empty list has no element between two others
 not_empty : {X : Type 0} (before : List X) (x : X) (behind : List X) → [] ≡ before ++ x ∷ behind → ⊥
 not_empty before x behind e = omega (arith, ap length e, length-append before (x ∷ behind))
 
--- the heads and the tails of equal lists are equal
+-- equal lists have equal tails
 tails : {X : Type 0} (x y : X) (xs ys : List X) → x ∷ xs ≡ y ∷ ys → xs ≡ ys
 tails x y xs ys e = ap (drop 1) e
 
+-- equal lists have equal first elements
 heads : {X : Type 0} (x y : X) (xs ys : List X) → x ∷ xs ≡ y ∷ ys → x ≡ y
 heads x y xs ys e = ap (λ l. get_or l 0 x) e
 
@@ -44,7 +45,7 @@ module _ {S State Request Rec Reply : Type 0} (r : rules.Ghosts S State Request 
           subst (λ (y : Rec). r.fits other y) (sym last.1) (same_room state other records rec stands stood (is_limit ∙ sym other_limit) fits)
       in_each (inr there) = each before there.0 x other there.1 other_stands other_limit
 
-  -- the longer list meets the limits
+  -- records that meet the limits, and one more that has room, meet them together where they were fewer than the limit
   pub meets_more : (same_room : (one other : State) (records : List Rec) (rec : Rec) → r.stands one records → r.stands other records → r.limits_of one ≡ r.limits_of other → r.fits one rec → r.fits other rec)
       (limits : Limits) (state : State) (records : List Rec) (rec : Rec) → Meets r limits records → r.stands state records → r.limits_of state ≡ limits → r.fits state rec → length records < limits.records
       → Meets r limits (records ++ rec ∷ [])

@@ -1,6 +1,7 @@
 -- Which records a node stands for, once it has stored one more.
-use Rattle.std.proofs.Common.{◌≡◌, ℕ, ◌<◌, ◌≤◌, List, [], ◌∷◌, ◌++◌, length, map, All, Option, None, Some, refl, sym, ◌∙◌, ap, subst, arith, rules, ◌⊎◌, inl, inr}
+use Rattle.std.proofs.Common.{◌≡◌, ℕ, ◌<◌, ◌≤◌, List, [], ◌∷◌, ◌++◌, length, map, All, Option, None, Some, refl, sym, ◌∙◌, ap, subst, arith, ◌⊎◌, inl, inr}
 use Rattle.std.proofs.lemmas.List.{map_push, length-map}
+use Rattle.std.proofs.lemmas.Option.{none-some}
 use Rattle.std.proofs.lemmas.List.Elements.{All-push}
 use Rattle.pv_outside.specs.declared.disk.Disk as disk
 use Rattle.pv_journal.specs.declared.journal.Phase.{Phase}
@@ -20,10 +21,6 @@ pub count_within : (phase : Phase) (count limit : ℕ) → most phase count ≤ 
 count_within (Reading end) count limit within = within
 count_within Resting count limit within = within
 count_within (InHand size) count limit within = omega (arith, within)
-
--- an option is not both
-none_or_some : {X : Type 0} (x : X) → None ≡ Some x → ⊥
-none_or_some x e = search rules
 
 module _ {S State Request Rec Reply D F : Type 0} (r : rules.Ghosts S State Request Rec Reply) (d : disk.Ghosts D F) where
   -- a node with nothing in hand stands for the records whose spellings its journal holds and for which its state stands
@@ -81,11 +78,11 @@ module _ {S State Request Rec Reply D F : Type 0} (r : rules.Ghosts S State Requ
       either image (inl without) = inl (record { text = without; each = stands.each })
       either image (inr longer) = inr (record { text = subst (λ (l : List (List ℕ)). Spells image l) (sym (map_push r.spelling records rec)) longer; each = All-push r.is_record records rec stands.each spelled })
 
-  -- what the journal of a node holds that has nothing in hand
+  -- the journal of a node with nothing in hand holds the spellings of its records
   pub holds_at_rest : (node : Parts D State Rec) (records : List Rec) → StandsFor r d node records → node.hand ≡ None → Holds d node.journal (map r.spelling records)
   holds_at_rest node records stands none = subst (λ (h : Option Rec). Keeps r d node.journal records h) none stands.journal
 
-  -- what it holds that has a record in hand
+  -- the journal of a node with a record in hand holds the spellings of the others, and has that of this one in hand
   pub holds_in_hand : (node : Parts D State Rec) (records : List Rec) (rec : Rec) → StandsFor r d node records → node.hand ≡ Some rec → HoldsInHand d node.journal (map r.spelling records) (r.spelling rec)
   holds_in_hand node records rec stands some = subst (λ (h : Option Rec). Keeps r d node.journal records h) some stands.journal
 
@@ -97,4 +94,4 @@ module _ {S State Request Rec Reply D F : Type 0} (r : rules.Ghosts S State Requ
   -- a settling at which nothing was in hand changes nothing
   pub settled_same : (old new : Parts D State Rec) (stored : Option Rec) → IsSettled r d old new stored → old.hand ≡ None → new ≡ old
   settled_same old new None settled none = settled.same none
-  settled_same old new (Some rec) settled none = absurd (none_or_some rec (sym none ∙ settled.was))
+  settled_same old new (Some rec) settled none = absurd (none-some rec (sym none ∙ settled.was))

@@ -1,6 +1,9 @@
 -- What a node answers, and what it stands for then.
-use Rattle.std.specs.Prelude.{◌≡◌, ◌≢◌, ◌⊎◌, ℕ, ◌<◌, Option, Some, None, Result, Ok, Err}
+use Rattle.std.specs.Prelude.{◌≡◌, ◌≢◌, ◌⊎◌, ℕ, ◌+◌, ◌*◌, ◌<◌, ◌≤◌, List, Option, Some, None, Result, Ok, Err, OnErr}
+use Rattle.pv_outside.specs.Counts.{Rose}
+use Rattle.pv_outside.specs.Disk.{CallsPassed, HasCalls, IsEndless}
 use Rattle.pv_outside.specs.declared.disk.Disk as disk
+use Rattle.pv_journal.specs.Journal.{EachImage, IsPaid}
 use Rattle.pv_node.specs.declared.rules.Rules as rules
 use Rattle.pv_node.specs.declared.decision.Decision.{Decision}
 use Rattle.pv_node.specs.declared.decision.Decision.TheVariants.{Answer, Store}
@@ -8,7 +11,7 @@ use Rattle.pv_node.specs.declared.decision.Told.{Told}
 use Rattle.pv_node.specs.declared.fault.AskFault.{AskFault}
 use Rattle.pv_node.specs.declared.fault.AskFault.TheVariants.{Disk, Full}
 use Rattle.pv_node.specs.Parts.{Parts}
-use Rattle.pv_node.specs.Standing.{KeepsAll, Gains}
+use Rattle.pv_node.specs.Standing.{Stands, StandsFor, KeepsAll, Gains}
 
 -- a call of the disk failed in the ask
 abbrev pub IsAskDiskFault : {D F : Type 0} → AskFault D F → Type 0
@@ -93,3 +96,18 @@ module _ {S State Request Rec Reply D F : Type 0} (r : rules.Ghosts S State Requ
   abbrev pub Asks : Request → Parts D State Rec → Parts D State Rec → Result (Told Reply) (AskFault D F) → Type 0
   Asks request old new result = (IsUnsettled old new × FailsOnDisk result)
       ⊎ ((settled : Parts D State Rec) × (stored : Option Rec) × IsSettled old settled stored × CarriesOut (r.judgement settled.state request) settled new result)
+
+  -- What an ask, or a part of it, takes of the disk, of which at most so many calls succeed.
+  pub record Spends {T : Type 0} (most : ℕ) (old new : Parts D State Rec) (result : Result T (AskFault D F)) : Type 0 where
+    pub calls : g.clock new.journal.disk ≤ g.clock old.journal.disk + most
+    -- a disk that tells its budget has no less room, and each call that succeeded is one of those that were left
+    pub paid : IsPaid g old.journal.disk new.journal.disk
+    pub endless : (room : ℕ) → IsEndless room (g.budget old.journal.disk) → IsEndless room (g.budget new.journal.disk)
+    pub told : (room : ℕ) → HasCalls 0 room (g.budget old.journal.disk) → HasCalls 0 room (g.budget new.journal.disk)
+    -- a failure of the disk is told only where the count rose, and where nothing was in hand not while four calls are left
+    pub counted : g.faults old.journal.disk ≤ g.faults new.journal.disk
+    pub failed : FailsOnDisk result → Rose (g.faults old.journal.disk) (g.faults new.journal.disk)
+    pub passes : old.hand ≡ None → (records : List Rec) → StandsFor r g old records → HasCalls 4 (9 + 2051 * (r.limits_of old.state).records) (g.budget old.journal.disk) → FailsOnDisk result → ⊥
+    -- where nothing was in hand, each image stands for the records without the new one until two calls have succeeded
+    pub early : old.hand ≡ None → OnErr result ((records : List Rec) → StandsFor r g old records
+        → CallsPassed 2 (g.clock old.journal.disk) (g.clock new.journal.disk) ⊎ EachImage g new.journal.disk (λ image. Stands r image records))

@@ -15,7 +15,7 @@ judged most count byte = if (nat_lt byte 128 && nat_lt count most) then Store by
 pub sized : (rec : ℕ) → rec < 128 → IsBody (rec ∷ [])
 sized rec is = (omega arith, omega arith)
 
--- and tells which it is
+-- a byte is the only one with its spelling
 pub one_meaning : (one other : ℕ) → one < 128 → other < 128 → one ∷ [] ≡ other ∷ [] → one ≡ other
 one_meaning one other is_one is_other e = ap (λ (l : List ℕ). slice_index l 0) e
 

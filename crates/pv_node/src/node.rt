@@ -16,7 +16,7 @@ ghost use Rattle.pv_journal.specs.Log.{IsAtRest};
 ghost use Rattle.pv_journal.specs.Journal.{EachImage, HasLeft, IsPaid, Remains, IsFused};
 ghost use Rattle.pv_node.specs.Standing.{Stands, StandsEither, Meets, MeetsBoth, DiskStands, StandsFor};
 ghost use Rattle.pv_node.specs.Opening.{IsOutside, IsOpenFault, FaultShows, IsOpenDiskFault};
-ghost use Rattle.pv_node.specs.Asking.{IsAskDiskFault, IsSettled, IsUnsettled, IsRefused, CanStore, IsKept, CarriesOut, Asks};
+ghost use Rattle.pv_node.specs.Asking.{FailsOnDisk, IsSettled, IsUnsettled, IsRefused, CanStore, IsKept, CarriesOut, Asks, Spends};
 
 use crate::decision::{Decision, Told};
 use crate::fault::{AskFault, NodeFault};
@@ -111,20 +111,10 @@ impl<R: Rules, D: Disk> Node<R, D> {
         ensures none_in_hand { OnOk result (self.new.hand ≡ None) }
         ensures limits { R.limits_of self.new.state ≡ R.limits_of self.old.state }
 
-        // Until two calls of the disk have succeeded, each image stands for the records without the new one.
-        ensures early { self.old.hand ≡ None → OnErr result ((records : List R.Rec) → StandsFor ⟦<R as Rules>⟧ ⟦<D as Disk>⟧ self.old records
-            → CallsPassed 2 (D.clock self.old.journal.disk) (D.clock self.new.journal.disk) ⊎ EachImage ⟦<D as Disk>⟧ self.new.journal.disk (λ image. Stands ⟦<R as Rules>⟧ image records)) }
-
-        ensures failed { IfErr result (λ fault. IsAskDiskFault fault → Rose (D.faults self.old.journal.disk) (D.faults self.new.journal.disk)) }
-        ensures counted { D.faults self.old.journal.disk ≤ D.faults self.new.journal.disk }
-        ensures calls { D.clock self.new.journal.disk ≤ D.clock self.old.journal.disk + 6 }
-
-        // A disk that tells its budget has no less room, and each call that succeeds is one of those that were left.
-        ensures endless { (room : ℕ) → IsEndless room (D.budget self.old.journal.disk) → IsEndless room (D.budget self.new.journal.disk) }
-        ensures told { (room : ℕ) → HasCalls 0 room (D.budget self.old.journal.disk) → HasCalls 0 room (D.budget self.new.journal.disk) }
-        ensures paid { IsPaid ⟦<D as Disk>⟧ self.old.journal.disk self.new.journal.disk }
-        ensures passes { IfErr result (λ fault. (records : List R.Rec) → StandsFor ⟦<R as Rules>⟧ ⟦<D as Disk>⟧ self.old records
-            → self.old.hand ≡ None → HasCalls 4 (9 + 2051 * (R.limits_of self.old.state).records) (D.budget self.old.journal.disk) → IsAskDiskFault fault → ⊥) }
+        // What it takes of the disk. One with room for all records, whose calls have no end, is not in its way.
+        ensures spends { Spends ⟦<R as Rules>⟧ ⟦<D as Disk>⟧ 6 self.old self.new result }
+        ensures never_fails { (records : List R.Rec) → StandsFor ⟦<R as Rules>⟧ ⟦<D as Disk>⟧ self.old records
+            → IsEndless (9 + 2051 * (R.limits_of self.old.state).records) (D.budget self.old.journal.disk) → FailsOnDisk result → ⊥ }
     {
         match self.settle() {
             Ok(_) => {
@@ -144,19 +134,9 @@ impl<R: Rules, D: Disk> Node<R, D> {
         requires can { CanStore ⟦<R as Rules>⟧ self.old.state decision }
 
         ensures carried_out { CarriesOut ⟦<R as Rules>⟧ ⟦<D as Disk>⟧ decision self.old self.new result }
-        ensures early { OnErr result ((records : List R.Rec) → StandsFor ⟦<R as Rules>⟧ ⟦<D as Disk>⟧ self.old records
-            → CallsPassed 2 (D.clock self.old.journal.disk) (D.clock self.new.journal.disk) ⊎ EachImage ⟦<D as Disk>⟧ self.new.journal.disk (λ image. Stands ⟦<R as Rules>⟧ image records)) }
         ensures none_in_hand { OnOk result (self.new.hand ≡ None) }
         ensures limits { R.limits_of self.new.state ≡ R.limits_of self.old.state }
-
-        ensures failed { IfErr result (λ fault. IsAskDiskFault fault → Rose (D.faults self.old.journal.disk) (D.faults self.new.journal.disk)) }
-        ensures counted { D.faults self.old.journal.disk ≤ D.faults self.new.journal.disk }
-        ensures calls { D.clock self.new.journal.disk ≤ D.clock self.old.journal.disk + 4 }
-        ensures endless { (room : ℕ) → IsEndless room (D.budget self.old.journal.disk) → IsEndless room (D.budget self.new.journal.disk) }
-        ensures told { (room : ℕ) → HasCalls 0 room (D.budget self.old.journal.disk) → HasCalls 0 room (D.budget self.new.journal.disk) }
-        ensures paid { IsPaid ⟦<D as Disk>⟧ self.old.journal.disk self.new.journal.disk }
-        ensures passes { IfErr result (λ fault. (records : List R.Rec) → StandsFor ⟦<R as Rules>⟧ ⟦<D as Disk>⟧ self.old records
-            → HasCalls 4 (9 + 2051 * (R.limits_of self.old.state).records) (D.budget self.old.journal.disk) → IsAskDiskFault fault → ⊥) }
+        ensures spends { Spends ⟦<R as Rules>⟧ ⟦<D as Disk>⟧ 4 self.old self.new result }
     {
         match decision {
             Decision::Answer(reply) => Ok(Told {
@@ -179,18 +159,8 @@ impl<R: Rules, D: Disk> Node<R, D> {
         ensures place { IfOk result (λ number. number ≡ self.old.journal.count) }
         ensures stored { OnOk result (IsKept ⟦<R as Rules>⟧ ⟦<D as Disk>⟧ self.old self.new rec) }
         ensures refused { IfErr result (IsRefused ⟦<R as Rules>⟧ ⟦<D as Disk>⟧ self.old self.new rec) }
-        ensures early { OnErr result ((records : List R.Rec) → StandsFor ⟦<R as Rules>⟧ ⟦<D as Disk>⟧ self.old records
-            → CallsPassed 2 (D.clock self.old.journal.disk) (D.clock self.new.journal.disk) ⊎ EachImage ⟦<D as Disk>⟧ self.new.journal.disk (λ image. Stands ⟦<R as Rules>⟧ image records)) }
         ensures limits { R.limits_of self.new.state ≡ R.limits_of self.old.state }
-
-        ensures failed { IfErr result (λ fault. IsAskDiskFault fault → Rose (D.faults self.old.journal.disk) (D.faults self.new.journal.disk)) }
-        ensures counted { D.faults self.old.journal.disk ≤ D.faults self.new.journal.disk }
-        ensures calls { D.clock self.new.journal.disk ≤ D.clock self.old.journal.disk + 4 }
-        ensures endless { (room : ℕ) → IsEndless room (D.budget self.old.journal.disk) → IsEndless room (D.budget self.new.journal.disk) }
-        ensures told { (room : ℕ) → HasCalls 0 room (D.budget self.old.journal.disk) → HasCalls 0 room (D.budget self.new.journal.disk) }
-        ensures paid { IsPaid ⟦<D as Disk>⟧ self.old.journal.disk self.new.journal.disk }
-        ensures passes { IfErr result (λ fault. (records : List R.Rec) → StandsFor ⟦<R as Rules>⟧ ⟦<D as Disk>⟧ self.old records
-            → HasCalls 4 (9 + 2051 * (R.limits_of self.old.state).records) (D.budget self.old.journal.disk) → IsAskDiskFault fault → ⊥) }
+        ensures spends { Spends ⟦<R as Rules>⟧ ⟦<D as Disk>⟧ 4 self.old self.new result }
     {
         let size = spell::<R>(&rec, &mut self.body);
         match self.journal.append(&self.body[..size]) {

@@ -154,6 +154,14 @@ fn ask(node: &mut Node<Counting, MemDisk>, byte: u8) -> Result<(u64, Option<u64>
     }
 }
 
+fn may_move_into_a_thread<T: Send + Drop>(_value: T) {}
+
+#[test]
+fn a_node_may_move_into_a_thread(rt: HostRuntime) -> Result<(), Fail> {
+    may_move_into_a_thread(empty(rt.alloc(), &[])?);
+    Ok(())
+}
+
 #[test]
 fn what_was_stored_is_there_when_the_disk_is_opened_again(rt: HostRuntime) -> Result<(), Fail> {
     let mut disk = MemDisk::new(rt.alloc(), 10_000, &[])?;

@@ -1,7 +1,8 @@
 use Rattle.std.proofs.Common.{refl}
 use Rattle.pv_outside.specs.Disk.{after_sync, after_write}
 use Rattle.pv_journal.specs.Journal.{IsPaid}
-use Rattle.pv_journal.proofs.Calls.{paid_call, paid_then}
+use Rattle.pv_journal.proofs.Calls.{paid_call}
+use Rattle.pv_journal.proofs.CallerLemmas.{paid_then}
 use Rattle.pv_journal.proofs.formatting.format.Given.{Over}
 use Rattle.pv_journal.proofs.formatting.format.Goals as goal
 use Rattle.pv_journal.proofs.formatting.format.Goals.{After-sync, After-write}

@@ -3,7 +3,8 @@ use Rattle.std.proofs.lemmas.Option.{IfSome_then}
 use Rattle.std.proofs.lemmas.Grind.{common_steps}
 use Rattle.pv_outside.specs.Disk.{after_call, after_sync}
 use Rattle.pv_journal.specs.Journal.{Remains}
-use Rattle.pv_journal.proofs.Calls.{remains_after, remains_then}
+use Rattle.pv_journal.proofs.Calls.{remains_after}
+use Rattle.pv_journal.proofs.CallerLemmas.{remains_then}
 use Rattle.pv_journal.proofs.Images.{if_both}
 use Rattle.pv_journal.proofs.Reading.{first_read}
 use Rattle.pv_journal.proofs.opening.first_bytes.Given.{Over}

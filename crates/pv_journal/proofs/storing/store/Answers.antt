@@ -4,7 +4,8 @@ use Rattle.std.proofs.lemmas.Option.{IfSome_then}
 use Rattle.pv_outside.specs.Disk.{after_sync, after_write}
 use Rattle.pv_journal.specs.Text.{front, Spells, SpellsEither, HasClosedGate, MayHaveBody}
 use Rattle.pv_journal.specs.Journal.{EachImage, IsPaid}
-use Rattle.pv_journal.proofs.Calls.{paid_call, paid_then}
+use Rattle.pv_journal.proofs.Calls.{paid_call}
+use Rattle.pv_journal.proofs.CallerLemmas.{paid_then}
 use Rattle.pv_journal.proofs.Crash.{IsStaged}
 use Rattle.pv_journal.proofs.Gates.{IsBehind, behind_written, kept_by_torn, may_have, behind_torn, behind_opened, before_closed}
 use Rattle.pv_journal.proofs.Images.{on_ok, on_err, if_map, if_turns, if_told, each_kept, each_synced}

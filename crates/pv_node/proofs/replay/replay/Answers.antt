@@ -3,7 +3,8 @@ use Rattle.std.proofs.lemmas.Result.{err_from_is_err_and}
 use Rattle.pv_outside.specs.Disk.{IsEndless}
 use Rattle.pv_node.specs.Standing.{DiskStands, Meets}
 use Rattle.pv_node.specs.Opening.{HasAll, IsOutside, IsOpenDiskFault}
-use Rattle.pv_node.proofs.Reading.{remains_none, remains_then, goes_on, all_of, fails_outside}
+use Rattle.pv_journal.proofs.CallerLemmas.{remains_none, remains_then}
+use Rattle.pv_node.proofs.Reading.{goes_on, all_of, fails_outside}
 use Rattle.pv_node.proofs.replay.replay.Goals as goal
 
 pub loop-init : goal.loop-init
@@ -12,12 +13,12 @@ loop-init g c = record {
   read = c.requires.reading;
   limit = refl;
   limits = refl;
-  same = remains_none g.R.Rules g.D.Disk _;
+  same = remains_none g.D.Disk _;
   begins = λ all stands. (all, refl);
 }
 
 pub returns-in_err-take_next-clause-same : goal.returns-in_err-take_next-clause-same
-returns-in_err-take_next-clause-same g c = remains_then g.R.Rules g.D.Disk _ _ _ c.loop.invariant.same c.take_next.ensures.same
+returns-in_err-take_next-clause-same g c = remains_then g.D.Disk _ _ _ c.loop.invariant.same c.take_next.ensures.same
 
 pub returns-in_err-take_next-clause-opens : goal.returns-in_err-take_next-clause-opens
 returns-in_err-take_next-clause-opens g c =
@@ -43,7 +44,7 @@ loop-preserved g c =
     goes_on g.R.Rules g.D.Disk _ _ _ _ _ _ took.0 so_far took.1 took.2 c.take_next.ensures.limit c.take_next.ensures.limits c.take_next.ensures.same
 
 pub returns-clause-same : goal.returns-clause-same
-returns-clause-same g c = remains_then g.R.Rules g.D.Disk _ _ _ c.loop.invariant.same c.take_next.ensures.same
+returns-clause-same g c = remains_then g.D.Disk _ _ _ c.loop.invariant.same c.take_next.ensures.same
 
 pub returns-clause-found : goal.returns-clause-found
 returns-clause-found g c = λ records stands.

@@ -3,7 +3,7 @@ use Rattle.std.proofs.lemmas.Option.{IfSome_then, MatchOption-at_some}
 use Rattle.pv_outside.specs.Disk.{IsEndless}
 use Rattle.pv_journal.specs.Text.{IsBody, front, Spells, IsClosed, IsBroken, HasBlock}
 use Rattle.pv_journal.specs.Journal.{IsReading, DiskSpells}
-use Rattle.pv_journal.proofs.Calls.{remains_none}
+use Rattle.pv_journal.proofs.CallerLemmas.{remains_none}
 use Rattle.pv_journal.proofs.Counted.{counted_more, next_front}
 use Rattle.pv_journal.proofs.Images.{if_both, each_synced}
 use Rattle.pv_journal.proofs.Unique.{closed_none, first_is, never_broken, follows_on_disk, spells_front}

@@ -1,7 +1,8 @@
 use Rattle.std.proofs.Common.{◌≡◌, refl, sym, subst, arith, length, rules}
 use Rattle.pv_outside.specs.Disk.{after_call, after_sync}
 use Rattle.pv_journal.specs.Journal.{HoldsInHand, Remains}
-use Rattle.pv_journal.proofs.Calls.{remains_after, remains_none, remains_then}
+use Rattle.pv_journal.proofs.Calls.{remains_after}
+use Rattle.pv_journal.proofs.CallerLemmas.{remains_none, remains_then}
 use Rattle.pv_journal.proofs.Counted.{counted_more}
 use Rattle.pv_journal.proofs.Settle.{found_stored, found_dropped}
 use Rattle.pv_journal.proofs.journal.Journal.settle.Given.{Over}

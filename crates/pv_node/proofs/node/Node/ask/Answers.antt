@@ -1,7 +1,7 @@
-use Rattle.std.proofs.Common.{inr, ◌∙◌, ap, subst}
+use Rattle.std.proofs.Common.{inr, ◌∙◌, ap, subst, IsOk}
+use Rattle.std.proofs.lemmas.Bool.{false≢true}
 use Rattle.pv_node.specs.Asking.{CarriesOut}
-use Rattle.pv_node.proofs.Reading.{paid_then}
-use Rattle.pv_node.proofs.Standing.{settled_same}
+use Rattle.pv_node.proofs.Spending.{spends_settled, never_fails}
 use Rattle.pv_node.proofs.node.Node.ask.Goals as goal
 
 pub returns-in-Ok-clause-asked : goal.returns-in-Ok-clause-asked
@@ -14,17 +14,14 @@ returns-in-Ok-clause-asked g c =
       subst (λ decision. CarriesOut g.R.Rules g.D.Disk decision c.settle.new.self c.carry_out.new.self c.carry_out.result) judged c.carry_out.ensures.carried_out,
     )
 
-pub returns-in-Ok-clause-endless : goal.returns-in-Ok-clause-endless
-returns-in-Ok-clause-endless g c = λ room endless. c.carry_out.ensures.endless room (c.settle.ensures.same.endless room endless)
+pub returns-in-Ok-clause-spends : goal.returns-in-Ok-clause-spends
+returns-in-Ok-clause-spends g c =
+    spends_settled g.R.Rules g.D.Disk _ c.settle.new.self _ c.in-Ok.field-0 _ c.in-Ok.ensures.settled c.settle.ensures.same c.settle.ensures.calls c.carry_out.ensures.spends
 
-pub returns-in-Ok-clause-early : goal.returns-in-Ok-clause-early
-returns-in-Ok-clause-early g c = λ none.
-    let same = settled_same g.R.Rules g.D.Disk _ _ c.in-Ok.field-0 c.in-Ok.ensures.settled none in
-    let early = c.carry_out.ensures.early in
-    rw same at early
+pub returns-in-Ok-clause-never_fails : goal.returns-in-Ok-clause-never_fails
+returns-in-Ok-clause-never_fails g c =
+    never_fails g.R.Rules g.D.Disk _ c.settle.new.self _ c.in-Ok.field-0 _ c.in-Ok.ensures.settled c.settle.ensures.same c.settle.ensures.limits c.carry_out.ensures.spends
 
-pub returns-in-Ok-clause-told : goal.returns-in-Ok-clause-told
-returns-in-Ok-clause-told g c = λ room told. c.carry_out.ensures.told room (c.settle.ensures.same.told room told)
-
-pub returns-in-Ok-clause-paid : goal.returns-in-Ok-clause-paid
-returns-in-Ok-clause-paid g c = paid_then g.R.Rules g.D.Disk _ _ _ c.settle.ensures.same.paid c.carry_out.ensures.paid
+pub returns-in-Err-clause-never_fails : goal.returns-in-Err-clause-never_fails
+returns-in-Err-clause-never_fails g c = λ records stands endless is.
+    absurd (false≢true (subst IsOk c.in-Err.is (c.settle.ensures.passes _ endless)))

@@ -2,7 +2,8 @@ use Rattle.std.proofs.Common.{sym, subst, rules}
 use Rattle.pv_journal.specs.Journal.{Remains}
 use Rattle.pv_node.specs.Opening.{IsOpenDiskFault}
 use Rattle.pv_node.proofs.Rooms.{meets_none}
-use Rattle.pv_node.proofs.Reading.{disk_fault, remains_then}
+use Rattle.pv_journal.proofs.CallerLemmas.{remains_then}
+use Rattle.pv_node.proofs.Reading.{disk_fault}
 use Rattle.pv_node.proofs.node.Node.open.Goals as goal
 
 pub replay-requires-clause-reading : goal.replay-requires-clause-reading
@@ -19,7 +20,7 @@ returns-in-Err-clause-passes g c = λ room endless is.
 
 pub returns-in-Err-replay-clause-handed_back : goal.returns-in-Err-replay-clause-handed_back
 returns-in-Err-replay-clause-handed_back g c =
-    let same = remains_then g.R.Rules g.D.Disk _ _ _ c.in-Ok-start.ensures.same c.replay.ensures.same in
+    let same = remains_then g.D.Disk _ _ _ c.in-Ok-start.ensures.same c.replay.ensures.same in
     subst (λ disk. Remains g.D.Disk c.args.disk disk) (sym c.into_disk.ensures) same
 
 pub returns-in-Err-replay-clause-passes : goal.returns-in-Err-replay-clause-passes
@@ -27,4 +28,4 @@ returns-in-Err-replay-clause-passes g c = λ room endless is.
     c.in-Err-replay.ensures.passes room (c.in-Ok-start.ensures.same.endless room endless) is
 
 pub returns-clause-same : goal.returns-clause-same
-returns-clause-same g c = remains_then g.R.Rules g.D.Disk _ _ _ c.in-Ok-start.ensures.same c.replay.ensures.same
+returns-clause-same g c = remains_then g.D.Disk _ _ _ c.in-Ok-start.ensures.same c.replay.ensures.same

@@ -1,9 +1,46 @@
-use Rattle.std.proofs.Common.{◌≡◌, ℕ, ◌<◌, ◌⊎◌, List, [], ◌∷◌, ◌++◌, map, None, refl, sym, ◌∙◌, ap, subst, arith}
-use Rattle.pv_outside.specs.Disk.{HasCalls, IsEndless, CallsPassed}
-use Rattle.pv_journal.specs.Journal.{EachImage, IsPaid, Holds, HoldsInHand}
-use Rattle.pv_node.specs.Standing.{Stands, StandsFor}
+use Rattle.std.proofs.Common.{◌≡◌, ℕ, ◌+◌, ◌*◌, ◌<◌, ◌⊎◌, List, [], ◌∷◌, ◌++◌, map, Option, None, Some, Result, Ok, Err, OnErr, refl, sym, ◌∙◌, ap, subst, arith}
+use Rattle.std.proofs.lemmas.Result.{on_err_weaker}
+use Rattle.pv_outside.specs.Counts.{Rose}
+use Rattle.pv_outside.specs.Disk.{HasCalls, CallsPassed}
+use Rattle.pv_journal.specs.Journal.{EachImage, Holds, HoldsInHand}
+use Rattle.pv_journal.specs.Text.{Spells}
+use Rattle.pv_node.specs.declared.fault.AskFault.{AskFault}
+use Rattle.pv_node.specs.declared.fault.AskFault.TheVariants.{Disk, Full}
+use Rattle.pv_node.specs.Asking.{FailsOnDisk, Spends}
+use Rattle.pv_node.specs.Parts.{Parts}
+use Rattle.pv_node.specs.Standing.{StandsFor}
 use Rattle.pv_node.proofs.Standing.{gained, holds_at_rest, images_stand, taken}
+use Rattle.pv_node.proofs.node.Node.store.Given.{Over}
 use Rattle.pv_node.proofs.node.Node.store.Goals as goal
+use Rattle.pv_node.proofs.node.Node.store.Goals.{After-append}
+
+-- the node before the call, as contracts see it
+seen : (g : Over) → After-append g → Parts g.row.D.Denot g.row.R-State.Denot g.row.R-Rec.Denot
+seen g c = record { journal = c.self.inside.journal; state = c.self.inside.state; hand = c.self.inside.hand }
+
+-- what the append takes of the disk, whatever the node keeps of it and answers
+spent : (g : Over) (c : After-append g) (state : g.row.R-State.Denot) (hand : Option g.row.R-Rec.Denot) (result : Result ℕ (AskFault g.row.D.Denot g.row.D-Failure.Denot))
+    → (FailsOnDisk result → Rose (g.D.Disk.faults c.self.inside.journal.disk) (g.D.Disk.faults c.append.new.self.disk))
+    → ((bodies : List (List ℕ)) → Holds g.D.Disk c.self.inside.journal bodies → HasCalls 4 (9 + 2051 * c.self.inside.journal.limit) (g.D.Disk.budget c.self.inside.journal.disk) → FailsOnDisk result → ⊥)
+    → OnErr result ((bodies : List (List ℕ)) → Holds g.D.Disk c.self.inside.journal bodies
+    → CallsPassed 2 (g.D.Disk.clock c.self.inside.journal.disk) (g.D.Disk.clock c.append.new.self.disk) ⊎ EachImage g.D.Disk c.append.new.self.disk (λ image. Spells image bodies))
+    → Spends g.R.Rules g.D.Disk 4 c.args.self.now (record { journal = c.append.new.self; state = state; hand = hand }) result
+unfolding seen
+spent g c state hand result failed passes early =
+    let none : c.self.inside.hand ≡ None = ap (λ v. v.hand) c.self.view_is ∙ c.requires.at_rest in
+    subst (λ v. Spends g.R.Rules g.D.Disk 4 v (record { journal = c.append.new.self; state = state; hand = hand }) result) c.self.view_is
+    (let spends : Spends g.R.Rules g.D.Disk 4 (seen g c) (record { journal = c.append.new.self; state = state; hand = hand }) result = record {
+      calls = c.append.ensures.calls;
+      paid = c.append.ensures.paid;
+      endless = c.append.ensures.endless;
+      told = c.append.ensures.told;
+      counted = c.append.ensures.counted;
+      failed = failed;
+      passes = λ _ records stands has. passes (map g.R.Rules.spelling records) (holds_at_rest g.R.Rules g.D.Disk (seen g c) records stands none)
+          (subst (λ (n : ℕ). HasCalls 4 (9 + 2051 * n) (g.D.Disk.budget c.self.inside.journal.disk)) (sym c.self.invariant.limit) has);
+      early = λ _. on_err_weaker result (λ each records stands.
+          images_stand g.R.Rules g.D.Disk c.append.new.self.disk records stands.each (each (map g.R.Rules.spelling records) (holds_at_rest g.R.Rules g.D.Disk (seen g c) records stands none))) early;
+    } in spends)
 
 pub returns-in-Ok-clause-stored : goal.returns-in-Ok-clause-stored
 returns-in-Ok-clause-stored g c =
@@ -23,20 +60,6 @@ returns-in-Ok-clause-stored g c =
           c.requires.spelled (subst (λ v. g.R.Rules.fits v.state c.args.rec) (sym c.self.view_is) c.requires.room) absorbed room;
     }
 
-pub returns-in-Ok-clause-endless : goal.returns-in-Ok-clause-endless
-returns-in-Ok-clause-endless g c = λ room endless. c.append.ensures.endless room (subst (λ v. IsEndless room (g.D.Disk.budget v.journal.disk)) (sym c.self.view_is) endless)
-
-pub returns-in-Err-Disk-clause-endless : goal.returns-in-Err-Disk-clause-endless
-returns-in-Err-Disk-clause-endless g c = λ room endless. c.append.ensures.endless room (subst (λ v. IsEndless room (g.D.Disk.budget v.journal.disk)) (sym c.self.view_is) endless)
-
-pub returns-in-Err-Disk-clause-early : goal.returns-in-Err-Disk-clause-early
-returns-in-Err-Disk-clause-early g c = λ records stands_now.
-    let stands = subst (λ v. StandsFor g.R.Rules g.D.Disk v records) (sym c.self.view_is) stands_now in
-    let none : c.self.inside.hand ≡ None = ap (λ v. v.hand) c.self.view_is ∙ c.requires.at_rest in
-    let early = c.in-Err-Disk.ensures.early (map g.R.Rules.spelling records) (holds_at_rest g.R.Rules g.D.Disk _ records stands none) in
-    subst (λ v. CallsPassed 2 (g.D.Disk.clock v.journal.disk) (g.D.Disk.clock c.append.new.self.disk) ⊎ EachImage g.D.Disk c.append.new.self.disk (λ image. Stands g.R.Rules image records)) c.self.view_is
-    (images_stand g.R.Rules g.D.Disk c.append.new.self.disk records stands.each early)
-
 pub returns-in-Err-Disk-clause-refused : goal.returns-in-Err-Disk-clause-refused
 returns-in-Err-Disk-clause-refused g c =
     let none : c.self.inside.hand ≡ None = ap (λ v. v.hand) c.self.view_is ∙ c.requires.at_rest in
@@ -55,17 +78,15 @@ returns-in-Err-Disk-clause-refused g c =
           c.requires.spelled (subst (λ v. g.R.Rules.fits v.state c.args.rec) (sym c.self.view_is) c.requires.room) room;
     }
 
-pub returns-in-Ok-clause-told : goal.returns-in-Ok-clause-told
-returns-in-Ok-clause-told g c = λ room told. c.append.ensures.told room (subst (λ v. HasCalls 0 room (g.D.Disk.budget v.journal.disk)) (sym c.self.view_is) told)
+pub returns-in-Ok-clause-spends : goal.returns-in-Ok-clause-spends
+returns-in-Ok-clause-spends g c =
+    spent g (goal.at.returns-in-Ok-clause-spends g c).After-append c.absorb.new.state c.self.inside.hand (Ok c.in-Ok.number) (λ fails. absurd fails) (λ bodies holds has fails. fails) tt
 
-pub returns-in-Ok-clause-paid : goal.returns-in-Ok-clause-paid
-returns-in-Ok-clause-paid g c = subst (λ v. IsPaid g.D.Disk v.journal.disk c.append.new.self.disk) c.self.view_is c.append.ensures.paid
+pub returns-in-Err-Full-clause-spends : goal.returns-in-Err-Full-clause-spends
+returns-in-Err-Full-clause-spends g c =
+    spent g (goal.at.returns-in-Err-Full-clause-spends g c).After-append c.self.inside.state c.self.inside.hand (Err (Full c.in-Err-Full.count)) (λ fails. absurd fails) (λ bodies holds has fails. fails) c.in-Err-Full.ensures.early
 
-pub returns-in-Err-Disk-clause-told : goal.returns-in-Err-Disk-clause-told
-returns-in-Err-Disk-clause-told g c = λ room told. c.append.ensures.told room (subst (λ v. HasCalls 0 room (g.D.Disk.budget v.journal.disk)) (sym c.self.view_is) told)
-
-pub returns-in-Err-Disk-clause-paid : goal.returns-in-Err-Disk-clause-paid
-returns-in-Err-Disk-clause-paid g c = subst (λ v. IsPaid g.D.Disk v.journal.disk c.append.new.self.disk) c.self.view_is c.append.ensures.paid
-
-pub returns-in-Err-Full-clause-paid : goal.returns-in-Err-Full-clause-paid
-returns-in-Err-Full-clause-paid g c = subst (λ v. IsPaid g.D.Disk v.journal.disk c.append.new.self.disk) c.self.view_is c.append.ensures.paid
+pub returns-in-Err-Disk-clause-spends : goal.returns-in-Err-Disk-clause-spends
+returns-in-Err-Disk-clause-spends g c =
+    let at = rw c.in-Err-Disk.field-0-is at c.in-Err-Disk.ensures in
+    spent g (goal.at.returns-in-Err-Disk-clause-spends g c).After-append c.self.inside.state (Some c.args.rec) (Err (Disk c.in-Err-Disk.failure)) (λ fails. at.failed tt) (λ bodies holds has fails. at.passes bodies holds has tt) c.in-Err-Disk.ensures.early

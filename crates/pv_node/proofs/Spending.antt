@@ -1,0 +1,57 @@
+-- What an ask takes of the disk, from what its parts take.
+use Rattle.std.proofs.Common.{◌≡◌, ℕ, ◌+◌, ◌*◌, ◌≤◌, List, [], ◌∷◌, ◌++◌, Option, Some, None, IfSome, Result, sym, subst, arith}
+use Rattle.pv_outside.specs.Disk.{Budget, HasCalls, IsEndless}
+use Rattle.pv_outside.specs.declared.disk.Disk as disk
+use Rattle.pv_outside.specs.declared.limits.Limits.{Limits}
+use Rattle.pv_journal.specs.Journal.{Remains}
+use Rattle.pv_journal.proofs.CallerLemmas.{paid_then}
+use Rattle.pv_node.specs.declared.rules.Rules as rules
+use Rattle.pv_node.specs.declared.fault.AskFault.{AskFault}
+use Rattle.pv_node.specs.Parts.{Parts}
+use Rattle.pv_node.specs.Standing.{StandsFor}
+use Rattle.pv_node.specs.Asking.{IsSettled, FailsOnDisk, Spends}
+use Rattle.pv_node.proofs.Standing.{settled_same}
+
+-- a disk whose calls have no end has any number of calls left
+endless_has : (n room : ℕ) (budget : Option Budget) → IsEndless room budget → HasCalls n room budget
+endless_has n room None endless = endless
+endless_has n room (Some b) endless = (endless.0, subst (λ (o : Option ℕ). IfSome o (λ left. n ≤ left)) (sym endless.1) tt)
+
+module _ {S State Request Rec Reply D F : Type 0} (r : rules.Ghosts S State Request Rec Reply) (d : disk.Ghosts D F) where
+  -- an ask takes what its settling took, and then what was taken behind it
+  pub spends_settled : {T : Type 0} (old settled new : Parts D State Rec) (stored : Option Rec) (result : Result T (AskFault D F)) → IsSettled r d old settled stored
+      → Remains d old.journal.disk settled.journal.disk → d.clock settled.journal.disk ≤ d.clock old.journal.disk + 2
+      → Spends r d 4 settled new result → Spends r d 6 old new result
+  spends_settled old settled new stored result is same calls spends = record {
+    calls = omega (arith, calls, spends.calls);
+    paid = paid_then d old.journal.disk settled.journal.disk new.journal.disk same.paid spends.paid;
+    endless = λ room endless. spends.endless room (same.endless room endless);
+    told = λ room told. spends.told room (same.told room told);
+    counted = omega (arith, same.counted, spends.counted);
+    failed = λ fails. let rose = spends.failed fails in omega (arith, same.counted, rose);
+    passes = λ none. (at_rest none).passes none;
+    early = λ none. (at_rest none).early none;
+  }
+    where
+      at_rest : old.hand ≡ None → Spends r d 4 old new result
+      at_rest none = subst (λ (node : Parts D State Rec). Spends r d 4 node new result) (settled_same r d old settled stored is none) spends
+
+  -- after a settling nothing is in hand
+  none_after : (old settled : Parts D State Rec) (stored : Option Rec) → IsSettled r d old settled stored → settled.hand ≡ None
+  none_after old settled None is = is.hand
+  none_after old settled (Some rec) is = is.hand
+
+  -- a node that stood for some records stands for some once it is settled
+  stands_after : (old settled : Parts D State Rec) (stored : Option Rec) → IsSettled r d old settled stored → (records : List Rec) → StandsFor r d old records → (now : List Rec) × StandsFor r d settled now
+  stands_after old settled None is records stands = (records, is.records records stands)
+  stands_after old settled (Some rec) is records stands = (records ++ rec ∷ [], is.records records stands)
+
+  -- what follows a settling meets no failure of a disk that has room for all records and whose calls have no end
+  pub never_fails : {T : Type 0} (old settled new : Parts D State Rec) (stored : Option Rec) (result : Result T (AskFault D F)) → IsSettled r d old settled stored
+      → Remains d old.journal.disk settled.journal.disk → r.limits_of settled.state ≡ r.limits_of old.state → Spends r d 4 settled new result
+      → (records : List Rec) → StandsFor r d old records → IsEndless (9 + 2051 * (r.limits_of old.state).records) (d.budget old.journal.disk) → FailsOnDisk result → ⊥
+  never_fails old settled new stored result is same limits spends records stands endless fails =
+      let now = stands_after old settled stored is records stands in
+      let still = subst (λ (l : Limits). HasCalls 4 (9 + 2051 * l.records) (d.budget settled.journal.disk)) (sym limits)
+      (endless_has 4 (9 + 2051 * (r.limits_of old.state).records) (d.budget settled.journal.disk) (same.endless (9 + 2051 * (r.limits_of old.state).records) endless)) in
+      spends.passes (none_after old settled stored is) now.0 now.1 still fails
