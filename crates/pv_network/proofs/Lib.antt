@@ -3,6 +3,7 @@ pub mod Finding
 pub mod Framing
 pub mod Keeping
 pub mod Lists
+pub mod Meaning
 pub mod Performing
 pub mod Pushes
 pub mod Seeding

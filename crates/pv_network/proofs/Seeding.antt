@@ -6,7 +6,6 @@ use Rattle.std.proofs.lemmas.Bool.{leb-false}
 use Rattle.std.proofs.lemmas.List.{take-append-le}
 use Rattle.pv_page.specs.Names.{Name}
 use Rattle.pv_frame.specs.Content.{Content}
-use Rattle.pv_frame.specs.Sound.{IsSound as HasMeaning}
 use Rattle.pv_network.specs.declared.outcome.Outcome.{Outcome}
 use Rattle.pv_network.specs.declared.outcome.Outcome.TheVariants.{Reply}
 use Rattle.pv_network.specs.declared.record.Record.{Record}
@@ -40,9 +39,9 @@ same_centres edits more limit (centre ∷ centres) sound =
     ap (λ (held : List Record). record (kept_centre edits limit centre) { held = held }) (sym (take-append-le centre.number edits more sound.0.within)) in
     ap (λ (k : Kept). k ∷ map (kept_centre edits limit) centres) here ∙ ap (λ (l : List Kept). kept_centre (edits ++ more) limit centre ∷ l) (same_centres edits more limit centres sound.1)
 
-seeded_kept : (w : World) (name : Name) (frame : Content) → HasMeaning frame → IsSound w → refusal_of (kept_of w) (is_none (frame_at w.edits name)) ≡ None
+seeded_kept : (w : World) (name : Name) (frame : Content) → IsSound w → refusal_of (kept_of w) (is_none (frame_at w.edits name)) ≡ None
     → StandsFor (with_record (kept_of w) name frame) (seeded w name frame).0 × (Reply (stored_reply (length w.edits)) ≡ (seeded w name frame).1)
-seeded_kept w name frame meaning sound taken =
+seeded_kept w name frame sound taken =
     let tests = not_refused (is_frames_full w name) (leb w.record_limit (length w.edits)) (frames_full_reply w.frame_limit) (full_reply w.record_limit) taken in
     let edit = next_edit w name frame in
     let stores : seeded w name frame ≡ (with_edit w edit, Reply (stored_reply (length w.edits))) = rw (tests.0, tests.1) refl in
@@ -50,12 +49,12 @@ seeded_kept w name frame meaning sound taken =
     ap (λ (n : ℕ). record (kept_of w) { edits = w.edits ++ record { editor = OPERATOR; number = n + 1; name = name; frame = frame } ∷ [] }) (sym (last_number-run w.edits sound.numbered)) in
     let kept : with_record (kept_of w) name frame ≡ kept_of (with_edit w edit) =
     counted ∙ ap (λ (centres : List Kept). record (kept_of w) { edits = w.edits ++ edit ∷ []; centres = centres }) (same_centres w.edits (edit ∷ []) w.record_limit w.centres sound.centres) in
-    (record { sound = sound_seeded w name frame meaning sound; same = kept ∙ ap (λ (r : World × Outcome). kept_of r.0) (sym stores) }, ap (λ (r : World × Outcome). r.1) (sym stores))
+    (record { sound = sound_seeded w name frame sound; same = kept ∙ ap (λ (r : World × Outcome). kept_of r.0) (sym stores) }, ap (λ (r : World × Outcome). r.1) (sym stores))
 
 -- the record is stored
-pub seeds : (s : State) (name : Name) (frame : Content) → HasMeaning frame → refusal_of s (is_none (frame_at s.edits name)) ≡ None → (w : World) → StandsFor s w
+pub seeds : (s : State) (name : Name) (frame : Content) → refusal_of s (is_none (frame_at s.edits name)) ≡ None → (w : World) → StandsFor s w
     → StandsFor (with_record s name frame) (seeded w name frame).0 × (Reply (stored_reply (length s.edits)) ≡ (seeded w name frame).1)
-seeds s name frame meaning taken w stands =
+seeds s name frame taken w stands =
     let Q : State → World → Type 0 = λ t v. refusal_of t (is_none (frame_at t.edits name)) ≡ None
     → StandsFor (with_record t name frame) (seeded v name frame).0 × (Reply (stored_reply (length t.edits)) ≡ (seeded v name frame).1) in
-    at_kept s Q (λ v sound. seeded_kept v name frame meaning sound) w stands taken
+    at_kept s Q (λ v sound. seeded_kept v name frame sound) w stands taken
