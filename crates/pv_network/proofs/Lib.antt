@@ -1,6 +1,5 @@
 pub mod Counts
 pub mod Finding
-pub mod Framing
 pub mod Keeping
 pub mod Lists
 pub mod Meaning

@@ -3,19 +3,18 @@ use Rattle.std.proofs.Common.{◌≡◌, ℕ, leb, List, [], ◌∷◌, length, 
 use Rattle.std.specs.Prelude.{slice_get}
 use Rattle.std.specs.List.{AllByRecursion}
 use Rattle.pv_page.specs.Names.{Name}
-use Rattle.pv_frame.specs.Content.{Content}
+use Rattle.pv_frame.specs.Content.{Content, frame_of_row}
 use Rattle.pv_frame.specs.Sound.{IsSound}
+use Rattle.pv_frame.proofs.CallerLemmas.{IsSound-frame_of_row}
 use Rattle.pv_network.specs.declared.centre.Arrival.{Arrival}
 use Rattle.pv_network.specs.declared.centre.Arrival.TheVariants as arrivals
 use Rattle.pv_network.specs.declared.event.Event.{Event}
 use Rattle.pv_network.specs.declared.event.Event.TheVariants.{Seed, Send, Deliver, View}
 use Rattle.pv_network.specs.declared.packet.Packet.{Packet}
 use Rattle.pv_network.specs.declared.record.Record.{Record}
-use Rattle.pv_network.specs.Frames.{frame_of_row}
 use Rattle.pv_network.specs.World.{World, centre_at}
 use Rattle.pv_network.specs.Step.{is_packets_full, next_edit, is_frames_full, seeded, next_number, packed, sent_number, sent, arrival_of, with_acknowledgement, with_taken, arrived, delivered_packet, delivered, happens, after}
 use Rattle.pv_network.specs.Run.{PutsCells, HaveMeaning}
-use Rattle.pv_network.proofs.Framing.{IsSound-frame_of_row}
 use Rattle.pv_network.proofs.Lists.{all_push}
 use Rattle.pv_network.proofs.Soundness.{choice}
 
@@ -58,7 +57,7 @@ edits_delivered w c index = arrives (slice_get (centre_at w c).down index)
 
 -- an event that puts cells or nothing adds no frame without a meaning
 meaning_happens : (w : World) (event : Event) → PutsCells event → HaveMeaning w.edits → HaveMeaning (happens w event).0.edits
-meaning_happens w (Seed name row) cells have = meaning_seeded w name (frame_of_row row) (IsSound-frame_of_row row cells) have
+meaning_happens w (Seed name row) cells have = meaning_seeded w name (frame_of_row row) (IsSound-frame_of_row row cells.seven_bits) have
 meaning_happens w (Send centre) cells have = subst HaveMeaning (sym (edits_sent w centre)) have
 meaning_happens w (Deliver centre index) cells have = subst HaveMeaning (sym (edits_delivered w centre index)) have
 meaning_happens w (View centre name) cells have = have

@@ -7,7 +7,7 @@ use Rattle.std.proofs.lemmas.List.{length-append, take-append-le}
 use Rattle.std.proofs.Math.Seq.{take-append_seam}
 use Rattle.std.proofs.lemmas.Option.{slice_get_within}
 use Rattle.pv_page.specs.Names.{Name}
-use Rattle.pv_frame.specs.Content.{Content}
+use Rattle.pv_frame.specs.Content.{Content, frame_of_row}
 use Rattle.pv_network.specs.declared.centre.Arrival.{Arrival}
 use Rattle.pv_network.specs.declared.centre.Arrival.TheVariants as arrivals
 use Rattle.pv_network.specs.declared.event.Event.{Event}
@@ -16,7 +16,6 @@ use Rattle.pv_network.specs.declared.packet.Packet.{Packet}
 use Rattle.pv_network.specs.declared.record.Record.{Record}
 use Rattle.pv_network.specs.declared.record.TheConstants.{OPERATOR}
 use Rattle.pv_network.specs.Edits.{puts, frame_at, frame_count, IsNumbered}
-use Rattle.pv_network.specs.Frames.{frame_of_row}
 use Rattle.pv_network.specs.World.{World, Centre, Acknowledged, new_centre, start, centre_at, with_centre}
 use Rattle.pv_network.specs.Step.{is_packets_full, next_edit, with_edit, is_frames_full, seeded, next_number, with_packet, packed, sent_number, sent, arrival_of, with_acknowledgement, with_taken, arrived, delivered_packet, delivered, happens, after}
 use Rattle.pv_network.specs.OneList.{IsKept, receipt, receipts_from, OneList}

@@ -1,7 +1,7 @@
 -- What one event makes of the world, and the answer to it.
 use Rattle.std.specs.Prelude.{ℕ, ◌+◌, ◌==◌, Bool, ◌&&◌, nat_lt, nat_le, List, [], ◌∷◌, ◌++◌, length, Option, Some, None, is_none, slice_get, if◌then◌else◌}
 use Rattle.pv_page.specs.Names.{Name}
-use Rattle.pv_frame.specs.Content.{Content}
+use Rattle.pv_frame.specs.Content.{Content, frame_of_row}
 use Rattle.pv_screen.specs.Composing.{composed}
 use Rattle.pv_screen.specs.declared.screen.Screen.TheVariants.{Whole}
 use Rattle.pv_network.specs.declared.record.Record.{Record}
@@ -13,7 +13,6 @@ use Rattle.pv_network.specs.declared.event.Event.{Event}
 use Rattle.pv_network.specs.declared.event.Event.TheVariants.{Seed, Send, Deliver, View}
 use Rattle.pv_network.specs.declared.outcome.Outcome.{Outcome}
 use Rattle.pv_network.specs.declared.outcome.Outcome.TheVariants.{Reply, Shown, Idle, PacketsFull, NoPacket, SentRecord, Taken, Old, Early, Full, NotHeld}
-use Rattle.pv_network.specs.Frames.{frame_of_row}
 use Rattle.pv_network.specs.Edits.{frame_at, frame_count, last_number}
 use Rattle.pv_network.specs.Replies.{stored_reply, frames_full_reply, full_reply}
 use Rattle.pv_network.specs.World.{World, Centre, End, centre_at, with_centre, held, packet_count}

@@ -2,7 +2,7 @@ use Rattle.std.proofs.Common.{◌≡◌, Bool, true, false, not, Option, None, S
 use Rattle.std.specs.Prelude.{is_none, is_some, option_copied}
 use Rattle.pv_network.specs.declared.record.Record.{Record}
 use Rattle.pv_network.specs.Edits.{edit_at, frame_at}
-use Rattle.pv_network.specs.Frames.{frame_of_row}
+use Rattle.pv_frame.specs.Content.{frame_of_row}
 use Rattle.pv_network.specs.Replies.{stored_reply}
 use Rattle.pv_network.specs.Standing.{State, refusal_of}
 use Rattle.pv_network.proofs.Counts.{none-option_map}
