@@ -31,9 +31,11 @@ choice P false x y here there = there refl
 
 -- ---- a centre
 
+-- a centre that nothing has reached is sound beside any list
 sound_new : (edits : List Record) → IsSoundCentre edits new_centre
 sound_new edits = record { within = omega arith; packets = tt; acknowledged = tt; heard = omega arith }
 
+-- each centre of a sound world is sound, and past the last so is a new one
 pub sound_at : (w : World) (c : ℕ) → IsSound w → IsSoundCentre w.edits (centre_at w c)
 sound_at w c sound = all_at (IsSoundCentre w.edits) w.centres c new_centre sound.centres (sound_new w.edits)
 
@@ -55,9 +57,11 @@ sound_with w c centre sound here = record {
 kept_longer : (edits more : List Record) (a : Acknowledged) → IsKept edits a → IsKept (edits ++ more) a
 kept_longer edits more a kept = (kept.0, get_front edits more a.place kept.0 kept.1, kept.2, kept.3)
 
+-- a packet that carries a record of the list does so as the list grows
 genuine_longer : (edits more : List Record) (packet : Packet) → IsGenuine edits packet → IsGenuine (edits ++ more) packet
 genuine_longer edits more packet is = get_front edits more packet.number packet.edit is
 
+-- a centre stays sound as the list grows
 centre_longer : (edits more : List Record) (centre : Centre) → IsSoundCentre edits centre → IsSoundCentre (edits ++ more) centre
 centre_longer edits more centre sound = record {
   within = omega (arith, sound.within, length-append edits more);
@@ -66,6 +70,7 @@ centre_longer edits more centre sound = record {
   heard = sound.heard;
 }
 
+-- a list stays numbered with the operator's next record behind it
 numbered_push : (edits : List Record) (edit : Record) → IsNumbered edits → edit.editor ≡ OPERATOR → edit.number ≡ length edits + 1 → IsNumbered (edits ++ edit ∷ [])
 numbered_push edits edit run editor number place found is =
     elim (get_push edits edit place found is) [
@@ -107,6 +112,7 @@ receipts-push place [] edit = ap (λ (n : ℕ). receipt edit n ∷ []) (omega ar
 receipts-push place (first ∷ later) edit =
     ap (λ (l : List Acknowledged). receipt first place ∷ l) (receipts-push (place + 1) later edit ∙ ap (λ (n : ℕ). receipts_from (place + 1) later ++ receipt edit n ∷ []) (omega arith))
 
+-- the world stays sound with a record for which there is room
 sound_edit : (w : World) (name : Name) (frame : Content) → IsSound w → is_frames_full w name ≡ false → leb w.record_limit (length w.edits) ≡ false → IsSound (with_edit w (next_edit w name frame))
 sound_edit w name frame sound frames records =
     let edit = next_edit w name frame in
@@ -129,6 +135,7 @@ sound_edit w name frame sound frames records =
       centres = all_weaken (IsSoundCentre w.edits) (IsSoundCentre (w.edits ++ edit ∷ [])) (centre_longer w.edits (edit ∷ [])) w.centres sound.centres;
     }
 
+-- it stays sound where a frame is put, or refused
 pub sound_seeded : (w : World) (name : Name) (frame : Content) → IsSound w → IsSound (seeded w name frame).0
 sound_seeded w name frame sound =
     choice IsSound (is_frames_full w name) _ _ (λ _. sound) (λ frames.
@@ -136,6 +143,7 @@ sound_seeded w name frame sound =
 
 -- ---- send
 
+-- it stays sound with a packet that carries the list's record of its number
 sound_packet : (w : World) (c number : ℕ) (edit : Record) → IsSound w → slice_get w.edits number ≡ Some edit → IsSound (with_centre w c (with_packet (centre_at w c) number edit))
 sound_packet w c number edit sound is =
     let here = sound_at w c sound in
@@ -146,6 +154,7 @@ sound_packet w c number edit sound is =
       heard = here.heard;
     })
 
+-- it stays sound where the next record is packed, or there is none to pack
 pub sound_sent : (w : World) (c : ℕ) → IsSound w → IsSound (sent w c).0
 sound_sent w c sound = choice IsSound (is_packets_full w) _ _ (λ _. sound) (λ _. numbered (next_number (centre_at w c).sending (length w.edits)))
   where
@@ -159,6 +168,7 @@ sound_sent w c sound = choice IsSound (is_packets_full w) _ _ (λ _. sound) (λ 
 
 -- ---- deliver
 
+-- it stays sound where a centre acknowledges what it has taken
 pub sound_acknowledged : (w : World) (c : ℕ) → IsSound w → IsSound (with_acknowledgement w c).0
 sound_acknowledged w c sound =
     let here = sound_at w c sound in
@@ -190,6 +200,7 @@ taken_is_next taken limit number is = next (eqb number taken) (leb limit taken) 
     next false full true equal room is = absurd cc
     next false full false equal room is = absurd cc
 
+-- it stays sound whatever packet arrives
 pub sound_delivered : (w : World) (c index : ℕ) → IsSound w → IsSound (delivered w c index).0
 sound_delivered w c index sound = arrives (slice_get (centre_at w c).down index) refl
   where
@@ -205,12 +216,14 @@ sound_delivered w c index sound = arrives (slice_get (centre_at w c).down index)
 
 -- ---- all
 
+-- a sound world stays sound whatever event happens
 pub sound_happens : (w : World) (event : Event) → IsSound w → IsSound (happens w event).0
 sound_happens w (Seed name row) sound = sound_seeded w name (frame_of_row row) sound
 sound_happens w (Send centre) sound = sound_sent w centre sound
 sound_happens w (Deliver centre index) sound = sound_delivered w centre index sound
 sound_happens w (View centre name) sound = sound
 
+-- and however many of them
 pub sound_after : (w : World) (events : List Event) → IsSound w → IsSound (after w events)
 sound_after w [] sound = sound
 sound_after w (event ∷ events) sound = sound_after (happens w event).0 events (sound_happens w event sound)

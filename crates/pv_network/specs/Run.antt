@@ -10,8 +10,8 @@ use Rattle.pv_network.specs.declared.record.Record.{Record}
 use Rattle.pv_network.specs.declared.record.TheConstants.{OPERATOR}
 use Rattle.pv_network.specs.Edits.{frame_at, frame_count, last_number}
 
--- The record may be stored behind these, where there may be so many frames and so many records: it has the operator's
--- next number, its name has a frame or there is room for one more, and there is room for a record.
+-- The record may be stored behind these, where there may be so many frames and so many records: it is the operator's,
+-- under his next number; its name has a frame, or there is room for one more; and there is room for one record more.
 pub record MayFollow (frames records : ℕ) (before : List Record) (edit : Record) : Type 0 where
   pub editor : edit.editor ≡ OPERATOR
   pub number : edit.number ≡ last_number before OPERATOR + 1

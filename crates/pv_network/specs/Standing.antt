@@ -58,10 +58,11 @@ pub record StandsFor (s : State) (w : World) : Type 0 where
 abbrev pub Performs : {A : Type 0} → State → State → A → (World → World × A) → Type 0
 Performs old new outcome step = (w : World) → StandsFor old w → StandsFor new (step w).0 × (outcome ≡ (step w).1)
 
--- what is kept of the centre of a number; past the last one there is nothing
+-- what is kept of a centre that is not there: nothing
 abbrev pub nothing_kept : Kept
 nothing_kept = kept_centre [] 0 new_centre
 
+-- what is kept of the centre of a number; past the last one there is nothing
 abbrev pub kept_at : List Kept → ℕ → Kept
 kept_at centres c = slice_index_or centres c nothing_kept
 

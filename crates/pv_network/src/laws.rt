@@ -15,7 +15,10 @@ ghost use Rattle.pv_network.specs.Sound.{IsSound};
 /// each centre has a front of the list. Where the rows that events put are rows of cells, each frame of the
 /// list has a meaning.
 pub fn every_reachable_world_is_sound()
-    ensures one_list { (centres frames records : ℕ) (events : List Event) → OneList (after (start centres frames records) events) }
-    ensures sound { (centres frames records : ℕ) (events : List Event) → IsSound (after (start centres frames records) events) }
-    ensures meaning { (centres frames records : ℕ) (events : List Event) → AllByRecursion PutsCells events → HaveMeaning (after (start centres frames records) events).edits }
+    ensures one_list { (centres frames records : ℕ) (events : List Event)
+        → OneList (after (start centres frames records) events) }
+    ensures sound { (centres frames records : ℕ) (events : List Event)
+        → IsSound (after (start centres frames records) events) }
+    ensures meaning { (centres frames records : ℕ) (events : List Event)
+        → AllByRecursion PutsCells events → HaveMeaning (after (start centres frames records) events).edits }
 {}
