@@ -8,3 +8,5 @@ pub use Rattle.pv_frame.proofs.Decoding.{is_found}
 pub use Rattle.pv_frame.proofs.Lengths.{length-spelling}
 -- a frame without fault is sound, and a sound one is without fault
 pub use Rattle.pv_frame.proofs.Soundness.{sound_of, fault_of-none}
+-- a frame that is blank but for a row of cells has a meaning
+pub use Rattle.pv_frame.proofs.Framing.{IsSound-frame_of_row}

@@ -13,24 +13,30 @@ use Rattle.pv_frame.proofs.ReadParts.{front_of, codes_of, tail_of}
 use Rattle.pv_frame.proofs.Soundness.{sound_of}
 use Rattle.pv_frame.proofs.Spelled.{IsBytes, spelled, holds_of_bytes}
 
+-- what is given had no reason against it
 unless_ok : {X E : Type 0} (o : Option E) (x y : X) → unless o x ≡ Ok y → (o ≡ None) × (x ≡ y)
 unless_ok None x y is = (refl, cc)
 unless_ok (Some e) x y is = absurd cc
 
+-- what is refused is refused for the reason that there is
 unless_err : {X E : Type 0} (o : Option E) (x : X) (e : E) → unless o x ≡ Err e → o ≡ Some e
 unless_err None x e is = absurd cc
 unless_err (Some f) x e is = cc
 
 module _ (bytes : List ℕ) where
+  -- the fault of the frame that the bytes are read as
   abbrev in_frame : List (Option FrameCodecError)
   in_frame = option_map Invalid (fault_of (content_of bytes)) ∷ []
 
+  -- before it those of the fields, and behind them
   abbrev in_tail : List (Option FrameCodecError)
   in_tail = tail_faults bytes ++ in_frame
 
+  -- before these those of the codes
   abbrev in_codes : List (Option FrameCodecError)
   in_codes = code_faults bytes ++ in_tail
 
+  -- what the bytes are read as
   abbrev decoded : Result Content FrameCodecError
   decoded = decode_of bytes
 
@@ -38,25 +44,29 @@ module _ (bytes : List ℕ) where
   refused : (refusal : FrameCodecError) → refusal_of bytes ≡ Some refusal → Err refusal ≡ decoded
   refused refusal is = sym (ap (λ (o : Option FrameCodecError). unless o (content_of bytes)) is)
 
-  -- one that is met at the front, in the codes, in the fields or in the frame that was read
+  -- a fault at the front is told
   pub front_refused : (refusal : FrameCodecError) → first_of (front_faults bytes) ≡ Some refusal → Err refusal ≡ decoded
   front_refused refusal is = refused refusal (first_of-append_some (front_faults bytes) in_codes refusal is)
 
   module _ (front : first_of (front_faults bytes) ≡ None) where
+    -- a code without a meaning is told where the front has no fault
     pub code_refused : (refusal : FrameCodecError) → first_of (code_faults bytes) ≡ Some refusal → Err refusal ≡ decoded
     code_refused refusal is =
         refused refusal (first_of-append_none (front_faults bytes) in_codes front ∙ first_of-append_some (code_faults bytes) in_tail refusal is)
 
     module _ (codes : first_of (code_faults bytes) ≡ None) where
+      -- a fault of the fields, or behind them, is told where none stands before them
       pub tail_refused : (refusal : FrameCodecError) → first_of (tail_faults bytes) ≡ Some refusal → Err refusal ≡ decoded
       tail_refused refusal is =
           refused refusal (first_of-append_none (front_faults bytes) in_codes front ∙ first_of-append_none (code_faults bytes) in_tail codes ∙ first_of-append_some (tail_faults bytes) in_frame refusal is)
 
       module _ (tail : first_of (tail_faults bytes) ≡ None) where
+        -- where the layout has no fault, only one of the frame can be told
         refusal_of-frame : refusal_of bytes ≡ first_of in_frame
         refusal_of-frame =
             first_of-append_none (front_faults bytes) in_codes front ∙ first_of-append_none (code_faults bytes) in_tail codes ∙ first_of-append_none (tail_faults bytes) in_frame tail
 
+        -- it is told where there is one
         pub frame_refused : (fault : FrameError) → fault_of (content_of bytes) ≡ Some fault → Err (Invalid fault) ≡ decoded
         frame_refused fault is =
             refused (Invalid fault) (refusal_of-frame ∙ first_of-some (option_map Invalid (fault_of (content_of bytes))) [] (Invalid fault) (ap (option_map Invalid) is))

@@ -17,13 +17,16 @@ pub length-in_fours : {X : Type 0} (f : X → List ℕ) → ((x : X) → length 
 length-in_fours f four [] = refl
 length-in_fours f four (x ∷ xs) = omega (arith, length-append (f x) (flat_map f xs), four x, length-in_fours f four xs)
 
+-- a route takes four bytes
 pub length-route : (route : Option ℕ) → length (route_bytes route) ≡ 4
 length-route None = refl
 length-route (Some page) = refl
 
+-- so does each of many routes
 pub length-routes : (routes : List (Option ℕ)) → length (flat_map route_bytes routes) ≡ 4 * length routes
 length-routes = length-in_fours route_bytes length-route
 
+-- and each of many fields
 pub length-fields : (fields : List Field) → length (flat_map field_bytes fields) ≡ 4 * length fields
 length-fields = length-in_fours field_bytes (λ _. refl)
 
@@ -46,6 +49,7 @@ length-spelling frame is =
       length-fields frame.fields,
     )
 
+-- what the length of a spelling is reckoned from
 pub ruleset sizes = (length-spelling, length-routes, length-fields)
 
 -- ---- one piece more

@@ -2,6 +2,7 @@ pub mod CallerLemmas
 pub mod Decoding
 pub mod Facts
 pub mod First
+pub mod Framing
 pub mod Lengths
 pub mod Pieces
 pub mod Places

@@ -27,6 +27,7 @@ use Rattle.pv_frame.proofs.ReadParts.{same_content}
 use Rattle.pv_frame.proofs.Searching.{find-none}
 use Rattle.pv_frame.proofs.Soundness.{fault_of-none}
 
+-- what is answered where a frame is read
 abbrev ok : Content → Result Content FrameCodecError
 ok frame = Ok frame
 
@@ -43,6 +44,7 @@ record IsLaid (bytes : List ℕ) (frame : Content) : Type 0 where
   fields : drop FIELDS_AT bytes ≡ flat_map field_bytes frame.fields ++ []
   whole : length bytes ≡ FIELDS_AT + FIELD_BYTES * length frame.fields
 
+-- in the spelling of a frame each of its parts stands at its place
 laid_of : (frame : Content) → IsFrame frame → IsLaid (spelling_of frame) frame
 laid_of frame holds =
     let bytes = spelling_of frame in
@@ -74,11 +76,13 @@ laid_of frame holds =
 
 -- ---- codes
 
+-- the code of a kind of frame stands for that kind
 kind_of-kind_code : (kind : Kind) → kind_of (kind_code kind) ≡ Some kind
 kind_of-kind_code Information = refl
 kind_of-kind_code Response = refl
 kind_of-kind_code Mail = refl
 
+-- the code of a kind of field stands for that kind
 field_kind_of-field_code : (kind : FieldKind) → field_kind_of (field_code kind) ≡ Some kind
 field_kind_of-field_code Digits = refl
 field_kind_of-field_code Words = refl
@@ -96,13 +100,16 @@ route_again (Some page) is =
 -- ---- what the parts are read as, and that they have no fault
 
 module _ (bytes : List ℕ) (frame : Content) (holds : IsFrame frame) (laid : IsLaid bytes frame) where
+  -- at the place of a digit stands the frame's route
   route_here : (digit : ℕ) → digit < ROUTES → route_number bytes digit ≡ from_be_bytes w32 (route_bytes (get_or frame.routes digit None))
   route_here digit before =
       ap (from_be_bytes w32) (piece_of route_bytes length-route bytes laid.routes.0 ROUTES_AT frame.routes digit None laid.routes.1 (omega (arith, holds.routes)))
 
+  -- it leads to a page or nowhere
   page_here : (digit : ℕ) → digit < ROUTES → IfSome (get_or frame.routes digit None) IsPage
   page_here digit before = holds.pages digit None (omega (arith, holds.routes))
 
+  -- no route is without a meaning
   bad_route-none : bad_route bytes ≡ None
   unfolding bad_route
   bad_route-none =
@@ -111,6 +118,7 @@ module _ (bytes : List ℕ) (frame : Content) (holds : IsFrame frame) (laid : Is
       rw zero-add (ap (λ n. not (is_route n)) (route_here digit before)
       ∙ not_from_true (is_route (from_be_bytes w32 (route_bytes (get_or frame.routes digit None)))) (route_again (get_or frame.routes digit None) (page_here digit before)).0))
 
+  -- the routes are read as the frame's
   routes_again : routes_of bytes ≡ frame.routes
   unfolding routes_of
   routes_again =
@@ -122,10 +130,12 @@ module _ (bytes : List ℕ) (frame : Content) (holds : IsFrame frame) (laid : Is
   field_here k within =
       sym (four_bytes bytes (field_at k) (omega (arith, laid.whole))) ∙ piece_of field_bytes (λ _. refl) bytes [] FIELDS_AT frame.fields k no_field laid.fields within
 
+  -- the kind of a field is read as that of the frame's
   kind_here : (k : ℕ) → k < length frame.fields → kind_of_field bytes k ≡ Some (get_or frame.fields k no_field).kind
   kind_here k within =
       ap field_kind_of (ap (λ (bs : List ℕ). get_or bs 3 0) (field_here k within)) ∙ field_kind_of-field_code (get_or frame.fields k no_field).kind
 
+  -- a field is read as the frame's
   field_again : (k : ℕ) → k < length frame.fields → field_of bytes k ≡ get_or frame.fields k no_field
   field_again k within =
       let bytes_are = field_here k within in
@@ -135,41 +145,48 @@ module _ (bytes : List ℕ) (frame : Content) (holds : IsFrame frame) (laid : Is
       let kind = ap (λ (o : Option FieldKind). unwrap_or o Digits) (kind_here k within) in
       λ i. record { row = row i; column = column i; length = len i; kind = kind i }
 
+  -- no kind of a field is without a meaning
   bad_field-none : bad_field bytes ≡ None
   unfolding bad_field
   bad_field-none =
       find-none (λ k. is_none (kind_of_field bytes k)) 0 (count_of bytes)
       (λ k before. rw zero-add (ap is_none (kind_here k (omega (arith, laid.count)))))
 
+  -- the fields are read as the frame's
   fields_again : fields_of bytes ≡ frame.fields
   unfolding fields_of
   fields_again =
       sym (fill_by_all (field_of bytes) frame.fields (count_of bytes) no_field (sym laid.count) (λ k before. sym (field_again k (omega (arith, laid.count)))))
 
+  -- all that is read is what the frame holds
   content_again : content_of bytes ≡ frame
   content_again =
       same_content (content_of bytes) frame laid.title laid.body
       (ap (λ (code : ℕ). unwrap_or (kind_of code) Information) laid.kind ∙ ap (λ (o : Option Kind). unwrap_or o Information) (kind_of-kind_code frame.kind))
       routes_again laid.price (ap (from_be_bytes w16) laid.group ∙ from_be_bytes-to_be_bytes_2 frame.group holds.group) fields_again
 
+  -- nothing is wrong at the front
   front-none : first_of (front_faults bytes) ≡ None
   front-none =
       first_of-none (empty_fault bytes) (version_fault bytes ∷ head_fault bytes ∷ []) (when-false (length bytes == 0) Short (ne_eqb (length bytes) 0 (λ none. omega (arith, none, laid.whole))))
       ∙ first_of-none (version_fault bytes) (head_fault bytes ∷ []) (when-false (not (slice_index bytes 0 == VERSION)) Version (not_from_true (slice_index bytes 0 == VERSION) (eq-eqb (slice_index bytes 0) VERSION laid.version)))
       ∙ first_of-none (head_fault bytes) [] (when-false (nat_lt (length bytes) FIELDS_AT) Short (le-ltb (length bytes) FIELDS_AT (omega (arith, laid.whole))))
 
+  -- nothing is wrong with the codes before the fields
   codes-none : first_of (code_faults bytes) ≡ None
   codes-none =
       first_of-none (kind_fault bytes) (route_fault bytes ∷ count_fault bytes ∷ []) (when-false (is_none (kind_of (slice_index bytes KIND_AT))) (bad_code KIND_AT) (ap (λ (code : ℕ). is_none (kind_of code)) laid.kind ∙ ap is_none (kind_of-kind_code frame.kind)))
       ∙ first_of-none (route_fault bytes) (count_fault bytes ∷ []) (ap (option_map (λ digit. bad_code (route_at digit))) bad_route-none)
       ∙ first_of-none (count_fault bytes) [] (when-false (nat_lt FIELDS (count_of bytes)) (bad_code COUNT_AT) (le-ltb FIELDS (count_of bytes) (omega (arith, laid.count, holds.fields))))
 
+  -- nothing is wrong with the fields, or stands behind them
   tail-none : first_of (tail_faults bytes) ≡ None
   tail-none =
       first_of-none (fields_fault bytes) (field_fault bytes ∷ trailing_fault bytes ∷ []) (when-false (nat_lt (length bytes) (field_at (count_of bytes))) Short (le-ltb (length bytes) (field_at (count_of bytes)) (omega (arith, laid.whole, laid.count))))
       ∙ first_of-none (field_fault bytes) (trailing_fault bytes ∷ []) (ap (option_map (λ i. bad_code (code_at i))) bad_field-none)
       ∙ first_of-none (trailing_fault bytes) [] (when-false (nat_lt (field_at (count_of bytes)) (length bytes)) Trailing (le-ltb (field_at (count_of bytes)) (length bytes) (omega (arith, laid.whole, laid.count))))
 
+  -- where the frame has no fault, it is what is read
   read_again : fault_of frame ≡ None → decode_of bytes ≡ Ok frame
   read_again none =
       let last = option_map Invalid (fault_of (content_of bytes)) in

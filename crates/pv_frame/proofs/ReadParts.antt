@@ -28,10 +28,12 @@ pages_of_routes bytes k d within =
     let digit : ℕ → Option ℕ = λ digit. page_of (route_number bytes digit) in
     rw (get_or-map-range_with_len digit 0 ROUTES k k d (omega (arith, length-map-range_with_len digit 0 ROUTES)) (omega arith)) (page_of_is (route_number bytes k))
 
+-- a route is read for each digit
 pub length-routes_of : (bytes : List ℕ) → length (routes_of bytes) ≡ ROUTES
 unfolding routes_of
 length-routes_of bytes = refl
 
+-- as many fields are read as the bytes tell of
 pub length-fields_of : (bytes : List ℕ) → length (fields_of bytes) ≡ count_of bytes
 unfolding fields_of
 length-fields_of bytes = length-map-range_with_len (field_of bytes) 0 (count_of bytes)
@@ -41,6 +43,7 @@ pub record HasFront (bytes : List ℕ) : Type 0 where
   pub version : slice_index bytes 0 ≡ VERSION
   pub long : FIELDS_AT ≤ length bytes
 
+-- so it is where no fault shows at the front
 pub front_of : (bytes : List ℕ) → first_of (front_faults bytes) ≡ None → HasFront bytes
 front_of bytes none =
     let empty = none_of (empty_fault bytes) (version_fault bytes ∷ head_fault bytes ∷ []) none in
@@ -57,6 +60,7 @@ pub record HasCodes (bytes : List ℕ) : Type 0 where
   pub routes : bad_route bytes ≡ None
   pub count : count_of bytes ≤ FIELDS
 
+-- so it is where no fault shows in the codes
 pub codes_of : (bytes : List ℕ) → first_of (code_faults bytes) ≡ None → HasCodes bytes
 codes_of bytes none =
     let kind = none_of (kind_fault bytes) (route_fault bytes ∷ count_fault bytes ∷ []) none in
@@ -73,12 +77,14 @@ pub record HasTail (bytes : List ℕ) : Type 0 where
   pub whole : length bytes ≡ field_at (count_of bytes)
   pub kinds : (i : ℕ) → i < count_of bytes → IsSome (kind_of_field bytes i)
 
+-- where no field is bad, each has a kind with a meaning
 kinds_of : (bytes : List ℕ) → bad_field bytes ≡ None → (i : ℕ) → i < count_of bytes → IsSome (kind_of_field bytes i)
 unfolding bad_field
 kinds_of bytes none i before =
     let fails : is_none (kind_of_field bytes i) ≡ false = rw zero-add at (fails-from_none (λ i. is_none (kind_of_field bytes i)) 0 (count_of bytes) none i before) in
     not-false (is_some (kind_of_field bytes i)) fails
 
+-- so it is where no fault shows in the fields, or behind them
 pub tail_of : (bytes : List ℕ) → first_of (tail_faults bytes) ≡ None → HasTail bytes
 tail_of bytes none =
     let fields = none_of (fields_fault bytes) (field_fault bytes ∷ trailing_fault bytes ∷ []) none in

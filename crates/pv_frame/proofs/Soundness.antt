@@ -26,6 +26,7 @@ use Rattle.pv_frame.proofs.First.{first_of-none, first_of-one, when-false, none_
 
 -- ---- each test, and what it tells
 
+-- where none is over 127, all are cells
 pub any_above : (cells : List ℕ) → list_any (nat_lt LAST_CELL) cells ≡ false → All IsCell cells
 any_above cells none k d within =
     elim (cases_Bool (nat_lt LAST_CELL (get_or cells k d))) [
@@ -33,18 +34,22 @@ any_above cells none k d within =
       | inr below ↦ ltb-false LAST_CELL (get_or cells k d) below
     ]
 
+-- no cell is over 127
 pub none_above : (cells : List ℕ) → All IsCell cells → list_any (nat_lt LAST_CELL) cells ≡ false
 none_above cells each =
     list_any_none (nat_lt LAST_CELL) cells (λ k d within. le-ltb LAST_CELL (get_or cells k d) (each k d within))
 
+-- a number that passes the test of a range lies in it
 in_range : (low high n : ℕ) → is_in_range low high n ≡ true → IsInRange low high n
 in_range low high n is =
     let both = and_parts (nat_le low n) (nat_le n high) is in
     (leb-true low n both.0, leb-true n high both.1)
 
+-- a number of the range passes its test
 range_is : (low high n : ℕ) → IsInRange low high n → is_in_range low high n ≡ true
 range_is low high n is = and_from (nat_le low n) (nat_le n high) (le-leb low n is.0) (le-leb n high is.1)
 
+-- the test tells the fields that lie in the body
 pub Decides-lies_in_body : (field : Field) → Decides (lies_in_body field) (LiesInBody field)
 Decides-lies_in_body field = (
   λ is.
@@ -61,6 +66,7 @@ Decides-lies_in_body field = (
       (le-leb (end_of field) ROW_LENGTH lies.end),
 )
 
+-- two fields meet exactly where they share a cell
 pub Decides-meets : (a b : Field) → Decides (meets a b) (ShareCell a b)
 Decides-meets a b = (
   λ is.
@@ -77,6 +83,7 @@ Decides-meets a b = (
 -- ---- a first place that is not there
 
 module _ {X : Type 0} (test : X → Bool) (xs : List X) where
+  -- where no place is found, no element passes
   pub nowhere : position test xs ≡ None → All (λ x. test x ≡ false) xs
   nowhere none k d within =
       elim (cases_lt (position_or_len test xs) (length xs)) [
@@ -84,6 +91,7 @@ module _ {X : Type 0} (test : X → Bool) (xs : List X) where
         | inr past ↦ fails_before_first test xs k d (omega arith)
       ]
 
+  -- where no element passes, no place is found
   position-none : X → All (λ x. test x ≡ false) xs → position test xs ≡ None
   position-none d none =
       let at_end = position_or_len_is test xs (length xs) d (omega arith) (λ k before. none k d before) (λ within. absurd (omega arith)) in
@@ -98,6 +106,7 @@ parts_of_meeting i field others none =
     let both = none_of (option_map pair (position (meets field) others)) (first_meeting (i + 1) others ∷ []) none in
     (option_map-none_back pair (position (meets field) others) both.0, sym (first_of-one (first_meeting (i + 1) others)) ∙ both.1)
 
+-- fields of which no two meet share no cell
 pub apart_of : (i : ℕ) (fields : List Field) → first_meeting i fields ≡ None → AllPairs (λ a b. ¬ ShareCell a b) fields
 apart_of i [] none p q d before within = absurd (omega arith)
 apart_of i (field ∷ others) none zero zero d before within = absurd (omega arith)
@@ -108,6 +117,7 @@ apart_of i (field ∷ others) none (suc p) zero d before within = absurd (omega 
 apart_of i (field ∷ others) none (suc p) (suc q) d before within =
     apart_of (i + 1) others (parts_of_meeting i field others none).1 p q d (omega arith) (omega arith)
 
+-- of fields that share no cell no two meet
 meeting-none : (i : ℕ) (fields : List Field) → AllPairs (λ a b. ¬ ShareCell a b) fields → first_meeting i fields ≡ None
 meeting-none i [] apart = refl
 meeting-none i (field ∷ others) apart =
@@ -118,22 +128,27 @@ meeting-none i (field ∷ others) apart =
 
 -- ---- the shape
 
+-- a field that is not for digits is for words
 text_of : (kind : FieldKind) → not (is_digits kind) ≡ true → kind ≡ Words
 text_of Words is = refl
 text_of Digits is = absurd cc
 
+-- a field for words is not for digits
 text_is : (kind : FieldKind) → kind ≡ Words → not (is_digits kind) ≡ true
 text_is Words is = refl
 text_is Digits is = absurd cc
 
+-- a field that passes as one for digits is for digits
 digits_of : (kind : FieldKind) → is_digits kind ≡ true → kind ≡ Digits
 digits_of Digits is = refl
 digits_of Words is = absurd cc
 
+-- a field for digits passes as one
 digits_is : (kind : FieldKind) → kind ≡ Digits → is_digits kind ≡ true
 digits_is Digits is = refl
 digits_is Words is = absurd cc
 
+-- fields that pass as those of a kind are such as the kind has
 pub shape_of : (kind : Kind) (fields : List Field) → has_shape kind fields ≡ true → HasShape kind fields
 shape_of Information fields is = nil_from_length fields (eqb-true (length fields) 0 is)
 shape_of Response fields is = ltb-true 0 (length fields) is
@@ -148,6 +163,7 @@ shape_of Mail (account ∷ texts) is =
       λ k d within. text_of (get_or texts k d).kind (AllPass-from_list_all takes_text texts parts.1 k d within),
     )
 
+-- such as a kind has pass as those of the kind
 pub shape_is : (kind : Kind) (fields : List Field) → HasShape kind fields → has_shape kind fields ≡ true
 shape_is Information fields is = eq-eqb (length fields) 0 (ap length is)
 shape_is Response fields is = lt-ltb 0 (length fields) is

@@ -16,10 +16,11 @@ use Rattle.pv_frame.proofs.Pieces.{lay, lay_byte, four_bytes, pieces}
 use Rattle.pv_frame.proofs.ReadParts.{HasFront, HasCodes, HasTail, length-fields_of, length-routes_of, pages_of_routes}
 use Rattle.pv_frame.proofs.Searching.{fails-from_none}
 
+-- each number is one that a byte can be
 abbrev pub IsBytes : List ℕ → Type 0
 IsBytes bytes = (i : ℕ) → get_or bytes i 0 < 256
 
--- bytes of bytes are bytes
+-- a part of bytes is bytes
 IsBytes-range : (bytes : List ℕ) (from to : ℕ) → IsBytes bytes → IsBytes (slice_range bytes from to)
 IsBytes-range bytes from to each i =
     elim (cases_lt i (to - from)) [
@@ -27,13 +28,14 @@ IsBytes-range bytes from to each i =
       | inr past ↦ rw (get_or_past (slice_range bytes from to) i 0 (omega (arith, length-take (to - from) (drop from bytes)))) (omega arith)
     ]
 
--- the code of the kind that a code stands for
+-- a code that stands for a kind of frame is the code of that kind
 kind_code-kind_of : (code : ℕ) → is_none (kind_of code) ≡ false → kind_code (unwrap_or (kind_of code) Information) ≡ code
 kind_code-kind_of zero is = refl
 kind_code-kind_of (suc zero) is = refl
 kind_code-kind_of (suc (suc zero)) is = refl
 kind_code-kind_of (suc (suc (suc code))) is = absurd cc
 
+-- a code that stands for a kind of field is the code of that kind
 field_code-field_kind_of : (code : ℕ) → IsSome (field_kind_of code) → field_code (unwrap_or (field_kind_of code) Digits) ≡ code
 field_code-field_kind_of zero is = refl
 field_code-field_kind_of (suc zero) is = refl

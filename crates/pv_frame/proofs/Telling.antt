@@ -24,16 +24,19 @@ some_of : {X : Type 0} (o : Option X) (others : List (Option X)) (x : X) → fir
 some_of None others x some = inr (refl, some)
 some_of (Some y) others x some = inl some
 
+-- what stands under a test is there only where the test holds
 when-some : {X : Type 0} (test : Bool) (x y : X) → when test x ≡ Some y → (test ≡ true) × (x ≡ y)
 when-some true x y some = (refl, cc)
 when-some false x y some = absurd cc
 
+-- a fault that is made of a place is there only where the place is
 option_map-some_back : {X Y : Type 0} (f : X → Y) (o : Option X) (y : Y) → option_map f o ≡ Some y → (x : X) × (o ≡ Some x) × (f x ≡ y)
 option_map-some_back f None y some = absurd cc
 option_map-some_back f (Some x) y some = (x, refl, cc)
 
 -- ---- fields
 
+-- the place that is told is that of the first field that does not lie in the body
 first_without : (fields : List Field) (i : ℕ) → position (λ field. not (lies_in_body field)) fields ≡ Some i → IsFirstWithout LiesInBody fields i
 first_without fields i is =
     let found : (d : Field) → (i < length fields) × (not (lies_in_body (get_or fields i d)) ≡ true) × ((k : ℕ) → k < i → not (lies_in_body (get_or fields k d)) ≡ false) = λ d. position-Some (λ field. not (lies_in_body field)) fields i d is in
@@ -45,6 +48,7 @@ first_without fields i is =
 
 -- a field that does not meet others shares no cell with any of them
 module _ (field : Field) (others : List Field) where
+  -- the field shares no cell with another that it does not meet
   apart_at : (q : ℕ) (d : Field) → meets field (get_or others q d) ≡ false → ¬ ShareCell field (get_or others q d)
   apart_at q d apart = not_from_Decides (meets field (get_or others q d)) (Decides-meets field (get_or others q d)) apart
 
@@ -108,11 +112,13 @@ first_pair at (field ∷ others) a b some =
 
 -- ---- the whole
 
+-- a shape that is told is not the kind's, where the fields lie in the body apart from one another
 told_shape : (frame : Content) (fault : FrameError) → HasRanges frame → All LiesInBody frame.fields → AllPairs (λ a b. ¬ ShareCell a b) frame.fields → first_of (shape_fault frame.kind frame.fields ∷ []) ≡ Some fault → TellsFault frame fault
 told_shape frame fault ranges inside apart some =
     let is = when-some (not (has_shape frame.kind frame.fields)) Shape fault (sym (first_of-one (shape_fault frame.kind frame.fields)) ∙ some) in
     subst (TellsFault frame) is.1 (ranges, inside, apart, λ shape. both_ways (has_shape frame.kind frame.fields) (not-true (has_shape frame.kind frame.fields) is.0) (shape_is frame.kind frame.fields shape))
 
+-- of fields that lie in the body it is told that two meet, the first pair, or that their shape is not the kind's
 told_meeting : (frame : Content) (fault : FrameError) → HasRanges frame → All LiesInBody frame.fields → first_of (meeting_fault frame.fields ∷ shape_fault frame.kind frame.fields ∷ []) ≡ Some fault → TellsFault frame fault
 told_meeting frame fault ranges inside some =
     let made : ℕ × ℕ → FrameError = λ pair. FieldsMeet pair.0 pair.1 in
@@ -128,6 +134,7 @@ told_meeting frame fault ranges inside some =
           told_shape frame fault ranges inside (apart_of 0 frame.fields (option_map-none_back made (first_meeting 0 frame.fields) behind.0)) behind.1
     ]
 
+-- where cells and price are in range, what is told of the fields is there
 told_range : (frame : Content) (fault : FrameError) → HasRanges frame → first_of (faults_of_fields frame.kind frame.fields) ≡ Some fault → TellsFault frame fault
 told_range frame fault ranges some =
     let outside : Field → Bool = λ field. not (lies_in_body field) in
@@ -146,6 +153,7 @@ wrong_cell cells any =
     let found = Any-from_list_any (nat_lt LAST_CELL) cells any in
     (found.0, found.1, found.2, found.3, λ is. omega (arith, is, ltb-true LAST_CELL found.1 found.4))
 
+-- what is told of a frame is there, and no fault of an earlier kind
 pub told : (frame : Content) (fault : FrameError) → fault_of frame ≡ Some fault → TellsFault frame fault
 told frame fault some =
     let cells = frame.title ++ frame.body in

@@ -1,5 +1,5 @@
 -- What a frame holds, apart from how it lies in memory.
-use Rattle.std.specs.Prelude.{◌≡◌, ℕ, ◌^◌, ◌<◌, ◌≤◌, List, [], length, replicate, Option, None, IfSome, All}
+use Rattle.std.specs.Prelude.{◌≡◌, ℕ, ◌-◌, ◌^◌, ◌<◌, ◌≤◌, List, [], ◌++◌, length, replicate, Option, None, IfSome, All}
 use Rattle.pv_cells.specs.declared.reading.TheConstants.{BLANK}
 use Rattle.pv_page.specs.Names.{IsPage}
 use Rattle.pv_frame.specs.declared.kind.Kind.{Kind}
@@ -38,3 +38,7 @@ blank = record {
   group = 0;
   fields = [];
 }
+
+-- the frame that is blank but for its row 2, the first of its body
+unfoldable pub frame_of_row : List ℕ → Content
+frame_of_row row = record blank { body = row ++ replicate (BODY_CELLS - length row) BLANK }

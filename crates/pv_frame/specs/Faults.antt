@@ -45,6 +45,7 @@ first_meeting i (field ∷ others) =
     let here = option_map (λ k. (i, i + 1 + k)) (position (meets field) others) in
     first_of (here ∷ first_meeting (i + 1) others ∷ [])
 
+-- a field of this kind is for digits
 abbrev pub is_digits : FieldKind → Bool
 is_digits Digits = true
 is_digits Words = false

@@ -28,10 +28,11 @@ field_kind_of zero = Some Digits
 field_kind_of (suc zero) = Some Words
 field_kind_of (suc (suc code)) = None
 
--- where the route of a digit stands, and its four bytes as a number
+-- where the route of a digit stands
 abbrev pub route_at : ℕ → ℕ
 route_at digit = ROUTES_AT + ROUTE_BYTES * digit
 
+-- the four bytes of a digit's route as a number
 abbrev pub route_number : List ℕ → ℕ → ℕ
 route_number bytes digit = from_be_bytes w32 (slice_range bytes (route_at digit) (route_at digit + ROUTE_BYTES))
 
@@ -43,13 +44,15 @@ is_route number = nat_le number LAST_PAGE || number == NO_ROUTE
 abbrev pub page_of : ℕ → Option ℕ
 page_of number = if nat_le number LAST_PAGE then Some number else None
 
--- how many fields the bytes tell of, where one of them stands, and where the last one ends
+-- how many fields the bytes tell of
 abbrev pub count_of : List ℕ → ℕ
 count_of bytes = slice_index bytes COUNT_AT
 
+-- where a field stands; at the count of the fields, where the last one ends
 abbrev pub field_at : ℕ → ℕ
 field_at i = FIELDS_AT + FIELD_BYTES * i
 
+-- where the code of a field's kind stands
 abbrev pub code_at : ℕ → ℕ
 code_at i = field_at i + 3
 
@@ -61,7 +64,7 @@ kind_of_field bytes i = field_kind_of (slice_index bytes (code_at i))
 unfoldable pub routes_of : List ℕ → List (Option ℕ)
 routes_of bytes = map (λ digit. page_of (route_number bytes digit)) (range_with_len 0 ROUTES)
 
--- a field, and all of them
+-- a field, as its four bytes say
 abbrev pub field_of : List ℕ → ℕ → Field
 field_of bytes i = record {
   row = slice_index bytes (field_at i);
@@ -70,6 +73,7 @@ field_of bytes i = record {
   kind = unwrap_or (kind_of_field bytes i) Digits;
 }
 
+-- all the fields that the bytes tell of
 unfoldable pub fields_of : List ℕ → List Field
 fields_of bytes = map (field_of bytes) (range_with_len 0 (count_of bytes))
 
@@ -89,52 +93,63 @@ content_of bytes = record {
 abbrev pub bad_code : ℕ → FrameCodecError
 bad_code at = Invalid (Code at)
 
--- the first route, and the first field, whose code has no meaning
+-- the first digit whose route has no meaning
 unfoldable pub bad_route : List ℕ → Option ℕ
 bad_route bytes = find (λ digit. not (is_route (route_number bytes digit))) (range_with_len 0 ROUTES)
 
+-- the first field whose kind has no meaning
 unfoldable pub bad_field : List ℕ → Option ℕ
 bad_field bytes = find (λ i. is_none (kind_of_field bytes i)) (range_with_len 0 (count_of bytes))
 
--- what is wrong with the layout of bytes, each where it is there: no byte, another version, a head that
--- is cut off,
+-- ---- what is wrong with the layout of bytes, each where it is there
+
+-- there is no byte
 abbrev pub empty_fault : List ℕ → Option FrameCodecError
 empty_fault bytes = when (length bytes == 0) Short
 
+-- the first byte is another version
 abbrev pub version_fault : List ℕ → Option FrameCodecError
 version_fault bytes = when (not (slice_index bytes 0 == VERSION)) Version
 
+-- something before the fields is cut off
 abbrev pub head_fault : List ℕ → Option FrameCodecError
 head_fault bytes = when (nat_lt (length bytes) FIELDS_AT) Short
 
--- a kind, a route or a number of fields without a meaning,
+-- the kind of the frame has no meaning
 abbrev pub kind_fault : List ℕ → Option FrameCodecError
 kind_fault bytes = when (is_none (kind_of (slice_index bytes KIND_AT))) (bad_code KIND_AT)
 
+-- a route has no meaning: the first such
 abbrev pub route_fault : List ℕ → Option FrameCodecError
 route_fault bytes = option_map (λ digit. bad_code (route_at digit)) (bad_route bytes)
 
+-- there are more fields than a frame may have
 abbrev pub count_fault : List ℕ → Option FrameCodecError
 count_fault bytes = when (nat_lt FIELDS (count_of bytes)) (bad_code COUNT_AT)
 
--- fields that are cut off, a kind of a field without a meaning, and bytes behind the fields
+-- a field is cut off
 abbrev pub fields_fault : List ℕ → Option FrameCodecError
 fields_fault bytes = when (nat_lt (length bytes) (field_at (count_of bytes))) Short
 
+-- the kind of a field has no meaning: that of the first such
 abbrev pub field_fault : List ℕ → Option FrameCodecError
 field_fault bytes = option_map (λ i. bad_code (code_at i)) (bad_field bytes)
 
+-- bytes stand behind the last field
 abbrev pub trailing_fault : List ℕ → Option FrameCodecError
 trailing_fault bytes = when (nat_lt (field_at (count_of bytes)) (length bytes)) Trailing
 
--- the same in the order in which they are told: what shows at the front, in the codes of the first 950
--- bytes, and in the fields
+-- ---- which of it is told
+
+-- what shows at the front is told first
 abbrev pub front_faults : List ℕ → List (Option FrameCodecError)
 front_faults bytes = empty_fault bytes ∷ version_fault bytes ∷ head_fault bytes ∷ []
 
+-- then a code before the fields
 abbrev pub code_faults : List ℕ → List (Option FrameCodecError)
 code_faults bytes = kind_fault bytes ∷ route_fault bytes ∷ count_fault bytes ∷ []
 
+-- and then what is wrong with the fields, or behind them
 abbrev pub tail_faults : List ℕ → List (Option FrameCodecError)
 tail_faults bytes = fields_fault bytes ∷ field_fault bytes ∷ trailing_fault bytes ∷ []
 
@@ -144,10 +159,11 @@ refusal_of bytes =
     let in_frame = option_map Invalid (fault_of (content_of bytes)) in
     first_of (front_faults bytes ++ (code_faults bytes ++ (tail_faults bytes ++ in_frame ∷ [])))
 
--- what the bytes are read as where nothing is wrong with them
+-- a thing, or the reason against it where there is one
 abbrev pub unless : {X E : Type 0} → Option E → X → Result X E
 unless None x = Ok x
 unless (Some e) x = Err e
 
+-- the frame that the bytes are read as, or the refusal that stands first
 abbrev pub decode_of : List ℕ → Result Content FrameCodecError
 decode_of bytes = unless (refusal_of bytes) (content_of bytes)

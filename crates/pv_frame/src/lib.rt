@@ -8,6 +8,7 @@
 //! - [`Frame::blank`] is a frame with nothing on it. Its parts are public; [`Frame::add_field`] puts
 //!   a field behind the others.
 //! - [`Frame::check`] tells whether a frame has a meaning, or its first [`FrameError`].
+//! - A [`CheckedFrame`] is a frame that `check` takes: its type keeps that.
 //! - [`Frame::encode`] appends the one spelling of a frame, 950 bytes and four for each field, and
 //!   [`Frame::decode`] reads it, or tells the [`FrameCodecError`] that stands first.
 //!
@@ -25,6 +26,7 @@
 //! ```
 #![tactic(auto)]
 
+mod checked_frame;
 mod checking;
 mod codec_error;
 mod field;
@@ -36,6 +38,7 @@ mod layout;
 mod reading;
 mod writing;
 
+pub use checked_frame::CheckedFrame;
 pub use codec_error::FrameCodecError;
 pub use field::{Field, FieldKind};
 pub use frame::Frame;

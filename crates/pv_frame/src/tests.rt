@@ -1,4 +1,5 @@
-use crate::{FIELDS, Field, FieldKind, Frame, FrameCodecError, FrameError, Kind};
+use crate::{CheckedFrame, FIELDS, Field, FieldKind, Frame, FrameCodecError, FrameError, Kind};
+use pv_cells::row_of;
 use pv_fields::{NoRoom, Out};
 use pv_page::PageNo;
 use std::test::Fail;
@@ -129,6 +130,18 @@ fn a_frame_is_made_part_by_part(rt: HostRuntime) -> Result<(), Fail> {
     }
     assert_eq!(rt; frame.check(), Ok(()));
     assert_eq!(rt; Frame::decode(&spelled()), Ok(frame));
+    Ok(())
+}
+
+#[test]
+fn a_row_of_cells_makes_a_frame_that_is_checked(rt: HostRuntime) -> Result<(), Fail> {
+    let row = row_of(b"HELLO")?;
+    let checked = CheckedFrame::of_row(&row);
+    let frame = checked.frame();
+    assert_eq!(rt; frame.check(), Ok(()));
+    assert_eq!(rt; frame.title, Frame::blank().title);
+    assert_eq!(rt; &frame.body[..5], b"HELLO".as_slice());
+    assert_eq!(rt; &frame.body[5..], &Frame::blank().body[5..]);
     Ok(())
 }
 

@@ -2,11 +2,12 @@
 use Rattle.std.proofs.Common.{◌≡◌, ℕ, ◌+◌, Bool, true, false, cond, not, ◌&&◌, ◌||◌, eqb, List, [], ◌∷◌, ◌++◌, length, get_or, take, Option, Some, None, refl, sym, ap, ◌∙◌, arith}
 use Rattle.std.specs.Prelude.{reverse, find, is_none}
 use Rattle.std.specs.List.{list_any}
-use Rattle.std.specs.Option.{option_map, option_map_or}
-use Rattle.std.proofs.lemmas.Bool.{eqb-true, eq-eqb}
+use Rattle.std.specs.Option.{option_map, option_map_or, option_or}
+use Rattle.std.proofs.Math.Bool.{or-false}
+use Rattle.std.proofs.lemmas.Bool.{eqb-true, eq-eqb, and_parts}
 use Rattle.std.proofs.lemmas.Bool.Decides.{nat_tests}
 use Rattle.std.proofs.lemmas.List.{reverse-append, take_more, take_all}
-use Rattle.std.proofs.lemmas.List.Folds.{list_any-append}
+use Rattle.std.proofs.lemmas.List.Folds.{list_any-append, find-append}
 use Rattle.std.proofs.lemmas.Option.{slice_get-get_or}
 use mir.Val.{bool_byte}
 use Rattle.pv_page.specs.Names.{Name}
@@ -16,21 +17,19 @@ use Rattle.pv_network.specs.Edits.{same_name, puts, is_by, frame_at, frame_count
 
 -- ---- names
 
-both_true : (a b : Bool) → (a && b) ≡ true → (a ≡ true) × (b ≡ true)
-both_true true b is = (refl, is)
-both_true false b is = absurd cc
-
 -- names that the test finds alike are one
 pub equal_names : (a b : Name) → same_name a b ≡ true → a ≡ b
 equal_names a b is =
-    let both = both_true (eqb a.page b.page) (eqb a.letter b.letter) is in
+    let both = and_parts (eqb a.page b.page) (eqb a.letter b.letter) is in
     let pages : a.page ≡ b.page = eqb-true a.page b.page both.0 in
     let letters : a.letter ≡ b.letter = eqb-true a.letter b.letter both.1 in
     λ i. record { page = pages i; letter = letters i }
 
+-- which of two numbers comes first does not matter to the test of whether they are one
 eqb_comm : (m n : ℕ) → eqb m n ≡ eqb n m
 eqb_comm m n = grind (arith, nat_tests)
 
+-- nor does it for two names
 is_name_comm : (a b : Name) → same_name a b ≡ same_name b a
 is_name_comm a b = ap (λ (t : Bool). t && eqb a.letter b.letter) (eqb_comm a.page b.page) ∙ ap (λ (t : Bool). eqb b.page a.page && t) (eqb_comm a.letter b.letter)
 
@@ -38,12 +37,11 @@ is_name_comm a b = ap (λ (t : Bool). t && eqb a.letter b.letter) (eqb_comm a.pa
 
 -- nothing is found in two parts where nothing is found in either
 none-append : (p : Record → Bool) (xs ys : List Record) → is_none (find p (xs ++ ys)) ≡ (is_none (find p xs) && is_none (find p ys))
-none-append p [] ys = refl
-none-append p (x ∷ xs) ys = first (p x) (none-append p xs ys)
+none-append p xs ys = ap (λ (o : Option Record). is_none o) (find-append p xs ys) ∙ either (find p xs)
   where
-    first : (b : Bool) → is_none (find p (xs ++ ys)) ≡ (is_none (find p xs) && is_none (find p ys)) → is_none (cond b (Some x) (find p (xs ++ ys))) ≡ (is_none (cond b (Some x) (find p xs)) && is_none (find p ys))
-    first true rest = refl
-    first false rest = rest
+    either : (o : Option Record) → is_none (option_or o (find p ys)) ≡ (is_none o && is_none (find p ys))
+    either None = refl
+    either (Some x) = refl
 
 -- nothing is found from the end where no element passes
 none-reverse : (p : Record → Bool) (xs : List Record) → is_none (find p (reverse xs)) ≡ not (list_any p xs)
@@ -80,10 +78,7 @@ arranged false true false count agree = omega arith
 arranged false false true count agree = omega arith
 arranged false false false count agree = omega arith
 
-or-false : (b : Bool) → (b || false) ≡ b
-or-false true = refl
-or-false false = refl
-
+-- a record more is a frame more, unless its name had one
 pub frame_count-push : (edits : List Record) (edit : Record) → frame_count (edits ++ edit ∷ []) ≡ frame_count edits + cond (list_any (puts edit.name) edits) 0 1
 frame_count-push [] edit = refl
 frame_count-push (x ∷ edits) edit =

@@ -1,17 +1,12 @@
--- The last record of a name is found by going through the names from their end.
-use Rattle.std.proofs.Common.{◌≡◌, ℕ, zero, suc, ◌+◌, ◌<◌, Bool, true, false, cond, List, [], ◌∷◌, ◌++◌, length, get_or, take, Some, refl, sym, ap, ◌∙◌, arith}
-use Rattle.std.specs.Prelude.{find, map}
-use Rattle.std.proofs.lemmas.List.{take_more, reverse-append, get_or-map, length-map}
+-- The last record of a name stands where the name stands last.
+use Rattle.std.proofs.Common.{◌≡◌, ℕ, zero, suc, ◌<◌, Bool, true, false, cond, List, [], ◌∷◌, length, get_or, Option, Some, None, refl, sym, ap, ◌∙◌, arith}
+use Rattle.std.specs.Prelude.{find, map, reverse}
+use Rattle.std.specs.Option.{option_or}
+use Rattle.std.proofs.lemmas.List.{reverse-append, get_or-map, length-map}
+use Rattle.std.proofs.lemmas.List.Folds.{find-append}
 use Rattle.pv_page.specs.Names.{Name}
 use Rattle.pv_network.specs.declared.record.Record.{Record}
 use Rattle.pv_network.specs.Edits.{same_name, puts, edit_at}
-
--- one record more in front of the end
-step : (records : List Record) (place at : ℕ) (edit : Record) (name : Name) → place ≡ at + 1 → at < length records → edit ≡ get_or records at edit → edit_at (take place records) name ≡ cond (puts name edit) (Some edit) (edit_at (take at records) name)
-step records place at edit name next within is =
-    ap (λ n. edit_at (take n records) name) next
-    ∙ ap (λ l. edit_at l name) (take_more records at edit within ∙ ap (λ e. take at records ++ e ∷ []) (sym is))
-    ∙ ap (λ l. find (puts name) l) (reverse-append (take at records) (edit ∷ []))
 
 -- a list that has a place has an element there
 pub element : {X : Type 0} (xs : List X) (i : ℕ) → i < length xs → (x : X) × (x ≡ get_or xs i x)
@@ -19,25 +14,52 @@ element [] i within = let none : ⊥ = omega arith in absurd none
 element (x ∷ xs) zero within = (x, refl)
 element (x ∷ xs) (suc i) within = let later = element xs i (omega arith) in (later.0, later.1)
 
-module _ (records : List Record) (names : List Name) (are : names ≡ map (λ edit. edit.name) records) (name : Name) (place at : ℕ) (next : place ≡ at + 1) (there : at < length names) where
-  within : at < length records
-  within = omega (arith, ap length are, length-map records (λ (edit : Record). edit.name), there)
+module _ {X : Type 0} (p : X → Bool) where
+  -- a search from the end comes to the first element last
+  first_last : (x : X) (xs : List X) → find p (reverse (x ∷ xs)) ≡ option_or (find p (reverse xs)) (cond (p x) (Some x) None)
+  first_last x xs = ap (find p) (reverse-append (x ∷ []) xs) ∙ find-append p (reverse xs) (x ∷ [])
 
-  -- the name at a place is the record's
-  name_of : (other : Name) (edit : Record) → other ≡ get_or names at other → edit ≡ get_or records at edit → other ≡ edit.name
-  name_of other edit named is =
-      named ∙ ap (λ l. get_or l at other) are ∙ get_or-map (λ (edit : Record). edit.name) records at edit other within ∙ ap (λ (e : Record). e.name) (sym is)
+  -- where no element passes, none is found from the end
+  none_from_end : (xs : List X) → ((k : ℕ) (d : X) → k < length xs → p (get_or xs k d) ≡ false) → find p (reverse xs) ≡ None
+  none_from_end [] fails = refl
+  none_from_end (x ∷ xs) fails =
+      first_last x xs
+      ∙ ap (λ (o : Option X). option_or o (cond (p x) (Some x) None)) (none_from_end xs (λ k d within. fails (suc k) d (omega arith)))
+      ∙ ap (λ (t : Bool). cond t (Some x) None) (fails 0 x (omega arith))
 
-  -- the record is the last of its name up to there
-  pub found_there : (other : Name) (edit : Record) → other ≡ get_or names at other → edit ≡ get_or records at edit → same_name other name ≡ true → edit_at (take place records) name ≡ Some edit
-  found_there other edit named is same =
-      step records place at edit name next within is
-      ∙ ap (λ (t : Bool). cond t (Some edit) (edit_at (take at records) name)) (ap (λ (n : Name). same_name n name) (sym (name_of other edit named is)) ∙ same)
+  -- an element that passes is found from the end where none behind it passes
+  last_from_end : (xs : List X) (i : ℕ) (x : X) → i < length xs → x ≡ get_or xs i x → p x ≡ true → ((k : ℕ) (d : X) → i < k → k < length xs → p (get_or xs k d) ≡ false) → find p (reverse xs) ≡ Some x
+  last_from_end [] i x within is passes behind = let none : ⊥ = omega arith in absurd none
+  last_from_end (y ∷ xs) zero x within is passes behind =
+      first_last y xs
+      ∙ ap (λ (o : Option X). option_or o (cond (p y) (Some y) None)) (none_from_end xs (λ k d within. behind (suc k) d (omega arith) (omega arith)))
+      ∙ ap (λ (e : X). cond (p e) (Some e) None) (sym is) ∙ ap (λ (t : Bool). cond t (Some x) None) passes
+  last_from_end (y ∷ xs) (suc i) x within is passes behind =
+      first_last y xs
+      ∙ ap (λ (o : Option X). option_or o (cond (p y) (Some y) None)) (last_from_end xs i x (omega arith) is passes (λ k d below within. behind (suc k) d (omega arith) (omega arith)))
 
-  -- it is of another name
-  pub passed : (other : Name) → other ≡ get_or names at other → same_name other name ≡ false → edit_at (take place records) name ≡ edit_at (take at records) name
-  passed other named different =
-      let here = element records at within in
-      let edit = here.0 in
-      step records place at edit name next within here.1
-      ∙ ap (λ (t : Bool). cond t (Some edit) (edit_at (take at records) name)) (ap (λ (n : Name). same_name n name) (sym (name_of other edit named here.1)) ∙ different)
+module _ (records : List Record) (names : List Name) (are : names ≡ map (λ edit. edit.name) records) (name : Name) where
+  -- there are as many names as records
+  same_count : length names ≡ length records
+  same_count = ap length are ∙ length-map records (λ (edit : Record). edit.name)
+
+  -- the name at a place is that of the record there
+  name_at : (k : ℕ) (d : Record) → k < length records → get_or names k name ≡ (get_or records k d).name
+  name_at k d within = ap (λ (l : List Name). get_or l k name) are ∙ get_or-map (λ (edit : Record). edit.name) records k d name within
+
+  -- a record is of another name where the name beside it is another
+  other_at : (k : ℕ) (d : Record) → k < length records → same_name (get_or names k name) name ≡ false → puts name (get_or records k d) ≡ false
+  other_at k d within other = ap (λ (n : Name). same_name n name) (sym (name_at k d within)) ∙ other
+
+  -- the record at the last place of a name is the last record of the name
+  pub edit_at-last : (place : ℕ) (edit : Record) → place < length names → edit ≡ get_or records place edit → same_name (get_or names place name) name ≡ true
+      → ((k : ℕ) → place < k → k < length names → same_name (get_or names k name) name ≡ false) → edit_at records name ≡ Some edit
+  edit_at-last place edit within is same behind =
+      let here : place < length records = omega (arith, same_count) in
+      let named : puts name edit ≡ true = ap (λ (n : Name). same_name n name) (ap (λ (e : Record). e.name) is ∙ sym (name_at place edit here)) ∙ same in
+      last_from_end (puts name) records place edit here is named (λ k d below inside. other_at k d inside (behind k below (omega (arith, same_count))))
+
+  -- a name that stands nowhere has no record
+  pub edit_at-none : ((k : ℕ) → k < length names → same_name (get_or names k name) name ≡ false) → edit_at records name ≡ None
+  edit_at-none nowhere =
+      none_from_end (puts name) records (λ k d inside. other_at k d inside (nowhere k (omega (arith, same_count))))

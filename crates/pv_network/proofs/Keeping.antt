@@ -21,6 +21,7 @@ module _ (w : World) where
   pub kept_with : (c : ℕ) (centre : Centre) → kept_of (with_centre w c centre) ≡ record (kept_of w) { centres = set (kept_of w).centres c (kept_centre w.edits w.record_limit centre) }
   kept_with c centre = ap (λ (centres : List Kept). record (kept_of w) { centres = centres }) (map-set (kept_centre w.edits w.record_limit) w.centres c centre)
 
+-- as many packets are kept of some centres as were made for them and by them
 packets_in : (edits : List Record) (limit : ℕ) (centres : List Centre) → sum_by packets_of (map (kept_centre edits limit) centres) ≡ sum_by (λ centre. length centre.down + length centre.up) centres
 packets_in edits limit [] = refl
 packets_in edits limit (centre ∷ centres) =
@@ -32,6 +33,7 @@ packets_in edits limit (centre ∷ centres) =
 pub packets_kept : (w : World) → sum_by packets_of (kept_of w).centres ≡ packet_count w
 packets_kept w = packets_in w.edits w.record_limit w.centres
 
+-- of new centres, what is kept is that nothing has reached them
 new_kept : (limit n : ℕ) → replicate n (kept_centre [] limit new_centre) ≡ map (kept_centre [] limit) (replicate n new_centre)
 new_kept limit zero = refl
 new_kept limit (suc n) = ap (λ (l : List Kept). kept_centre [] limit new_centre ∷ l) (new_kept limit n)

@@ -1,8 +1,8 @@
 pub mod Counts
 pub mod Finding
-pub mod Framing
 pub mod Keeping
 pub mod Lists
+pub mod Meaning
 pub mod Performing
 pub mod Pushes
 pub mod Seeding

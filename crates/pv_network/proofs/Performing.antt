@@ -1,9 +1,9 @@
 -- What the network does centre by centre is what happens to each world that it stands for.
-use Rattle.std.proofs.Common.{◌≡◌, ℕ, ◌+◌, ◌<◌, ◌≤◌, Bool, true, false, cond, ◌&&◌, leb, ltb, List, [], ◌∷◌, ◌++◌, length, get_or, set, take, Some, None, refl, sym, ap, subst, ◌∙◌, arith}
+use Rattle.std.proofs.Common.{◌≡◌, ℕ, ◌+◌, ◌<◌, false, List, [], ◌∷◌, ◌++◌, length, get_or, set, take, Some, refl, sym, ap, subst, ◌∙◌, arith}
 use Rattle.std.specs.Prelude.{slice_get}
 use Rattle.std.specs.List.{sum_by}
-use Rattle.std.proofs.lemmas.Bool.{le-leb, lt-leb, leb-false, ltb-true}
-use Rattle.std.proofs.lemmas.List.{take_more, length-take-le, length-set, get_or_read}
+use Rattle.std.proofs.lemmas.Bool.{lt-leb}
+use Rattle.std.proofs.lemmas.List.{take_more, length-take-le, get_or_read}
 use Rattle.std.proofs.lemmas.List.Sums.{sum_by-set}
 use Rattle.std.proofs.lemmas.Option.{slice_get_within, slice_get-get_or, get_or_from_slice_get}
 use Rattle.pv_network.specs.declared.centre.Arrival.{Arrival}
@@ -13,7 +13,7 @@ use Rattle.pv_network.specs.declared.outcome.Outcome.TheVariants.{SentRecord}
 use Rattle.pv_network.specs.declared.packet.Packet.{Packet}
 use Rattle.pv_network.specs.declared.packet.TheConstants.{MAX_PACKETS}
 use Rattle.pv_network.specs.declared.record.Record.{Record}
-use Rattle.pv_network.specs.World.{World, Centre, End, centre_at, with_centre, packet_count}
+use Rattle.pv_network.specs.World.{World, Centre, centre_at, with_centre, packet_count}
 use Rattle.pv_network.specs.Step.{is_packets_full, with_packet, sent, next_number, with_acknowledgement, with_taken, arrival_of, arrived, delivered}
 use Rattle.pv_network.specs.Sound.{IsSound, IsGenuine}
 use Rattle.pv_network.specs.Standing.{Kept, State, kept_centre, kept_of, kept_at, nothing_kept, packets_of, with_down, with_up, with_held, StandsFor, Performs}
@@ -26,15 +26,13 @@ use Rattle.pv_network.proofs.Lists.{all_get}
 abbrev with_centres : State → List Kept → State
 with_centres s centres = record s { centres = centres }
 
--- no packet more can be made in a world of which so many are kept
-full_packets : (w : World) → MAX_PACKETS ≤ sum_by packets_of (kept_of w).centres → is_packets_full w ≡ true
-full_packets w full = le-leb MAX_PACKETS (packet_count w) (omega (arith, packets_kept w))
-
+-- one packet more can be made in a world of which fewer are kept than may be
 room_for_packets : (w : World) → sum_by packets_of (kept_of w).centres < MAX_PACKETS → is_packets_full w ≡ false
 room_for_packets w room = lt-leb MAX_PACKETS (packet_count w) (omega (arith, packets_kept w))
 
--- one centre is another: what is kept changes there
+-- one centre of a world is another, of which what is kept is a change of what was kept
 module _ (w : World) (c : ℕ) (there : c < length (kept_of w).centres) (centre : Centre) (change : Kept → Kept) (same : kept_centre w.edits w.record_limit centre ≡ change (kept_centre w.edits w.record_limit (centre_at w c))) where
+  -- what is kept of the world is changed there
   pub kept_changed : kept_of (with_centre w c centre) ≡ with_centres (kept_of w) (set (kept_of w).centres c (change (kept_at (kept_of w).centres c)))
   kept_changed = kept_with w c centre ∙ ap (λ (kept : Kept). with_centres (kept_of w) (set (kept_of w).centres c kept)) (same ∙ ap change (sym (centre_kept w c there)))
 
@@ -48,6 +46,7 @@ at_kept s Q holds w stands = subst (λ (t : State). Q t w) (sym stands.same) (ho
 length_held : (w : World) (c : ℕ) → IsSound w → length (take (centre_at w c).number w.edits) ≡ (centre_at w c).number
 length_held w c sound = length-take-le (centre_at w c).number w.edits (sound_at w c sound).within
 
+-- of a centre that acknowledges, one acknowledgement more is kept
 acknowledged_kept : (w : World) (c : ℕ) → IsSound w → c < length (kept_of w).centres → sum_by packets_of (kept_of w).centres < MAX_PACKETS
     → StandsFor (with_centres (kept_of w) (set (kept_of w).centres c (with_up (kept_at (kept_of w).centres c)))) (with_acknowledgement w c).0 × (Some (length (kept_at (kept_of w).centres c).up) ≡ (with_acknowledgement w c).1)
 acknowledged_kept w c sound there room =
@@ -69,6 +68,7 @@ module _ (s : State) (c : ℕ) (there : c < length s.centres) where
 
 -- ---- send
 
+-- of a centre for which a record is packed, one packet more is kept
 sent_kept : (w : World) (c number : ℕ) (edit : Record) → IsSound w → c < length (kept_of w).centres → sum_by packets_of (kept_of w).centres < MAX_PACKETS
     → next_number (kept_at (kept_of w).centres c).sending (length w.edits) ≡ Some number → slice_get w.edits number ≡ Some edit
     → StandsFor (with_centres (kept_of w) (set (kept_of w).centres c (with_down (kept_at (kept_of w).centres c) number edit))) (sent w c).0 × (SentRecord (length (kept_at (kept_of w).centres c).down) number ≡ (sent w c).1)
@@ -91,18 +91,6 @@ module _ (s : State) (c : ℕ) (there : c < length s.centres) where
       → StandsFor (with_centres t (set t.centres c (with_down (kept_at t.centres c) number edit))) (sent v c).0 × (SentRecord (length (kept_at t.centres c).down) number ≡ (sent v c).1) in
       rw (index-is, centres-is) (at_kept s Q (λ v sound. sent_kept v c number edit sound) w stands there room next found)
 
--- the number that is sent next is below the front
-pub next_below : (end : End) (front number : ℕ) → next_number end front ≡ Some number → number < front
-next_below end front number next =
-    go (leb front end.acknowledged) (leb end.acknowledged end.next) (ltb end.next front) (leb-false front end.acknowledged) (ltb-true end.next front) next
-  where
-    go : (done reached within : Bool) → (done ≡ false → end.acknowledged < front) → (within ≡ true → end.next < front)
-        → cond done None (Some (cond (reached && within) end.next end.acknowledged)) ≡ Some number → number < front
-    go true reached within some less is = absurd cc
-    go false true true some less is = let e : end.next ≡ number = cc in omega (arith, e, less refl)
-    go false true false some less is = let e : end.acknowledged ≡ number = cc in omega (arith, e, some refl)
-    go false false within some less is = let e : end.acknowledged ≡ number = cc in omega (arith, e, some refl)
-
 -- ---- deliver
 
 -- the packet that is kept at an index, and what the centre makes of it, are the world's
@@ -115,6 +103,7 @@ arrives_kept w c index packet arrival sound there found how =
       ap (λ (n : ℕ). arrival_of n w.record_limit packet.number) (sym (length_held w c sound)) ∙ ap (λ (k : Kept). arrival_of (length k.held) k.room packet.number) (sym kept) ∙ how,
     )
 
+-- of a centre that takes the next record, that record is kept behind the others
 taken_kept : (w : World) (c index : ℕ) (packet : Packet) → IsSound w → c < length (kept_of w).centres → slice_get (kept_at (kept_of w).centres c).down index ≡ Some packet
     → arrival_of (length (kept_at (kept_of w).centres c).held) (kept_at (kept_of w).centres c).room packet.number ≡ arrivals.Taken
     → StandsFor (with_centres (kept_of w) (set (kept_of w).centres c (with_held (kept_at (kept_of w).centres c) packet.edit))) (with_taken w c)
@@ -161,7 +150,7 @@ counts s c there w stands =
     let Q : State → World → Type 0 = λ t v. c < length t.centres → length (kept_at t.centres c).held ≡ (centre_at v c).number in
     at_kept s Q (λ v sound there. ap (λ (k : Kept). length k.held) (centre_kept v c there) ∙ length_held v c sound) w stands there
 
--- a centre that takes the record of a packet has as many packets as before
+-- a centre takes the record of a packet
 module _ (centres new : List Kept) (c index : ℕ) (there : c < length centres) (made : index < length (kept_at centres c).down)
     (taken : (packet : Packet) → slice_get (kept_at centres c).down index ≡ Some packet → new ≡ set centres c (with_held (kept_at centres c) packet.edit)) where
   -- what it is then
@@ -170,10 +159,8 @@ module _ (centres new : List Kept) (c index : ℕ) (there : c < length centres) 
       let here = element (kept_at centres c).down index made in
       (here.0, taken here.0 (slice_get-get_or (kept_at centres c).down index here.0 made ∙ ap Some (sym here.1)))
 
+  -- there are as many packets as before
   pub same_packets : sum_by packets_of new ≡ sum_by packets_of centres
   same_packets =
       let held = with_held (kept_at centres c) taken_there.0.edit in
       omega (arith, ap (sum_by packets_of) taken_there.1, sum_by-set packets_of centres c held nothing_kept there)
-
-  pub same_count : length new ≡ length centres
-  same_count = ap length taken_there.1 ∙ length-set centres c (with_held (kept_at centres c) taken_there.0.edit)

@@ -27,6 +27,7 @@ module _ (len k : ℕ) (bytes more : List ℕ) (zeroed : IsZeroed len bytes) (ma
   same_length : length (put_mid len k bytes more) ≡ ROOM
   same_length = simp (length-append, length-take, length-drop) (omega (arith, zeroed.whole, zeroed.within, many, room))
 
+  -- zeros stand behind the longer text
   pub zeroed_more : IsZeroed (len + k) (put_mid len k bytes more)
   zeroed_more = record { within = room; whole = same_length; zeros = zeros_behind }
 

@@ -7,8 +7,7 @@ use Rattle.std.proofs.lemmas.List.{length-append, take-append-le}
 use Rattle.std.proofs.Math.Seq.{take-append_seam}
 use Rattle.std.proofs.lemmas.Option.{slice_get_within}
 use Rattle.pv_page.specs.Names.{Name}
-use Rattle.pv_frame.specs.Content.{Content}
-use Rattle.pv_frame.specs.Sound.{IsSound as HasMeaning}
+use Rattle.pv_frame.specs.Content.{Content, frame_of_row}
 use Rattle.pv_network.specs.declared.centre.Arrival.{Arrival}
 use Rattle.pv_network.specs.declared.centre.Arrival.TheVariants as arrivals
 use Rattle.pv_network.specs.declared.event.Event.{Event}
@@ -17,26 +16,26 @@ use Rattle.pv_network.specs.declared.packet.Packet.{Packet}
 use Rattle.pv_network.specs.declared.record.Record.{Record}
 use Rattle.pv_network.specs.declared.record.TheConstants.{OPERATOR}
 use Rattle.pv_network.specs.Edits.{puts, frame_at, frame_count, IsNumbered}
-use Rattle.pv_network.specs.Frames.{frame_of_row}
 use Rattle.pv_network.specs.World.{World, Centre, Acknowledged, new_centre, start, centre_at, with_centre}
 use Rattle.pv_network.specs.Step.{is_packets_full, next_edit, with_edit, is_frames_full, seeded, next_number, with_packet, packed, sent_number, sent, arrival_of, with_acknowledgement, with_taken, arrived, delivered_packet, delivered, happens, after}
 use Rattle.pv_network.specs.OneList.{IsKept, receipt, receipts_from, OneList}
-use Rattle.pv_network.specs.Run.{MayFollow, IsRun, PutsCells}
+use Rattle.pv_network.specs.Run.{MayFollow, IsRun}
 use Rattle.pv_network.specs.Sound.{IsGenuine, IsSoundCentre, IsSound}
 use Rattle.pv_network.proofs.Counts.{none-frame_at, frame_count-push, last_number-run}
-use Rattle.pv_network.proofs.Framing.{IsSound-frame_of_row}
 use Rattle.pv_network.proofs.Lists.{all_push, all_set, all_at, all_get, all_weaken, get_front, get_push, get_last}
 
--- what a test chooses is sound where each side is
-choice : {A : Type 0} (b : Bool) (x y : World × A) → (b ≡ true → IsSound x.0) → (b ≡ false → IsSound y.0) → IsSound (cond b x y).0
-choice true x y here there = here refl
-choice false x y here there = there refl
+-- what holds of the world on each side of a test holds of the one that it chooses
+pub choice : {A : Type 0} (P : World → Type 0) (b : Bool) (x y : World × A) → (b ≡ true → P x.0) → (b ≡ false → P y.0) → P (cond b x y).0
+choice P true x y here there = here refl
+choice P false x y here there = there refl
 
 -- ---- a centre
 
+-- a centre that nothing has reached is sound beside any list
 sound_new : (edits : List Record) → IsSoundCentre edits new_centre
 sound_new edits = record { within = omega arith; packets = tt; acknowledged = tt; heard = omega arith }
 
+-- each centre of a sound world is sound, and past the last so is a new one
 pub sound_at : (w : World) (c : ℕ) → IsSound w → IsSoundCentre w.edits (centre_at w c)
 sound_at w c sound = all_at (IsSoundCentre w.edits) w.centres c new_centre sound.centres (sound_new w.edits)
 
@@ -58,9 +57,11 @@ sound_with w c centre sound here = record {
 kept_longer : (edits more : List Record) (a : Acknowledged) → IsKept edits a → IsKept (edits ++ more) a
 kept_longer edits more a kept = (kept.0, get_front edits more a.place kept.0 kept.1, kept.2, kept.3)
 
+-- a packet that carries a record of the list does so as the list grows
 genuine_longer : (edits more : List Record) (packet : Packet) → IsGenuine edits packet → IsGenuine (edits ++ more) packet
 genuine_longer edits more packet is = get_front edits more packet.number packet.edit is
 
+-- a centre stays sound as the list grows
 centre_longer : (edits more : List Record) (centre : Centre) → IsSoundCentre edits centre → IsSoundCentre (edits ++ more) centre
 centre_longer edits more centre sound = record {
   within = omega (arith, sound.within, length-append edits more);
@@ -69,6 +70,7 @@ centre_longer edits more centre sound = record {
   heard = sound.heard;
 }
 
+-- a list stays numbered with the operator's next record behind it
 numbered_push : (edits : List Record) (edit : Record) → IsNumbered edits → edit.editor ≡ OPERATOR → edit.number ≡ length edits + 1 → IsNumbered (edits ++ edit ∷ [])
 numbered_push edits edit run editor number place found is =
     elim (get_push edits edit place found is) [
@@ -110,15 +112,15 @@ receipts-push place [] edit = ap (λ (n : ℕ). receipt edit n ∷ []) (omega ar
 receipts-push place (first ∷ later) edit =
     ap (λ (l : List Acknowledged). receipt first place ∷ l) (receipts-push (place + 1) later edit ∙ ap (λ (n : ℕ). receipts_from (place + 1) later ++ receipt edit n ∷ []) (omega arith))
 
-sound_edit : (w : World) (name : Name) (frame : Content) → HasMeaning frame → IsSound w → is_frames_full w name ≡ false → leb w.record_limit (length w.edits) ≡ false → IsSound (with_edit w (next_edit w name frame))
-sound_edit w name frame meaning sound frames records =
+-- the world stays sound with a record for which there is room
+sound_edit : (w : World) (name : Name) (frame : Content) → IsSound w → is_frames_full w name ≡ false → leb w.record_limit (length w.edits) ≡ false → IsSound (with_edit w (next_edit w name frame))
+sound_edit w name frame sound frames records =
     let edit = next_edit w name frame in
     let number : edit.number ≡ length w.edits + 1 = ap (λ (n : ℕ). n + 1) (last_number-run w.edits sound.numbered) in
     record {
       run = run_push w.frame_limit w.record_limit w.edits edit sound.run (record {
         editor = refl;
         number = refl;
-        meaning = meaning;
         frame_room = room_for w.edits name w.frame_limit frames;
         record_room = leb-false w.record_limit (length w.edits) records;
       });
@@ -133,13 +135,15 @@ sound_edit w name frame meaning sound frames records =
       centres = all_weaken (IsSoundCentre w.edits) (IsSoundCentre (w.edits ++ edit ∷ [])) (centre_longer w.edits (edit ∷ [])) w.centres sound.centres;
     }
 
-pub sound_seeded : (w : World) (name : Name) (frame : Content) → HasMeaning frame → IsSound w → IsSound (seeded w name frame).0
-sound_seeded w name frame meaning sound =
-    choice (is_frames_full w name) _ _ (λ _. sound) (λ frames.
-    choice (leb w.record_limit (length w.edits)) _ _ (λ _. sound) (λ records. sound_edit w name frame meaning sound frames records))
+-- it stays sound where a frame is put, or refused
+pub sound_seeded : (w : World) (name : Name) (frame : Content) → IsSound w → IsSound (seeded w name frame).0
+sound_seeded w name frame sound =
+    choice IsSound (is_frames_full w name) _ _ (λ _. sound) (λ frames.
+    choice IsSound (leb w.record_limit (length w.edits)) _ _ (λ _. sound) (λ records. sound_edit w name frame sound frames records))
 
 -- ---- send
 
+-- it stays sound with a packet that carries the list's record of its number
 sound_packet : (w : World) (c number : ℕ) (edit : Record) → IsSound w → slice_get w.edits number ≡ Some edit → IsSound (with_centre w c (with_packet (centre_at w c) number edit))
 sound_packet w c number edit sound is =
     let here = sound_at w c sound in
@@ -150,8 +154,9 @@ sound_packet w c number edit sound is =
       heard = here.heard;
     })
 
+-- it stays sound where the next record is packed, or there is none to pack
 pub sound_sent : (w : World) (c : ℕ) → IsSound w → IsSound (sent w c).0
-sound_sent w c sound = choice (is_packets_full w) _ _ (λ _. sound) (λ _. numbered (next_number (centre_at w c).sending (length w.edits)))
+sound_sent w c sound = choice IsSound (is_packets_full w) _ _ (λ _. sound) (λ _. numbered (next_number (centre_at w c).sending (length w.edits)))
   where
     pack : (number : ℕ) (found : Option Record) → slice_get w.edits number ≡ found → IsSound (packed w c number found).0
     pack number None is = sound
@@ -163,10 +168,11 @@ sound_sent w c sound = choice (is_packets_full w) _ _ (λ _. sound) (λ _. numbe
 
 -- ---- deliver
 
+-- it stays sound where a centre acknowledges what it has taken
 pub sound_acknowledged : (w : World) (c : ℕ) → IsSound w → IsSound (with_acknowledgement w c).0
 sound_acknowledged w c sound =
     let here = sound_at w c sound in
-    choice (is_packets_full w) _ _ (λ _. sound) (λ _. sound_with w c _ sound (record {
+    choice IsSound (is_packets_full w) _ _ (λ _. sound) (λ _. sound_with w c _ sound (record {
       within = here.within;
       packets = here.packets;
       acknowledged = all_push (λ n. n ≤ (centre_at w c).number) (centre_at w c).up (centre_at w c).number here.acknowledged (omega arith);
@@ -194,6 +200,7 @@ taken_is_next taken limit number is = next (eqb number taken) (leb limit taken) 
     next false full true equal room is = absurd cc
     next false full false equal room is = absurd cc
 
+-- it stays sound whatever packet arrives
 pub sound_delivered : (w : World) (c index : ℕ) → IsSound w → IsSound (delivered w c index).0
 sound_delivered w c index sound = arrives (slice_get (centre_at w c).down index) refl
   where
@@ -209,15 +216,17 @@ sound_delivered w c index sound = arrives (slice_get (centre_at w c).down index)
 
 -- ---- all
 
-pub sound_happens : (w : World) (event : Event) → PutsCells event → IsSound w → IsSound (happens w event).0
-sound_happens w (Seed name row) cells sound = sound_seeded w name (frame_of_row row) (IsSound-frame_of_row row cells) sound
-sound_happens w (Send centre) cells sound = sound_sent w centre sound
-sound_happens w (Deliver centre index) cells sound = sound_delivered w centre index sound
-sound_happens w (View centre name) cells sound = sound
+-- a sound world stays sound whatever event happens
+pub sound_happens : (w : World) (event : Event) → IsSound w → IsSound (happens w event).0
+sound_happens w (Seed name row) sound = sound_seeded w name (frame_of_row row) sound
+sound_happens w (Send centre) sound = sound_sent w centre sound
+sound_happens w (Deliver centre index) sound = sound_delivered w centre index sound
+sound_happens w (View centre name) sound = sound
 
-pub sound_after : (w : World) (events : List Event) → AllByRecursion PutsCells events → IsSound w → IsSound (after w events)
-sound_after w [] cells sound = sound
-sound_after w (event ∷ events) cells sound = sound_after (happens w event).0 events cells.1 (sound_happens w event cells.0 sound)
+-- and however many of them
+pub sound_after : (w : World) (events : List Event) → IsSound w → IsSound (after w events)
+sound_after w [] sound = sound
+sound_after w (event ∷ events) sound = sound_after (happens w event).0 events (sound_happens w event sound)
 
 -- the start is sound
 pub sound_start : (centres frames records : ℕ) → IsSound (start centres frames records)

@@ -1,6 +1,5 @@
 pub mod Counting
 pub mod Edits
-pub mod Frames
 pub mod Listing
 pub mod OneList
 pub mod Replies

@@ -19,9 +19,9 @@ abbrev pub receipts_from : ℕ → List Record → List Acknowledged
 receipts_from place [] = []
 receipts_from place (edit ∷ later) = receipt edit place ∷ receipts_from (place + 1) later
 
--- The edit list is a run from nothing within the limits, each editor's records are numbered in order from 1, each
--- acknowledged edit stands at the place that was told, every record was acknowledged once and in order, and each centre
--- has taken a front of the list.
+-- The edit list is a run from nothing within the limits, its records are the operator's and numbered in order from 1,
+-- each acknowledged edit stands at the place that was told, every record was acknowledged once and in order, and each
+-- centre has taken a front of the list.
 pub record OneList (w : World) : Type 0 where
   pub run : IsRun w.frame_limit w.record_limit w.edits
   pub numbered : IsNumbered w.edits

@@ -1,5 +1,7 @@
--- The edit list as a run from nothing: each record is one that could be stored behind those before it.
+-- The edit list as a run from nothing: each record is one that could be stored behind those before it. Beside it stands
+-- which events put cells, and which lists have frames with a meaning alone.
 use Rattle.std.specs.Prelude.{◌≡◌, ℕ, ◌+◌, ◌<◌, List, length, take, Some, None, slice_get}
+use Rattle.std.specs.List.{AllByRecursion}
 use Rattle.pv_frame.specs.Sound.{IsSound}
 use Rattle.pv_screen.specs.Grid.{IsRow}
 use Rattle.pv_network.specs.declared.event.Event.{Event}
@@ -8,12 +10,11 @@ use Rattle.pv_network.specs.declared.record.Record.{Record}
 use Rattle.pv_network.specs.declared.record.TheConstants.{OPERATOR}
 use Rattle.pv_network.specs.Edits.{frame_at, frame_count, last_number}
 
--- The record may be stored behind these, where there may be so many frames and so many records: it has the operator's
--- next number, its frame has a meaning, its name has a frame or there is room for one more, and so is there for a record.
+-- The record may be stored behind these, where there may be so many frames and so many records: it is the operator's,
+-- under his next number; its name has a frame, or there is room for one more; and there is room for one record more.
 pub record MayFollow (frames records : ℕ) (before : List Record) (edit : Record) : Type 0 where
   pub editor : edit.editor ≡ OPERATOR
   pub number : edit.number ≡ last_number before OPERATOR + 1
-  pub meaning : IsSound edit.frame
   pub frame_room : frame_at before edit.name ≡ None → frame_count before < frames
   pub record_room : length before < records
 
@@ -27,3 +28,7 @@ PutsCells (Seed name row) = IsRow row
 PutsCells (Send centre) = Unit {0}
 PutsCells (Deliver centre index) = Unit {0}
 PutsCells (View centre name) = Unit {0}
+
+-- each frame of the list has a meaning
+abbrev pub HaveMeaning : List Record → Type 0
+HaveMeaning edits = AllByRecursion (λ edit. IsSound edit.frame) edits

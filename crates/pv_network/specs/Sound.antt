@@ -20,8 +20,8 @@ pub record IsSoundCentre (edits : List Record) (centre : Centre) : Type 0 where
   pub acknowledged : AllByRecursion (λ n. n ≤ centre.number) centre.up
   pub heard : centre.sending.acknowledged ≤ centre.number
 
--- The edit list is a run from nothing within the limits, each place that was acknowledged holds that edit, each record
--- was acknowledged once and in order, and each centre has a front of the list.
+-- The edit list is a run from nothing, numbered in order and within the limits, each place that was acknowledged holds
+-- that edit, each record was acknowledged once and in order, and each centre has a front of the list.
 pub record IsSound (w : World) : Type 0 where
   pub run : IsRun w.frame_limit w.record_limit w.edits
   pub numbered : IsNumbered w.edits

@@ -2,7 +2,6 @@
 use Rattle.std.specs.Prelude.{◌≡◌, ℕ, ◌+◌, ◌<◌, Bool, ◌&&◌, nat_le, if◌then◌else◌, Option, Some, None, List, [], ◌∷◌, ◌++◌, length, take, map, slice_index_or}
 use Rattle.pv_page.specs.Names.{Name}
 use Rattle.pv_frame.specs.Content.{Content}
-use Rattle.pv_screen.specs.Grid.{IsRow}
 use Rattle.pv_network.specs.declared.event.Event.{Event}
 use Rattle.pv_network.specs.declared.event.Event.TheVariants.{Seed, Send, Deliver, View}
 use Rattle.pv_network.specs.declared.packet.Packet.{Packet}
@@ -11,6 +10,7 @@ use Rattle.pv_network.specs.declared.record.TheConstants.{OPERATOR}
 use Rattle.pv_network.specs.Edits.{frame_count}
 use Rattle.pv_network.specs.Replies.{frames_full_reply, full_reply}
 use Rattle.pv_network.specs.World.{World, Centre, End, new_centre}
+use Rattle.pv_network.specs.Run.{PutsCells}
 use Rattle.pv_network.specs.Sound.{IsSound}
 
 -- what is kept for a centre: the records that it has taken, the packets both ways, the end that sends, and how many
@@ -58,10 +58,11 @@ pub record StandsFor (s : State) (w : World) : Type 0 where
 abbrev pub Performs : {A : Type 0} → State → State → A → (World → World × A) → Type 0
 Performs old new outcome step = (w : World) → StandsFor old w → StandsFor new (step w).0 × (outcome ≡ (step w).1)
 
--- what is kept of the centre of a number; past the last one there is nothing
+-- what is kept of a centre that is not there: nothing
 abbrev pub nothing_kept : Kept
 nothing_kept = kept_centre [] 0 new_centre
 
+-- what is kept of the centre of a number; past the last one there is nothing
 abbrev pub kept_at : List Kept → ℕ → Kept
 kept_at centres c = slice_index_or centres c nothing_kept
 
@@ -69,9 +70,9 @@ kept_at centres c = slice_index_or centres c nothing_kept
 abbrev pub packets_of : Kept → ℕ
 packets_of kept = length kept.down + length kept.up
 
--- the event names a centre that there is, and a row of cells
+-- the event is at a centre that there is, or puts a row of cells
 abbrev pub CanHappen : State → Event → Type 0
-CanHappen s (Seed name row) = IsRow row
+CanHappen s (Seed name row) = PutsCells (Seed name row)
 CanHappen s (Send centre) = centre < length s.centres
 CanHappen s (Deliver centre index) = centre < length s.centres
 CanHappen s (View centre name) = centre < length s.centres

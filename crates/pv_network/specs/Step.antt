@@ -1,7 +1,7 @@
 -- What one event makes of the world, and the answer to it.
 use Rattle.std.specs.Prelude.{ℕ, ◌+◌, ◌==◌, Bool, ◌&&◌, nat_lt, nat_le, List, [], ◌∷◌, ◌++◌, length, Option, Some, None, is_none, slice_get, if◌then◌else◌}
 use Rattle.pv_page.specs.Names.{Name}
-use Rattle.pv_frame.specs.Content.{Content}
+use Rattle.pv_frame.specs.Content.{Content, frame_of_row}
 use Rattle.pv_screen.specs.Composing.{composed}
 use Rattle.pv_screen.specs.declared.screen.Screen.TheVariants.{Whole}
 use Rattle.pv_network.specs.declared.record.Record.{Record}
@@ -13,7 +13,6 @@ use Rattle.pv_network.specs.declared.event.Event.{Event}
 use Rattle.pv_network.specs.declared.event.Event.TheVariants.{Seed, Send, Deliver, View}
 use Rattle.pv_network.specs.declared.outcome.Outcome.{Outcome}
 use Rattle.pv_network.specs.declared.outcome.Outcome.TheVariants.{Reply, Shown, Idle, PacketsFull, NoPacket, SentRecord, Taken, Old, Early, Full, NotHeld}
-use Rattle.pv_network.specs.Frames.{frame_of_row}
 use Rattle.pv_network.specs.Edits.{frame_at, frame_count, last_number}
 use Rattle.pv_network.specs.Replies.{stored_reply, frames_full_reply, full_reply}
 use Rattle.pv_network.specs.World.{World, Centre, End, centre_at, with_centre, held, packet_count}
@@ -49,6 +48,7 @@ abbrev pub view_answer : Name → Option Content → Outcome
 view_answer name None = NotHeld
 view_answer name (Some frame) = Shown (record { screen = Whole (composed frame name); ended = None })
 
+-- a view leaves the world as it is, and shows what the centre has under the name
 abbrev pub viewed : World → ℕ → Name → World × Outcome
 viewed w c name = (w, view_answer name (frame_at (held w c) name))
 
@@ -64,15 +64,17 @@ next_number end front = if nat_le front end.acknowledged then None
 abbrev pub with_packet : Centre → ℕ → Record → Centre
 with_packet centre number edit = record centre { down = centre.down ++ record { number = number; edit = edit } ∷ []; sending = record { acknowledged = centre.sending.acknowledged; next = number + 1 } }
 
--- sends a record, if there is one to send
+-- the record of a number is packed, if the list has one there
 abbrev pub packed : World → ℕ → ℕ → Option Record → World × Outcome
 packed w c number None = (w, Idle)
 packed w c number (Some edit) = (with_centre w c (with_packet (centre_at w c) number edit), SentRecord (length (centre_at w c).down) number)
 
+-- the record of the number that is sent next is packed, if there is such a number
 abbrev pub sent_number : World → ℕ → Option ℕ → World × Outcome
 sent_number w c None = (w, Idle)
 sent_number w c (Some number) = packed w c number (slice_get w.edits number)
 
+-- the next record is packed for a centre, unless no packet can be made
 abbrev pub sent : World → ℕ → World × Outcome
 sent w c = if is_packets_full w then (w, PacketsFull) else sent_number w c (next_number (centre_at w c).sending (length w.edits))
 
@@ -93,6 +95,8 @@ with_acknowledgement w c = if is_packets_full w then (w, None)
 abbrev pub with_taken : World → ℕ → World
 with_taken w c = with_centre w c (record (centre_at w c) { number = (centre_at w c).number + 1 })
 
+-- The centre takes the record that comes next; it acknowledges that one, and any that is old or early. A full centre
+-- does neither.
 abbrev pub arrived : World → ℕ → ℕ → Arrival → World × Outcome
 arrived w c number arrivals.Taken = let a = with_acknowledgement (with_taken w c) c in (a.0, Taken number a.1)
 arrived w c number arrivals.Old = let a = with_acknowledgement w c in (a.0, Old number a.1)

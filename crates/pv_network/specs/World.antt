@@ -23,6 +23,7 @@ pub record Acknowledged : Type 0 where
   pub number : ℕ
   pub place : ℕ
 
+-- everything there is
 pub record World : Type 0 where
   -- the edit list
   pub edits : List Record

@@ -64,7 +64,8 @@ impl EditList {
     pub(crate) fn last_of(&self, name: FrameName) -> Option<&Record>
         ensures { option_copied result ≡ edit_at self.now.edits name }
     {
-        last_of(&self.records, &self.names, name)
+        let place = self.names.iter().rposition(|other| *other == name)?;
+        Some(&self.records[place])
     }
 
     /// Puts a record behind the others.
@@ -75,19 +76,4 @@ impl EditList {
         self.records.push_reserved(*edit);
         self.names.push_reserved(edit.name);
     }
-}
-
-/// The last record of a name, of records whose names are these.
-fn last_of<'a>(records: &'a [Record], names: &[FrameName], name: FrameName) -> Option<&'a Record>
-    requires { names.now ≡ map (λ edit. edit.name) records.now }
-    ensures { option_copied result ≡ edit_at records.now name }
-{
-    let mut place = names.len();
-    while place > 0 {
-        place -= 1;
-        if names[place] == name {
-            return Some(&records[place]);
-        }
-    }
-    None
 }

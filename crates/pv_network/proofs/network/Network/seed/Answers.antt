@@ -2,11 +2,10 @@ use Rattle.std.proofs.Common.{◌≡◌, Bool, true, false, not, Option, None, S
 use Rattle.std.specs.Prelude.{is_none, is_some, option_copied}
 use Rattle.pv_network.specs.declared.record.Record.{Record}
 use Rattle.pv_network.specs.Edits.{edit_at, frame_at}
-use Rattle.pv_network.specs.Frames.{frame_of_row}
+use Rattle.pv_frame.specs.Content.{frame_of_row}
 use Rattle.pv_network.specs.Replies.{stored_reply}
 use Rattle.pv_network.specs.Standing.{State, refusal_of}
 use Rattle.pv_network.proofs.Counts.{none-option_map}
-use Rattle.pv_network.proofs.Framing.{IsSound-frame_of_row}
 use Rattle.pv_network.proofs.Seeding.{seeds}
 use Rattle.pv_network.proofs.network.Network.seed.Goals as goal
 
@@ -34,4 +33,4 @@ returns-in-None-clause-performs c = λ w stands.
     ∙ ap (λ (t : State). is_none (frame_at t.edits c.args.name)) c.self.view_is in
     let taken : refusal_of s (is_none (frame_at s.edits c.args.name)) ≡ None = ap (refusal_of s) (sym is_new) ∙ sym c.refusal.ensures ∙ c.in-None.is in
     let told : c.stored.result ≡ stored_reply (length s.edits) = c.stored.ensures ∙ ap stored_reply c.store-place.ensures.place in
-    rw (c.store-place.ensures.stored, told, c.of_row.ensures) (seeds s c.args.name (frame_of_row c.args.row.now) (IsSound-frame_of_row c.args.row.now c.requires) taken w stands)
+    rw (c.store-place.ensures.stored, told, c.of_row.ensures) (seeds s c.args.name (frame_of_row c.args.row.now) taken w stands)

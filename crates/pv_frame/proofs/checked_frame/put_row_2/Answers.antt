@@ -1,6 +1,6 @@
 use Rattle.std.proofs.Common.{◌∙◌}
 use borrow.Rule.Slice.PartMut.{same_len_mid}
-use Rattle.pv_network.proofs.record.put_row_2.Goals as goal
+use Rattle.pv_frame.proofs.checked_frame.put_row_2.Goals as goal
 
 -- the body is as long as it was
 pub returns-clause-length : goal.returns-clause-length
