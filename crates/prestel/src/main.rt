@@ -21,12 +21,9 @@ use crate::play::play;
 use crate::streams::{StandardInput, StandardOutput};
 use pv_outside::Status;
 use std::env;
-use std::io::{self, BufWriter, ErrorKind};
+use std::io::{self, ErrorKind};
 use std::process::ExitCode;
 use std::rt::Env;
-
-/// How many bytes of the transcript are kept until they are written at once.
-const OUTPUT_BUFFER: usize = 65_536;
 
 fn main(rt: HostRuntime) -> ExitCode {
     let status = run(&rt);
@@ -46,11 +43,10 @@ fn run<R: AllocGlobal + Env + Input + Print>(rt: &R) -> Status {
     if let Some(about) = About::asked(&words) {
         return tell(rt, about);
     }
-    let Ok(writer) = BufWriter::with_capacity(alloc, OUTPUT_BUFFER, io::writer(rt)) else {
+    let Ok(mut out) = StandardOutput::new(alloc, io::writer(rt)) else {
         return Status::Memory;
     };
     let mut script = StandardInput::new(rt.reader());
-    let mut out = StandardOutput::new(writer);
     let status = play(alloc, &words, &mut script, &mut out).status;
     if out.flush().is_err() {
         return Status::WriteFault;
