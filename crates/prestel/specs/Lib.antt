@@ -1,4 +1,5 @@
 pub mod Grammar
 pub mod Output
 pub mod Play
+pub mod Program
 pub mod Transcript

@@ -11,13 +11,14 @@ mod answer;
 mod cut;
 mod grammar;
 mod play;
+mod program;
 mod script;
 mod streams;
 #[cfg(test)]
 mod tests;
 
 use crate::about::About;
-use crate::play::play;
+use crate::program::play_out;
 use crate::streams::{StandardInput, StandardOutput};
 use pv_outside::Status;
 use std::env;
@@ -47,11 +48,7 @@ fn run<R: AllocGlobal + Env + Input + Print>(rt: &R) -> Status {
         return Status::Memory;
     };
     let mut script = StandardInput::new(rt.reader());
-    let status = play(alloc, &words, &mut script, &mut out).status;
-    if out.flush().is_err() {
-        return Status::WriteFault;
-    }
-    status
+    play_out(alloc, &words, &mut script, &mut out)
 }
 
 /// Prints what the program tells of itself.
