@@ -1,5 +1,5 @@
 -- How a run ended, from how its play ended and what the flush behind it did.
-use Rattle.std.proofs.Common.{◌≡◌, ℕ, ◌⊎◌, Bool, List, [], ◌∷◌, ◌++◌, length, Option, Some, None, sym, ap, subst, ◌∙◌, inl, inr}
+use Rattle.std.proofs.Common.{◌≡◌, ℕ, ◌⊎◌, Bool, List, [], ◌∷◌, ◌++◌, length, take, Option, Some, None, sym, ap, subst, ◌∙◌, inl, inr}
 use Rattle.std.specs.Prelude.{IsTrue, IsSomeAnd}
 use Rattle.std.specs.Io.KnownBytes.{Appends, Keeps, append_known}
 use Rattle.std.proofs.lemmas.List.{append-nil}
@@ -52,6 +52,10 @@ cut_short_is_front : (text : List ℕ) (number : ℕ) (a b : Option (List ℕ)) 
 cut_short_is_front text number a b p =
     let all = answers first_world (events_of p.commands) in
     record { run = p.line.before; behind = p.line.bad ∷ p.line.behind; commands = p.commands; lines = p.line.lines; read = p.line.read; count = length all; written = subst (λ (l : List ℕ). Appends a b l) (sym (take-length all)) p.written }
+
+-- a text that was written whole is a front of itself, and stays so
+pub whole_is_front : (a b c : Option (List ℕ)) (text : List ℕ) → Appends a b text → Keeps b c → (count : ℕ) × Appends a c (take count text)
+whole_is_front a b c text written kept = (length text, subst (λ (l : List ℕ). Appends a c l) (sym (take-length text)) (Appends-kept a b c text written kept))
 
 -- ---- the end of a run
 

@@ -1,3 +1,4 @@
+pub mod About
 pub mod Grammar
 pub mod Output
 pub mod Play

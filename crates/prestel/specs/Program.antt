@@ -1,12 +1,24 @@
 -- How a run of the whole program may end, and what then has gone to the writer behind its buffer.
-use Rattle.std.specs.Prelude.{◌≡◌, ℕ, ◌+◌, ◌≤◌, ◌↔◌, ◌⊎◌, Bool, IsTrue, List, [], length, Option}
+use Rattle.std.specs.Prelude.{◌≡◌, ℕ, ◌+◌, ◌≤◌, ◌↔◌, ◌⊎◌, Bool, IsTrue, List, [], length, take, Option}
+use Rattle.std.specs.Io.KnownBytes.{Appends}
 use Rattle.pv_outside.specs.Counts.{Rose}
 use Rattle.pv_outside.specs.declared.status.Status.{Status}
-use Rattle.pv_outside.specs.declared.status.Status.TheVariants.{Done, BadLine, WriteFault, Memory, TooLong}
+use Rattle.pv_outside.specs.declared.status.Status.TheVariants.{Done, Usage, BadLine, ReadFault, WriteFault, Memory, TooLong}
 use Rattle.pv_network.specs.Standing.{State}
 use Rattle.prestel.specs.declared.streams.StandardOutput.{StandardOutput}
 use Rattle.prestel.specs.Output.{given, passed_on, waiting}
 use Rattle.prestel.specs.Play.{longest_script, IsWhole, IsPlayed, IsCutShort, IsBrokenOff, IsFront}
+
+-- how it may end that a text is told: the writer itself has the whole of it, and nothing waits, or the output failed behind
+-- a front of it
+abbrev pub IsToldOf : {W : Type 0} → (W → Option (List ℕ)) → List ℕ → Status → StandardOutput W → StandardOutput W → Type 0
+IsToldOf contents text Done before now = Appends (given contents before) (passed_on contents now) text × (waiting now ≡ [])
+IsToldOf contents text WriteFault before now = (count : ℕ) × Appends (given contents before) (given contents now) (take count text)
+IsToldOf contents text Usage before now = ⊥
+IsToldOf contents text (BadLine number) before now = ⊥
+IsToldOf contents text ReadFault before now = ⊥
+IsToldOf contents text Memory before now = ⊥
+IsToldOf contents text TooLong before now = ⊥
 
 -- What a run made of the text that it read. Done says that the writer itself has the whole transcript, and a bad line that it
 -- has all answers of the lines before; nothing waits in the buffer then. A fault of the output leaves a front of the answers,

@@ -86,6 +86,14 @@ impl<W: Write + Drop> StandardOutput<W> {
         Ok(StandardOutput { writer, faults: 0 })
     }
 
+    /// The writer itself, which has what was passed on.
+    #[cfg(test)]
+    pub fn writer(&self) -> &W
+        ensures { result.now ≡ writer_inner self.now.writer }
+    {
+        self.writer.get_ref()
+    }
+
     /// Passes on to the writer what waits in the buffer.
     pub fn flush(&mut self) -> Result<(), Failed>
         ensures flushed { OnOk result (waiting self.new ≡ []) }
