@@ -7,7 +7,7 @@ use Rattle.std.proofs.Math.Seq.{take-append-add}
 use borrow.Rule.Slice.PartMut.{put_mid, post_of}
 use Rattle.pv_outside.specs.Source.{Takes, Leaves}
 use Rattle.pv_outside.specs.declared.failed.Failed.{Failed}
-use Rattle.prestel.specs.Play.{HasRead, IsWhole}
+use Rattle.prestel.specs.Play.{HasRead}
 
 -- ---- what is known of bytes
 
@@ -64,12 +64,6 @@ nothing_read t l = record { taken = Appends-none t; left = Consumes-none l }
 pub read_more : (a b c d e f : Option (List ℕ)) (x y : List ℕ) → HasRead a b d e x → HasRead b c e f y → HasRead a c d f (x ++ y)
 read_more a b c d e f x y p q = record { taken = Appends-more a b c x y p.taken q.taken; left = Consumes-more d e f x y p.left q.left }
 
--- a read that failed read nothing
-pub read_kept : (a b c d e f : Option (List ℕ)) (x : List ℕ) → HasRead a b d e x → Keeps b c → Keeps e f → HasRead a c d f x
-read_kept a b c d e f x p taken left =
-    let more = read_more a b c d e f x [] p (record { taken = Keeps-appends b c taken; left = Keeps-consumes e f left }) in
-    rw (append-nil x) at more
-
 -- a read into a slice from a place on gives bytes that stand there
 pub given_from : (r : Result ℕ Failed) (tb tn lb ln : Option (List ℕ)) (at : ℕ) (into part : List ℕ) → at ≤ length into → IfOk r (λ n. n ≤ length part) → Takes tb tn r part → Leaves lb ln r part
     → IfOk r (λ count. (given : List ℕ) × HasRead tb tn lb ln given × (length given ≡ count) × (take (at + count) (put_mid at (length into - at) into part) ≡ take at into ++ given))
@@ -85,12 +79,6 @@ given_from (Ok n) tb tn lb ln at into part within fits takes leaves =
     )
 
 -- ---- the whole
-
--- what was taken of a source that then had nothing left is all that it had
-pub is_whole : (before now : Option (List ℕ)) (text : List ℕ) → Consumes before now text → IsAtEnd now → IsWhole before text
-is_whole None now text p q = tt
-is_whole (Some xs) None text p q = absurd p
-is_whole (Some xs) (Some ys) text p q = p ∙ ap (λ (l : List ℕ). text ++ l) q ∙ append-nil text
 
 -- a count of 0 is met only where nothing was left
 pub end_of : (r : Result ℕ Failed) (left : Option (List ℕ)) → (r ≡ Ok 0 → IsAtEnd left) → IfOk r (λ n. n ≡ 0 → IsAtEnd left)
