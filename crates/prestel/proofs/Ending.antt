@@ -6,6 +6,7 @@ use Rattle.pv_network.specs.Standing.{State}
 use Rattle.prestel.specs.Play.{IsPlayOf, IsReadEnd}
 use Rattle.prestel.proofs.Running.{front_of_nothing}
 
+-- the words were refused: nothing was read, and nothing else is claimed
 pub refused : (status : Status) (network : Option State) (left : Option (List ℕ)) (ended : Bool) (before now : Option (List ℕ)) → status ≡ Usage → IsPlayOf [] status network left ended before now
 refused status network left ended before now is = record {
   within = omega arith;

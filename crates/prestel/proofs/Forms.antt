@@ -16,6 +16,7 @@ pub record AsksSeed (rest : List ℕ) (event : Event) : Type 0 where
   pub spells : SpellsRow text row
   pub parts : rest ≡ name_text name ++ space ∷ text
 
+-- a line of the word `seed` asks for a seed, of the name and the row that stand behind it
 pub asks_seed : (centres : ℕ) (rest : List ℕ) (event : Event) → Asks centres (codes "seed " ++ rest) event → AsksSeed rest event
 asks_seed centres rest (Seed name row) asks = record { name = name; text = asks.0; row = row; is = refl; named = asks.1; spells = asks.2; parts = let line = asks.3 in cc }
 asks_seed centres rest (Send centre) asks = let line = asks.1 in let e : ◌≡◌ {A = ℕ} 101 110 = cc in absurd (omega (arith, e))
@@ -31,6 +32,7 @@ pub record AsksDeliver (centres : ℕ) (rest : List ℕ) (event : Event) : Type 
   pub small : index < 2 ^ 64
   pub parts : rest ≡ decimal centre ++ space ∷ decimal index
 
+-- a line of the word `deliver` asks for a delivery, of the two numbers that stand behind it
 pub asks_deliver : (centres : ℕ) (rest : List ℕ) (event : Event) → Asks centres (codes "deliver " ++ rest) event → AsksDeliver centres rest event
 asks_deliver centres rest (Seed name row) asks = let line = asks.3 in let e : ◌≡◌ {A = ℕ} 100 115 = cc in absurd (omega (arith, e))
 asks_deliver centres rest (Send centre) asks = let line = asks.1 in let e : ◌≡◌ {A = ℕ} 100 115 = cc in absurd (omega (arith, e))
@@ -46,6 +48,7 @@ pub record AsksView (centres : ℕ) (rest : List ℕ) (event : Event) : Type 0 w
   pub named : IsName name
   pub parts : rest ≡ decimal centre ++ space ∷ name_text name
 
+-- a line of the word `view` asks for a view, by the number and of the name that stand behind it
 pub asks_view : (centres : ℕ) (rest : List ℕ) (event : Event) → Asks centres (codes "view " ++ rest) event → AsksView centres rest event
 asks_view centres rest (Seed name row) asks = let line = asks.3 in let e : ◌≡◌ {A = ℕ} 118 115 = cc in absurd (omega (arith, e))
 asks_view centres rest (Send centre) asks = let line = asks.1 in let e : ◌≡◌ {A = ℕ} 118 115 = cc in absurd (omega (arith, e))

@@ -1,4 +1,5 @@
 pub mod Ending
+pub mod Flushing
 pub mod Forms
 pub mod Lines
 pub mod Notations

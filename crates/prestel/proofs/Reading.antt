@@ -7,35 +7,48 @@ use Rattle.std.proofs.Math.Seq.{take-append-add}
 use borrow.Rule.Slice.PartMut.{put_mid, post_of}
 use Rattle.pv_outside.specs.Source.{Takes, Leaves}
 use Rattle.pv_outside.specs.declared.failed.Failed.{Failed}
-use Rattle.prestel.specs.Play.{HasRead, IsWhole}
+use Rattle.prestel.specs.Play.{HasRead}
 
 -- ---- what is known of bytes
 
+-- to append nothing changes nothing
 pub Appends-none : (a : Option (List ℕ)) → Appends a a []
 Appends-none None = tt
 Appends-none (Some xs) = sym (append-nil xs)
 
+-- two texts that were appended one after the other are one text that was
 pub Appends-more : (a b c : Option (List ℕ)) (x y : List ℕ) → Appends a b x → Appends b c y → Appends a c (x ++ y)
 Appends-more None b c x y p q = tt
 Appends-more (Some xs) None c x y p q = absurd p
 Appends-more (Some xs) (Some ys) None x y p q = absurd q
 Appends-more (Some xs) (Some ys) (Some zs) x y p q = q ∙ ap (λ (l : List ℕ). l ++ y) p ∙ append_assoc xs x y
 
+-- what was appended is still there where known bytes stay as they were
+pub Appends-kept : (a b c : Option (List ℕ)) (x : List ℕ) → Appends a b x → Keeps b c → Appends a c x
+Appends-kept None b c x p q = tt
+Appends-kept (Some xs) None c x p q = absurd p
+Appends-kept (Some xs) (Some ys) None x p q = absurd q
+Appends-kept (Some xs) (Some ys) (Some zs) x p q = q ∙ p
+
+-- to read nothing leaves all
 Consumes-none : (a : Option (List ℕ)) → Consumes a a []
 Consumes-none None = tt
 Consumes-none (Some xs) = refl
 
+-- two texts that were read one after the other are one text that was
 Consumes-more : (a b c : Option (List ℕ)) (x y : List ℕ) → Consumes a b x → Consumes b c y → Consumes a c (x ++ y)
 Consumes-more None b c x y p q = tt
 Consumes-more (Some xs) None c x y p q = absurd p
 Consumes-more (Some xs) (Some ys) None x y p q = absurd q
 Consumes-more (Some xs) (Some ys) (Some zs) x y p q = p ∙ ap (λ (l : List ℕ). x ++ l) q ∙ sym (append_assoc x y zs)
 
+-- bytes that stay have grown by nothing
 Keeps-appends : (a b : Option (List ℕ)) → Keeps a b → Appends a b []
 Keeps-appends None b p = tt
 Keeps-appends (Some xs) None p = absurd p
 Keeps-appends (Some xs) (Some ys) p = p ∙ sym (append-nil xs)
 
+-- bytes that stay have lost nothing
 Keeps-consumes : (a b : Option (List ℕ)) → Keeps a b → Consumes a b []
 Keeps-consumes None b p = tt
 Keeps-consumes (Some xs) None p = absurd p
@@ -43,17 +56,13 @@ Keeps-consumes (Some xs) (Some ys) p = sym p
 
 -- ---- what is read
 
+-- a source that was not asked has given no text
 pub nothing_read : (t l : Option (List ℕ)) → HasRead t t l l []
 nothing_read t l = record { taken = Appends-none t; left = Consumes-none l }
 
+-- a source that gave one text and then another gave the two as one
 pub read_more : (a b c d e f : Option (List ℕ)) (x y : List ℕ) → HasRead a b d e x → HasRead b c e f y → HasRead a c d f (x ++ y)
 read_more a b c d e f x y p q = record { taken = Appends-more a b c x y p.taken q.taken; left = Consumes-more d e f x y p.left q.left }
-
--- a read that failed read nothing
-pub read_kept : (a b c d e f : Option (List ℕ)) (x : List ℕ) → HasRead a b d e x → Keeps b c → Keeps e f → HasRead a c d f x
-read_kept a b c d e f x p taken left =
-    let more = read_more a b c d e f x [] p (record { taken = Keeps-appends b c taken; left = Keeps-consumes e f left }) in
-    rw (append-nil x) at more
 
 -- a read into a slice from a place on gives bytes that stand there
 pub given_from : (r : Result ℕ Failed) (tb tn lb ln : Option (List ℕ)) (at : ℕ) (into part : List ℕ) → at ≤ length into → IfOk r (λ n. n ≤ length part) → Takes tb tn r part → Leaves lb ln r part
@@ -71,12 +80,7 @@ given_from (Ok n) tb tn lb ln at into part within fits takes leaves =
 
 -- ---- the whole
 
--- what was taken of a source that then had nothing left is all that it had
-pub is_whole : (before now : Option (List ℕ)) (text : List ℕ) → Consumes before now text → IsAtEnd now → IsWhole before text
-is_whole None now text p q = tt
-is_whole (Some xs) None text p q = absurd p
-is_whole (Some xs) (Some ys) text p q = p ∙ ap (λ (l : List ℕ). text ++ l) q ∙ append-nil text
-
+-- a count of 0 is met only where nothing was left
 pub end_of : (r : Result ℕ Failed) (left : Option (List ℕ)) → (r ≡ Ok 0 → IsAtEnd left) → IfOk r (λ n. n ≡ 0 → IsAtEnd left)
 end_of (Err e) left at_end = tt
 end_of (Ok n) left at_end = λ none. at_end (ap (λ (k : ℕ). Ok k) none)

@@ -1,7 +1,7 @@
 -- What was run and written, line by line.
 use Rattle.std.proofs.Common.{◌≡◌, ℕ, ◌+◌, List, [], ◌∷◌, ◌++◌, length, take, Option, refl, sym, ap, subst, ◌∙◌, append_assoc, arith}
 use Rattle.std.specs.Io.KnownBytes.{Appends}
-use Rattle.std.proofs.lemmas.List.{append-nil, length-append}
+use Rattle.std.proofs.lemmas.List.{length-append}
 use Rattle.std.proofs.Math.Seq.{take-append-add}
 use Rattle.pv_network.specs.declared.event.Event.{Event}
 use Rattle.pv_network.specs.World.{World}
@@ -12,20 +12,23 @@ use Rattle.prestel.specs.declared.grammar.Command.TheVariants.{Nothing, Do}
 use Rattle.prestel.specs.declared.play.TheConstants.{CENTRES}
 use Rattle.prestel.specs.Grammar.{lines_of, Reads, AreCommands, events_of}
 use Rattle.prestel.specs.Transcript.{answer_text, answers}
-use Rattle.prestel.specs.Play.{first_world, IsPlayed, IsCutShort, IsBrokenOff, IsFront, HasRun, HasBegun}
+use Rattle.prestel.specs.Play.{first_world, IsBrokenOff, IsFront, HasRun, HasBegun}
 use Rattle.prestel.proofs.Reading.{Appends-none, Appends-more}
 
 -- ---- events, one list after another
 
+-- the events of two lists of commands follow one another
 events_of-append : (cs ds : List Command) → events_of (cs ++ ds) ≡ events_of cs ++ events_of ds
 events_of-append [] ds = refl
 events_of-append (Nothing ∷ cs) ds = events_of-append cs ds
 events_of-append (Do event ∷ cs) ds = ap (λ (l : List Event). event ∷ l) (events_of-append cs ds)
 
+-- a world after two lists of events is the world after the second, begun where the first ended
 after-append : (w : World) (es fs : List Event) → after w (es ++ fs) ≡ after (after w es) fs
 after-append w [] fs = refl
 after-append w (e ∷ es) fs = after-append (happens w e).0 es fs
 
+-- the answers to two lists of events follow one another, the second from the world where the first ended
 answers-append : (w : World) (es fs : List Event) → answers w (es ++ fs) ≡ answers w es ++ answers (after w es) fs
 answers-append w [] fs = refl
 answers-append w (e ∷ es) fs =
@@ -51,6 +54,7 @@ pub record Progress (text rest : List ℕ) (number : ℕ) (network : State) (bef
   pub stands : StandsFor network (after first_world (events_of commands))
   pub written : Appends before now (answers first_world (events_of commands))
 
+-- before the first line nothing was run or written
 pub begins : (text : List ℕ) (network : State) (before : Option (List ℕ)) → StandsFor network first_world → Progress text text 0 network before before
 begins text network before stands = record { done = []; commands = []; lines = refl; count = refl; read = tt; stands = stands; written = Appends-none before }
 
@@ -71,23 +75,6 @@ goes_on text rest line behind number old new before mid now p is run =
           (Appends-more before mid now (answers first_world (events_of p.commands)) (answers (after first_world (events_of p.commands)) (events_of (command ∷ []))) p.written step.1);
     }
 
--- nothing is left
-pub ends : (text : List ℕ) (number : ℕ) (network : State) (before now : Option (List ℕ)) (rest : List ℕ) → Progress text rest number network before now → rest ≡ [] → IsPlayed text network before now
-ends text number network before now rest p none = record {
-  commands = p.commands;
-  read = subst (λ (l : List (List ℕ)). AreCommands CENTRES l p.commands) (sym (p.lines ∙ ap (λ (r : List ℕ). p.done ++ lines_of r) none ∙ append-nil p.done)) p.read;
-  stands = p.stands;
-  written = p.written;
-}
-
--- the next line is none of the forms
-pub cut_short : (text rest line behind : List ℕ) (number : ℕ) (network : State) (before now : Option (List ℕ)) → Progress text rest number network before now → lines_of rest ≡ line ∷ lines_of behind → ((command : Command) → Reads CENTRES line command → ⊥) → IsCutShort text (number + 1) before now
-cut_short text rest line behind number network before now p is none = record {
-  commands = p.commands;
-  line = record { before = p.done; bad = line; behind = lines_of behind; lines = p.lines ∙ ap (λ (l : List (List ℕ)). p.done ++ l) is; number = omega (arith, p.count); read = p.read; none = none };
-  written = p.written;
-}
-
 -- nothing was run yet
 pub front_of_nothing : (text : List ℕ) (before now : Option (List ℕ)) → now ≡ before → IsFront text before now
 front_of_nothing text before now same = record {
@@ -97,17 +84,6 @@ front_of_nothing text before now same = record {
   lines = refl;
   read = tt;
   written = subst (λ (k : Option (List ℕ)). Appends before k []) (sym same) (Appends-none before);
-}
-
--- memory ran out at the next line
-pub front_so_far : (text rest : List ℕ) (number : ℕ) (network : State) (before mid now : Option (List ℕ)) → Progress text rest number network before mid → now ≡ mid → IsFront text before now
-front_so_far text rest number network before mid now p same = record {
-  run = p.done;
-  behind = lines_of rest;
-  commands = p.commands;
-  lines = p.lines;
-  read = p.read;
-  written = subst (λ (k : Option (List ℕ)). Appends before k (answers first_world (events_of p.commands))) (sym same) p.written;
 }
 
 -- the next line's answer could not be written

@@ -35,6 +35,7 @@ no_word (c ∷ text) (d ∷ a) x is same = let tails : text ≡ a ++ space ∷ x
 pub words_agree : (text first rest a x : List ℕ) → IsCutAt space text first rest → IsWord a → text ≡ a ++ space ∷ x → (first ≡ a) × (rest ≡ x)
 words_agree text first rest a x begins is same = same_word first a rest x begins.before is (sym begins.parts ∙ same)
 
+-- digits have no space among them
 digits_are_word : (ds : List ℕ) → AllDigits 10 ds → IsWord ds
 digits_are_word [] digits = tt
 digits_are_word (c ∷ ds) digits = ((λ e. absurd (omega (arith, e, digit_from_value c digits.0))), digits_are_word ds digits.1)

@@ -1,3 +1,6 @@
+pub mod About
 pub mod Grammar
+pub mod Output
 pub mod Play
+pub mod Program
 pub mod Transcript

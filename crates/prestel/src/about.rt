@@ -1,4 +1,5 @@
-ghost use Rattle.std.specs.Prelude.{◌≡◌, ◌↔◌, [], ◌∷◌, map, Some, codes, string_bytes};
+ghost use Rattle.std.specs.Prelude.{◌≡◌, ◌↔◌, map, Some, codes, string_bytes};
+ghost use Rattle.prestel.specs.About.{about_words, about_text};
 
 /// The version of the program.
 const VERSION: &str = "prestel 0.1.0\n";
@@ -34,8 +35,8 @@ pub enum About {
 impl About {
     /// What the words ask for, which are one word then. Other words ask for nothing of this.
     pub fn asked(words: &[String]) -> Option<About>
-        ensures help { (result ≡ Some About.Help) ↔ (map string_bytes words.now ≡ codes "--help" ∷ []) }
-        ensures version { (result ≡ Some About.Version) ↔ (map string_bytes words.now ≡ codes "--version" ∷ []) }
+        ensures help { (result ≡ Some About.Help) ↔ (map string_bytes words.now ≡ about_words About.Help) }
+        ensures version { (result ≡ Some About.Version) ↔ (map string_bytes words.now ≡ about_words About.Version) }
     {
         match words {
             [word] => About::of_word(word),
@@ -58,7 +59,9 @@ impl About {
     }
 
     /// The text that tells it.
-    pub fn text(self) -> &'static str {
+    pub fn text(self) -> &'static str
+        ensures { result.now ≡ about_text self }
+    {
         match self {
             About::Help => HELP,
             About::Version => VERSION,

@@ -1,69 +1,61 @@
 //! The program: `prestel play 1` runs a script on a viewdata network of one retrieval centre.
 //!
 //! The script comes in by standard input and the transcript goes out by standard output; a fault is one
-//! line on standard error, and the exit status says which. All that the program does is [`play::play`],
-//! over whatever source and sink it is handed; `main` makes the real ones, and answers `--help` and
-//! `--version` itself.
+//! line on standard error, and the exit status says which. All that the program does is
+//! [`program::run_program`], over whatever source and writer it is handed; `main` makes the real ones,
+//! prints the line, and ends with the number.
 #![tactic(auto)]
+
+ghost use Rattle.std.specs.Prelude.{◌≡◌};
+ghost use Rattle.std.specs.Process.{exit_status};
+ghost use Rattle.pv_outside.specs.Status.{number_of};
 
 mod about;
 mod answer;
 mod cut;
 mod grammar;
 mod play;
+mod program;
 mod script;
 mod streams;
 #[cfg(test)]
 mod tests;
 
-use crate::about::About;
-use crate::play::play;
+use crate::program::run_program;
 use crate::streams::{StandardInput, StandardOutput};
 use pv_outside::Status;
 use std::env;
-use std::io::{self, BufWriter, ErrorKind};
+use std::io::{self, ErrorKind};
 use std::process::ExitCode;
 use std::rt::Env;
-
-/// How many bytes of the transcript are kept until they are written at once.
-const OUTPUT_BUFFER: usize = 65_536;
 
 fn main(rt: HostRuntime) -> ExitCode {
     let status = run(&rt);
     if status != Status::Done {
         let _ = eprintln!(rt; "prestel: {status}");
     }
+    exit_code(status)
+}
+
+/// What the process ends with.
+fn exit_code(status: Status) -> ExitCode
+    ensures { exit_status result ≡ number_of status }
+{
     ExitCode::from(status.number())
 }
 
-/// Plays what the command line and standard input say, and writes out what a buffer still holds.
+/// Runs the program with the command line's words, standard input and standard output.
 fn run<R: AllocGlobal + Env + Input + Print>(rt: &R) -> Status {
     let alloc = rt.alloc();
     let words = match words_of(rt) {
         Ok(words) => words,
         Err(status) => return status,
     };
-    if let Some(about) = About::asked(&words) {
-        return tell(rt, about);
-    }
-    let Ok(writer) = BufWriter::with_capacity(alloc, OUTPUT_BUFFER, io::writer(rt)) else {
+    let Ok(mut out) = StandardOutput::new(alloc, io::writer(rt)) else {
         return Status::Memory;
     };
     let mut script = StandardInput::new(rt.reader());
-    let mut out = StandardOutput::new(writer);
-    let status = play(alloc, &words, &mut script, &mut out).status;
-    if out.flush().is_err() {
-        return Status::WriteFault;
-    }
-    status
-}
-
-/// Prints what the program tells of itself.
-fn tell<R: Print>(rt: &R, about: About) -> Status {
-    match print!(rt; "{}", about.text()) {
-        Ok(()) => Status::Done,
-        Err(_) => Status::WriteFault,
-    }
+    run_program(alloc, &words, &mut script, &mut out)
 }
 
 /// The words behind the program's name. Words that are no text are none of the program's.

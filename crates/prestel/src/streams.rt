@@ -1,10 +1,15 @@
-ghost use Rattle.std.specs.Prelude.{◌≡◌, ◌==◌, ◌&&◌, ◌≤◌, nat_lt, false, IsErr, OnOk, None};
-ghost use Rattle.std.specs.Io.KnownBytes.{Appends};
+ghost use Rattle.std.specs.Prelude.{◌≡◌, ◌==◌, ◌&&◌, ◌≤◌, nat_lt, false, [], IfOk, IsErr, OnOk, None};
+ghost use Rattle.std.specs.Io.Buffered.{writer_inner, writer_capacity, writer_contents};
+ghost use Rattle.std.specs.Io.KnownBytes.{Keeps};
 ghost use Rattle.pv_outside.specs.Counts.{Rose};
-ghost use Rattle.pv_outside.specs.Sink.{Writes};
+ghost use Rattle.prestel.specs.Output.{given, waiting};
 
 use pv_outside::{Failed, Sink, Source};
-use std::io::{Read, Write};
+use std::alloc::{AllocError, Global};
+use std::io::{BufWriter, Read, Write};
+
+/// How many bytes of the output are kept until they are written at once.
+const OUTPUT_BUFFER: usize = 65_536;
 
 /// A reader of the process as a source. It counts its faults and whether it has ended, and tells what is
 /// left where the reader does: a slice does, a terminal and a pipe do not.
@@ -59,24 +64,40 @@ fn is_end(count: usize, room: usize) -> bool
     count == 0 && room > 0
 }
 
-/// A writer of the process as a sink. It counts its faults and tells no bytes, since after a fault a
-/// writer does not say what it took.
+/// A writer of the process as a sink, behind a buffer of its own. It counts its faults, and tells the
+/// bytes that it was given where the writer tells what it holds.
 #[derive(Drop)]
 pub struct StandardOutput<W: Write + Drop> {
-    writer: W,
+    writer: BufWriter<W>,
     faults: u64,
 }
 
 impl<W: Write + Drop> StandardOutput<W> {
     /// A sink to which nothing was written.
-    pub fn new(writer: W) -> Self
-        ensures { result.faults ≡ 0 }
+    pub fn new(alloc: Global, writer: W) -> Result<Self, AllocError>
+        ensures writer { IfOk result (λ out. writer_inner out.writer ≡ writer) }
+        ensures empty { IfOk result (λ out. waiting out ≡ []) }
+        ensures capacity { IfOk result (λ out. writer_capacity out.writer ≡ OUTPUT_BUFFER) }
+        ensures faults { IfOk result (λ out. out.faults ≡ 0) }
     {
-        StandardOutput { writer, faults: 0 }
+        let Ok(writer) = BufWriter::with_capacity(alloc, OUTPUT_BUFFER, writer) else {
+            return Err(AllocError);
+        };
+        Ok(StandardOutput { writer, faults: 0 })
     }
 
-    /// Writes out what a buffer still holds.
+    /// The writer itself, which has what was passed on.
+    #[cfg(test)]
+    pub fn writer(&self) -> &W
+        ensures { result.now ≡ writer_inner self.now.writer }
+    {
+        self.writer.get_ref()
+    }
+
+    /// Passes on to the writer what waits in the buffer.
     pub fn flush(&mut self) -> Result<(), Failed>
+        ensures flushed { OnOk result (waiting self.new ≡ []) }
+        ensures kept { Keeps (given W.contents self.old) (given W.contents self.new) }
         ensures counted { self.old.faults ≤ self.new.faults }
         ensures failed { IsErr result → Rose self.old.faults self.new.faults }
     {
@@ -91,19 +112,18 @@ impl<W: Write + Drop> StandardOutput<W> {
 impl<W: Write + Drop> Sink for StandardOutput<W> {
     ghost write_faults = { λ s. s.faults };
 
-    ghost written = { λ _. None };
+    ghost written = { λ s. writer_contents W.contents s.writer };
 
-    fn write_all(&mut self, bytes: &[u8]) -> Result<(), Failed>
-        ensures written { Writes None None result bytes.now }
-        ensures counted { self.old.faults ≤ self.new.faults }
-        ensures failed { IsErr result → Rose self.old.faults self.new.faults }
-
-        // Where the writer tells what it holds, it was given the bytes.
-        ensures given { OnOk result (Appends (W.contents self.old.writer) (W.contents self.new.writer) bytes.now) }
-    {
-        if self.writer.write_all(bytes).is_err() {
-            self.faults = self.faults.saturating_add(1);
-            return Err(Failed);
+    fn write_all(&mut self, bytes: &[u8]) -> Result<(), Failed> {
+        let mut at = 0;
+        while at < bytes.len() {
+            match self.writer.write(&bytes[at..]) {
+                Ok(0) | Err(_) => {
+                    self.faults = self.faults.saturating_add(1);
+                    return Err(Failed);
+                }
+                Ok(count) => at += count,
+            }
         }
         Ok(())
     }

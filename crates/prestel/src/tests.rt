@@ -1,8 +1,11 @@
 use crate::about::About;
 use crate::play::{Played, play};
+use crate::program::run_program;
+use crate::streams::{StandardInput, StandardOutput};
 use pv_memory::{MemSink, MemSource};
-use pv_outside::Status;
+use pv_outside::{Failed, Sink, Status};
 use std::alloc::Global;
+use std::io::{self, ErrorKind, Read, Write};
 use std::test::Fail;
 
 /// Room for what any of these scripts writes.
@@ -93,86 +96,89 @@ fn scripts_have_their_transcripts(rt: HostRuntime) -> Result<(), Fail> {
     Ok(())
 }
 
+/// Lines at the edge of a form, and what is written for them.
+const FORMS: [(&[u8], &[u8]); 17] = [
+    (b"\n", b""),
+    (b"; seed 1a X\n", b""),
+    (b";\n\n;", b""),
+    (b"seed 0a X", b"OK 0\n"),
+    (b"seed 1a ", b"OK 0\n"),
+    (b"seed 1a  X ", b"OK 0\n"),
+    (b"seed 999999999z X", b"OK 0\n"),
+    (
+        b"seed 1a 0123456789012345678901234567890123456789",
+        b"OK 0\n",
+    ),
+    (
+        b"seed 1a \\1f\\1f\\1f\\1f\\1f\\1f\\1f\\1f\\1f\\1f\\1f\\1f\\1f\\1f\\1f\\1f\\1f\\1f\\1f\\1f\\1f\\1f\\1f\\1f\\1f\\1f\\1f\\1f\\1f\\1f\\1f\\1f\\1f\\1f\\1f\\1f\\1f\\1f\\1f\\1f",
+        b"OK 0\n",
+    ),
+    (b"seed 1a \\41", b"OK 0\n"),
+    (b"seed 1a \\7f", b"OK 0\n"),
+    (b"seed 1a \\7F", b"OK 0\n"),
+    (b"seed 1a X\n;\n\nseed 1a X\n", b"OK 0\nOK 1\n"),
+    (b"send 0", b"idle\n"),
+    (b"deliver 0 0", b"no packet\n"),
+    (b"deliver 0 18446744073709551615", b"no packet\n"),
+    (b"view 0 1a", b"-\n"),
+];
+
 #[test]
 fn lines_at_the_edge_of_a_form(rt: HostRuntime) -> Result<(), Fail> {
-    let alloc = rt.alloc();
-    let forms: [(&[u8], &[u8]); 17] = [
-        (b"\n", b""),
-        (b"; seed 1a X\n", b""),
-        (b";\n\n;", b""),
-        (b"seed 0a X", b"OK 0\n"),
-        (b"seed 1a ", b"OK 0\n"),
-        (b"seed 1a  X ", b"OK 0\n"),
-        (b"seed 999999999z X", b"OK 0\n"),
-        (
-            b"seed 1a 0123456789012345678901234567890123456789",
-            b"OK 0\n",
-        ),
-        (
-            b"seed 1a \\1f\\1f\\1f\\1f\\1f\\1f\\1f\\1f\\1f\\1f\\1f\\1f\\1f\\1f\\1f\\1f\\1f\\1f\\1f\\1f\\1f\\1f\\1f\\1f\\1f\\1f\\1f\\1f\\1f\\1f\\1f\\1f\\1f\\1f\\1f\\1f\\1f\\1f\\1f\\1f",
-            b"OK 0\n",
-        ),
-        (b"seed 1a \\41", b"OK 0\n"),
-        (b"seed 1a \\7f", b"OK 0\n"),
-        (b"seed 1a \\7F", b"OK 0\n"),
-        (b"seed 1a X\n;\n\nseed 1a X\n", b"OK 0\nOK 1\n"),
-        (b"send 0", b"idle\n"),
-        (b"deliver 0 0", b"no packet\n"),
-        (b"deliver 0 18446744073709551615", b"no packet\n"),
-        (b"view 0 1a", b"-\n"),
-    ];
-    for (script, told) in forms {
-        assert!(rt; comes_to(alloc, script, Status::Done, told)?, "{script:?}");
+    for (script, told) in FORMS {
+        assert!(rt;
+            comes_to(rt.alloc(), script, Status::Done, told)?,
+            "{script:?}"
+        );
     }
     Ok(())
 }
 
+/// Lines that are none of the forms.
+const NO_FORMS: [&[u8]; 36] = [
+    b"seed 1a 01234567890123456789012345678901234567890",
+    b"seed 1a \\1f\\1f\\1f\\1f\\1f\\1f\\1f\\1f\\1f\\1f\\1f\\1f\\1f\\1f\\1f\\1f\\1f\\1f\\1f\\1f\\1f\\1f\\1f\\1f\\1f\\1f\\1f\\1f\\1f\\1f\\1f\\1f\\1f\\1f\\1f\\1f\\1f\\1f\\1f\\1f\\1f",
+    b"seed 1a",
+    b"seed  1a X",
+    b"seed 01a X",
+    b"seed 1A X",
+    b"seed 1{ X",
+    b"seed a X",
+    b"seed 1000000000a X",
+    b"seed 1a \\",
+    b"seed 1a \\4",
+    b"seed 1a \\4g",
+    b"seed 1a \\80",
+    b"seed 1a \x7f",
+    b"seed 1a \x80",
+    b"seed 1a X\r\n",
+    b"Seed 1a X",
+    b"seeds 1a X",
+    b"see 1a X",
+    b"seed\t1a X",
+    b" seed 1a X",
+    b" ; a remark",
+    b"send",
+    b"send ",
+    b"send 1",
+    b"send 00",
+    b"send 0 ",
+    b"send 256",
+    b"deliver 0",
+    b"deliver 1 0",
+    b"deliver 0 00",
+    b"deliver 0 18446744073709551616",
+    b"deliver 0 +1",
+    b"view 0 1a ",
+    b"view 0 1",
+    b"back 0 0",
+];
+
 #[test]
 fn lines_that_are_no_form(rt: HostRuntime) -> Result<(), Fail> {
-    let alloc = rt.alloc();
-    let lines: [&[u8]; 36] = [
-        b"seed 1a 01234567890123456789012345678901234567890",
-        b"seed 1a \\1f\\1f\\1f\\1f\\1f\\1f\\1f\\1f\\1f\\1f\\1f\\1f\\1f\\1f\\1f\\1f\\1f\\1f\\1f\\1f\\1f\\1f\\1f\\1f\\1f\\1f\\1f\\1f\\1f\\1f\\1f\\1f\\1f\\1f\\1f\\1f\\1f\\1f\\1f\\1f\\1f",
-        b"seed 1a",
-        b"seed  1a X",
-        b"seed 01a X",
-        b"seed 1A X",
-        b"seed 1{ X",
-        b"seed a X",
-        b"seed 1000000000a X",
-        b"seed 1a \\",
-        b"seed 1a \\4",
-        b"seed 1a \\4g",
-        b"seed 1a \\80",
-        b"seed 1a \x7f",
-        b"seed 1a \x80",
-        b"seed 1a X\r\n",
-        b"Seed 1a X",
-        b"seeds 1a X",
-        b"see 1a X",
-        b"seed\t1a X",
-        b" seed 1a X",
-        b" ; a remark",
-        b"send",
-        b"send ",
-        b"send 1",
-        b"send 00",
-        b"send 0 ",
-        b"send 256",
-        b"deliver 0",
-        b"deliver 1 0",
-        b"deliver 0 00",
-        b"deliver 0 18446744073709551616",
-        b"deliver 0 +1",
-        b"view 0 1a ",
-        b"view 0 1",
-        b"back 0 0",
-    ];
-    for line in lines {
-        assert!(rt;
-            comes_to(alloc, line, Status::BadLine { line: 1 }, b"")?,
-            "{line:?}"
-        );
+    let wanted = Status::BadLine { line: 1 };
+    for line in NO_FORMS {
+        assert!(rt; comes_to(rt.alloc(), line, wanted, b"")?, "{line:?}");
     }
     Ok(())
 }
@@ -199,56 +205,47 @@ fn the_longest_script_and_one_byte_more(rt: HostRuntime) -> Result<(), Fail> {
     Ok(())
 }
 
+/// Two lines, of which each writes an answer.
+const TWO_SEEDS: &[u8] = b"seed 1a A\nseed 2a B\n";
+
 #[test]
-fn each_end_has_its_cause(rt: HostRuntime) -> Result<(), Fail> {
-    let alloc = rt.alloc();
-    let two = Trial::of(b"seed 1a A\nseed 2a B\n");
-    let cases: [(Trial, Status, &[u8]); 7] = [
-        (
-            Trial::of(b"seed 1a A\nnonsense\nseed 2a B\n"),
-            Status::BadLine { line: 2 },
-            b"OK 0\n",
-        ),
-        (
-            Trial {
-                failing_reads: &[0],
-                ..two
-            },
-            Status::ReadFault,
-            b"",
-        ),
-        (
-            Trial {
-                failing_reads: &[1],
-                ..two
-            },
-            Status::ReadFault,
-            b"",
-        ),
-        (
-            Trial {
-                failing_writes: &[0],
-                ..two
-            },
-            Status::WriteFault,
-            b"",
-        ),
-        (
-            Trial {
-                failing_writes: &[1],
-                ..two
-            },
-            Status::WriteFault,
-            b"OK 0\n",
-        ),
-        (Trial { room: 9, ..two }, Status::WriteFault, b"OK 0\n"),
-        (Trial { room: 0, ..two }, Status::WriteFault, b""),
+fn a_line_that_is_no_form_ends_a_play(rt: HostRuntime) -> Result<(), Fail> {
+    let script = b"seed 1a A\nnonsense\nseed 2a B\n";
+    let wanted = Status::BadLine { line: 2 };
+    assert!(rt; comes_to(rt.alloc(), script, wanted, b"OK 0\n")?);
+    Ok(())
+}
+
+#[test]
+fn a_read_that_fails_ends_a_play(rt: HostRuntime) -> Result<(), Fail> {
+    let cases: [&[u64]; 2] = [&[0], &[1]];
+    for failing_reads in cases {
+        let trial = Trial {
+            failing_reads,
+            ..Trial::of(TWO_SEEDS)
+        };
+        let ended = trial.ends(rt.alloc(), &["play", "1"], Status::ReadFault, b"")?;
+        assert!(rt; ended, "{failing_reads:?}");
+    }
+    Ok(())
+}
+
+#[test]
+fn a_write_that_fails_ends_a_play(rt: HostRuntime) -> Result<(), Fail> {
+    let cases: [(&[u64], usize, &[u8]); 4] = [
+        (&[0], ROOM, b""),
+        (&[1], ROOM, b"OK 0\n"),
+        (&[], 9, b"OK 0\n"),
+        (&[], 0, b""),
     ];
-    for (trial, wanted, told) in cases {
-        assert!(rt;
-            trial.ends(alloc, &["play", "1"], wanted, told)?,
-            "{wanted:?}"
-        );
+    for (failing_writes, room, told) in cases {
+        let trial = Trial {
+            failing_writes,
+            room,
+            ..Trial::of(TWO_SEEDS)
+        };
+        let ended = trial.ends(rt.alloc(), &["play", "1"], Status::WriteFault, told)?;
+        assert!(rt; ended, "{failing_writes:?} {room}");
     }
     Ok(())
 }
@@ -290,5 +287,135 @@ fn help_and_the_version_are_asked_for_by_one_word(rt: HostRuntime) -> Result<(),
     for (words, wanted) in cases {
         assert_eq!(rt; About::asked(&texts(alloc, words)?), wanted, "{words:?}");
     }
+    Ok(())
+}
+
+/// A writer that takes at most three bytes at a time, and of which the call of one number fails. As a
+/// reader it gives what it holds again and again.
+#[derive(Drop)]
+struct Balky {
+    bytes: Vec<u8>,
+    calls: u64,
+    failing: u64,
+}
+
+impl Balky {
+    fn new(alloc: Global, failing: u64) -> Balky {
+        Balky {
+            bytes: Vec::new(alloc),
+            calls: 0,
+            failing,
+        }
+    }
+}
+
+impl Read for Balky {
+    fn read(&mut self, into: &mut [u8]) -> io::Result<usize> {
+        self.calls = self.calls.saturating_add(1);
+        if self.calls == self.failing {
+            return Err(ErrorKind::BrokenPipe.into());
+        }
+        self.bytes.as_slice().read(into)
+    }
+}
+
+impl Write for Balky {
+    fn write(&mut self, bytes: &[u8]) -> io::Result<usize> {
+        self.calls = self.calls.saturating_add(1);
+        if self.calls == self.failing {
+            return Err(ErrorKind::BrokenPipe.into());
+        }
+        let count = bytes.len().min(3);
+        self.bytes.extend_from_slice(&bytes[..count])?;
+        Ok(count)
+    }
+
+    fn flush(&mut self) -> io::Result<()> {
+        Ok(())
+    }
+}
+
+#[test]
+fn what_is_written_waits_for_a_flush(rt: HostRuntime) -> Result<(), Fail> {
+    let alloc = rt.alloc();
+    let mut out = StandardOutput::new(alloc, Vec::new(alloc))?;
+    out.write_all(b"OK 0\n")?;
+    out.write_all(b"")?;
+    assert!(rt; out.writer().is_empty());
+    out.flush()?;
+    assert_eq!(rt; out.writer().as_slice(), b"OK 0\n".as_slice());
+    out.write_all(b"OK 1\n")?;
+    assert_eq!(rt; out.writer().as_slice(), b"OK 0\n".as_slice());
+    out.flush()?;
+    assert_eq!(rt; out.writer().as_slice(), b"OK 0\nOK 1\n".as_slice());
+    Ok(())
+}
+
+#[test]
+fn a_writer_that_fails_in_mid_stream_loses_nothing(rt: HostRuntime) -> Result<(), Fail> {
+    let alloc = rt.alloc();
+    let mut out = StandardOutput::new(alloc, Balky::new(alloc, 3))?;
+    out.write_all(b"OK 0\nOK 1\n")?;
+    assert_eq!(rt; out.flush(), Err(Failed));
+    assert_eq!(rt; out.writer().bytes.as_slice(), b"OK 0\nO".as_slice());
+    out.flush()?;
+    assert_eq!(rt; out.writer().bytes.as_slice(), b"OK 0\nOK 1\n".as_slice());
+    Ok(())
+}
+
+#[test]
+fn a_run_passes_on_its_answers(rt: HostRuntime) -> Result<(), Fail> {
+    let alloc = rt.alloc();
+    let words = texts(alloc, &["play", "1"])?;
+    let cases: [(&[u8], u64, Status, &[u8]); 4] = [
+        (TWO_SEEDS, 0, Status::Done, b"OK 0\nOK 1\n"),
+        (
+            b"seed 1a A\nnonsense\n",
+            0,
+            Status::BadLine { line: 2 },
+            b"OK 0\n",
+        ),
+        (TWO_SEEDS, 1, Status::WriteFault, b""),
+        (TWO_SEEDS, 3, Status::WriteFault, b"OK 0\nO"),
+    ];
+    for (script, failing, wanted, told) in cases {
+        let mut input = StandardInput::new(script);
+        let mut out = StandardOutput::new(alloc, Balky::new(alloc, failing))?;
+        let status = run_program(alloc, &words, &mut input, &mut out);
+        assert_eq!(rt; status, wanted);
+        assert_eq!(rt; out.writer().bytes.as_slice(), told);
+    }
+    Ok(())
+}
+
+#[test]
+fn a_run_tells_of_the_program(rt: HostRuntime) -> Result<(), Fail> {
+    let alloc = rt.alloc();
+    let cases: [(&str, &str); 2] = [
+        ("--help", "usage: prestel play 1 < SCRIPT\n"),
+        ("--version", "prestel 0.1.0\n"),
+    ];
+    for (word, begins) in cases {
+        let words = texts(alloc, &[word])?;
+        let mut input = StandardInput::new(TWO_SEEDS);
+        let mut out = StandardOutput::new(alloc, Vec::new(alloc))?;
+        let status = run_program(alloc, &words, &mut input, &mut out);
+        assert_eq!(rt; status, Status::Done);
+        assert!(rt; out.writer().starts_with(begins.as_bytes()), "{word}");
+    }
+    Ok(())
+}
+
+#[test]
+fn a_reader_that_fails_in_mid_stream_is_a_read_fault(rt: HostRuntime) -> Result<(), Fail> {
+    let alloc = rt.alloc();
+    let words = texts(alloc, &["play", "1"])?;
+    let mut reader = Balky::new(alloc, 2);
+    reader.bytes.extend_from_slice(b"seed 1a A\n")?;
+    let mut input = StandardInput::new(reader);
+    let mut out = StandardOutput::new(alloc, Vec::new(alloc))?;
+    let status = run_program(alloc, &words, &mut input, &mut out);
+    assert_eq!(rt; status, Status::ReadFault);
+    assert!(rt; out.writer().is_empty());
     Ok(())
 }
