@@ -14,7 +14,7 @@ use Rattle.pv_frame.specs.Spelling.{field_bytes, route_bytes, spelling_of}
 pub blank-faultless : fault_of blank ≡ None
 blank-faultless = refl
 
--- it takes 950 bytes
+-- a blank frame takes 950 bytes
 pub blank-size : length (spelling_of blank) ≡ 950
 blank-size = refl
 
@@ -30,7 +30,7 @@ widest-inside = refl
 pub above-outside : lies_in_body (field Words 1 0 40) ≡ false
 above-outside = refl
 
--- nor is the last row of the screen
+-- nor is the screen's last row
 pub below-outside : lies_in_body (field Words 24 0 40) ≡ false
 below-outside = refl
 
@@ -38,7 +38,7 @@ below-outside = refl
 pub too-far : lies_in_body (field Words 5 31 10) ≡ false
 too-far = refl
 
--- nor have no cell
+-- a field has a cell
 pub of-no-cell : lies_in_body (field Words 5 31 0) ≡ false
 of-no-cell = refl
 
@@ -94,7 +94,7 @@ a-field = refl
 pub last-page : is_route 999999999 ≡ true
 last-page = refl
 
--- the number behind it is none
+-- the number behind the last page is no route
 pub behind-last-page : is_route 1000000000 ≡ false
 behind-last-page = refl
 
@@ -102,7 +102,7 @@ behind-last-page = refl
 pub all-ones : is_route 0xffffffff ≡ true
 all-ones = refl
 
--- it leads to no page
+-- all ones leads to no page
 pub all-ones-nowhere : page_of 0xffffffff ≡ None
 all-ones-nowhere = refl
 

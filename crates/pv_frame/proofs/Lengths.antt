@@ -22,11 +22,11 @@ pub length-route : (route : Option ℕ) → length (route_bytes route) ≡ 4
 length-route None = refl
 length-route (Some page) = refl
 
--- so does each of many routes
+-- routes take four bytes each
 pub length-routes : (routes : List (Option ℕ)) → length (flat_map route_bytes routes) ≡ 4 * length routes
 length-routes = length-in_fours route_bytes length-route
 
--- and each of many fields
+-- fields take four bytes each
 pub length-fields : (fields : List Field) → length (flat_map field_bytes fields) ≡ 4 * length fields
 length-fields = length-in_fours field_bytes (λ _. refl)
 

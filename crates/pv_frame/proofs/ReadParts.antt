@@ -43,7 +43,7 @@ pub record HasFront (bytes : List ℕ) : Type 0 where
   pub version : slice_index bytes 0 ≡ VERSION
   pub long : FIELDS_AT ≤ length bytes
 
--- so it is where no fault shows at the front
+-- bytes without a fault at the front have the version, and all before the fields
 pub front_of : (bytes : List ℕ) → first_of (front_faults bytes) ≡ None → HasFront bytes
 front_of bytes none =
     let empty = none_of (empty_fault bytes) (version_fault bytes ∷ head_fault bytes ∷ []) none in
@@ -60,7 +60,7 @@ pub record HasCodes (bytes : List ℕ) : Type 0 where
   pub routes : bad_route bytes ≡ None
   pub count : count_of bytes ≤ FIELDS
 
--- so it is where no fault shows in the codes
+-- bytes without a fault in their codes have codes with a meaning
 pub codes_of : (bytes : List ℕ) → first_of (code_faults bytes) ≡ None → HasCodes bytes
 codes_of bytes none =
     let kind = none_of (kind_fault bytes) (route_fault bytes ∷ count_fault bytes ∷ []) none in
@@ -84,7 +84,7 @@ kinds_of bytes none i before =
     let fails : is_none (kind_of_field bytes i) ≡ false = rw zero-add at (fails-from_none (λ i. is_none (kind_of_field bytes i)) 0 (count_of bytes) none i before) in
     not-false (is_some (kind_of_field bytes i)) fails
 
--- so it is where no fault shows in the fields, or behind them
+-- bytes without a fault in their fields, or behind them, have them all and end there
 pub tail_of : (bytes : List ℕ) → first_of (tail_faults bytes) ≡ None → HasTail bytes
 tail_of bytes none =
     let fields = none_of (fields_fault bytes) (field_fault bytes ∷ trailing_fault bytes ∷ []) none in

@@ -26,7 +26,7 @@ use Rattle.pv_frame.proofs.First.{first_of-none, first_of-one, when-false, none_
 
 -- ---- each test, and what it tells
 
--- where none is over 127, all are cells
+-- bytes of which none is over 127 are cells
 pub any_above : (cells : List ℕ) → list_any (nat_lt LAST_CELL) cells ≡ false → All IsCell cells
 any_above cells none k d within =
     elim (cases_Bool (nat_lt LAST_CELL (get_or cells k d))) [
@@ -163,7 +163,7 @@ shape_of Mail (account ∷ texts) is =
       λ k d within. text_of (get_or texts k d).kind (AllPass-from_list_all takes_text texts parts.1 k d within),
     )
 
--- such as a kind has pass as those of the kind
+-- fields such as a kind has pass as those of the kind
 pub shape_is : (kind : Kind) (fields : List Field) → HasShape kind fields → has_shape kind fields ≡ true
 shape_is Information fields is = eq-eqb (length fields) 0 (ap length is)
 shape_is Response fields is = lt-ltb 0 (length fields) is

@@ -118,7 +118,7 @@ told_shape frame fault ranges inside apart some =
     let is = when-some (not (has_shape frame.kind frame.fields)) Shape fault (sym (first_of-one (shape_fault frame.kind frame.fields)) ∙ some) in
     subst (TellsFault frame) is.1 (ranges, inside, apart, λ shape. both_ways (has_shape frame.kind frame.fields) (not-true (has_shape frame.kind frame.fields) is.0) (shape_is frame.kind frame.fields shape))
 
--- of fields that lie in the body it is told that two meet, the first pair, or that their shape is not the kind's
+-- of fields that lie in the body, what is told is the first pair that meets, or a shape that is not the kind's
 told_meeting : (frame : Content) (fault : FrameError) → HasRanges frame → All LiesInBody frame.fields → first_of (meeting_fault frame.fields ∷ shape_fault frame.kind frame.fields ∷ []) ≡ Some fault → TellsFault frame fault
 told_meeting frame fault ranges inside some =
     let made : ℕ × ℕ → FrameError = λ pair. FieldsMeet pair.0 pair.1 in

@@ -29,7 +29,7 @@ equal_names a b is =
 eqb_comm : (m n : ℕ) → eqb m n ≡ eqb n m
 eqb_comm m n = grind (arith, nat_tests)
 
--- nor does it for two names
+-- which of two names comes first does not matter to the test of whether they are one
 is_name_comm : (a b : Name) → same_name a b ≡ same_name b a
 is_name_comm a b = ap (λ (t : Bool). t && eqb a.letter b.letter) (eqb_comm a.page b.page) ∙ ap (λ (t : Bool). eqb b.page a.page && t) (eqb_comm a.letter b.letter)
 

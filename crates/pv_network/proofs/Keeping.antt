@@ -33,7 +33,7 @@ packets_in edits limit (centre ∷ centres) =
 pub packets_kept : (w : World) → sum_by packets_of (kept_of w).centres ≡ packet_count w
 packets_kept w = packets_in w.edits w.record_limit w.centres
 
--- of new centres, what is kept is that nothing has reached them
+-- of so many new centres is kept, so many times, what is kept of one
 new_kept : (limit n : ℕ) → replicate n (kept_centre [] limit new_centre) ≡ map (kept_centre [] limit) (replicate n new_centre)
 new_kept limit zero = refl
 new_kept limit (suc n) = ap (λ (l : List Kept). kept_centre [] limit new_centre ∷ l) (new_kept limit n)

@@ -112,7 +112,7 @@ receipts-push place [] edit = ap (λ (n : ℕ). receipt edit n ∷ []) (omega ar
 receipts-push place (first ∷ later) edit =
     ap (λ (l : List Acknowledged). receipt first place ∷ l) (receipts-push (place + 1) later edit ∙ ap (λ (n : ℕ). receipts_from (place + 1) later ++ receipt edit n ∷ []) (omega arith))
 
--- the world stays sound with a record for which there is room
+-- a sound world stays sound with a record for which there is room
 sound_edit : (w : World) (name : Name) (frame : Content) → IsSound w → is_frames_full w name ≡ false → leb w.record_limit (length w.edits) ≡ false → IsSound (with_edit w (next_edit w name frame))
 sound_edit w name frame sound frames records =
     let edit = next_edit w name frame in
@@ -135,7 +135,7 @@ sound_edit w name frame sound frames records =
       centres = all_weaken (IsSoundCentre w.edits) (IsSoundCentre (w.edits ++ edit ∷ [])) (centre_longer w.edits (edit ∷ [])) w.centres sound.centres;
     }
 
--- it stays sound where a frame is put, or refused
+-- a sound world stays sound where a frame is put, or refused
 pub sound_seeded : (w : World) (name : Name) (frame : Content) → IsSound w → IsSound (seeded w name frame).0
 sound_seeded w name frame sound =
     choice IsSound (is_frames_full w name) _ _ (λ _. sound) (λ frames.
@@ -143,7 +143,7 @@ sound_seeded w name frame sound =
 
 -- ---- send
 
--- it stays sound with a packet that carries the list's record of its number
+-- a sound world stays sound with a packet that carries the list's record of its number
 sound_packet : (w : World) (c number : ℕ) (edit : Record) → IsSound w → slice_get w.edits number ≡ Some edit → IsSound (with_centre w c (with_packet (centre_at w c) number edit))
 sound_packet w c number edit sound is =
     let here = sound_at w c sound in
@@ -154,7 +154,7 @@ sound_packet w c number edit sound is =
       heard = here.heard;
     })
 
--- it stays sound where the next record is packed, or there is none to pack
+-- a sound world stays sound where the next record is packed, or there is none to pack
 pub sound_sent : (w : World) (c : ℕ) → IsSound w → IsSound (sent w c).0
 sound_sent w c sound = choice IsSound (is_packets_full w) _ _ (λ _. sound) (λ _. numbered (next_number (centre_at w c).sending (length w.edits)))
   where
@@ -168,7 +168,7 @@ sound_sent w c sound = choice IsSound (is_packets_full w) _ _ (λ _. sound) (λ 
 
 -- ---- deliver
 
--- it stays sound where a centre acknowledges what it has taken
+-- a sound world stays sound where a centre acknowledges what it has taken
 pub sound_acknowledged : (w : World) (c : ℕ) → IsSound w → IsSound (with_acknowledgement w c).0
 sound_acknowledged w c sound =
     let here = sound_at w c sound in
@@ -200,7 +200,7 @@ taken_is_next taken limit number is = next (eqb number taken) (leb limit taken) 
     next false full true equal room is = absurd cc
     next false full false equal room is = absurd cc
 
--- it stays sound whatever packet arrives
+-- a sound world stays sound whatever packet arrives
 pub sound_delivered : (w : World) (c index : ℕ) → IsSound w → IsSound (delivered w c index).0
 sound_delivered w c index sound = arrives (slice_get (centre_at w c).down index) refl
   where
@@ -223,7 +223,7 @@ sound_happens w (Send centre) sound = sound_sent w centre sound
 sound_happens w (Deliver centre index) sound = sound_delivered w centre index sound
 sound_happens w (View centre name) sound = sound
 
--- and however many of them
+-- a sound world stays sound however many events happen
 pub sound_after : (w : World) (events : List Event) → IsSound w → IsSound (after w events)
 sound_after w [] sound = sound
 sound_after w (event ∷ events) sound = sound_after (happens w event).0 events (sound_happens w event sound)
