@@ -8,28 +8,28 @@ use crate::kind::Kind;
 use crate::layout::MAIL_TEXTS;
 use pv_cells::LAST_CELL;
 
-// Whether a byte is no cell.
+/// Whether a byte is no cell.
 pub(crate) fn has_wrong_cell(bytes: &[u8]) -> bool
     ensures { result ≡ list_any (nat_lt LAST_CELL) bytes.now }
 {
     bytes.iter().any(|byte| *byte > LAST_CELL)
 }
 
-// The place of the first field that does not lie in the body.
+/// The place of the first field that does not lie in the body.
 fn first_outside(fields: &[Field]) -> Option<usize>
     ensures { result ≡ position (λ field. not (lies_in_body field)) fields.now }
 {
     fields.iter().position(|field| !field.lies_in_body())
 }
 
-// The place of the first of the others with which the field shares a cell.
+/// The place of the first of the others with which the field shares a cell.
 fn first_met(field: &Field, others: &[Field]) -> Option<usize>
     ensures { result ≡ position (meets field.now) others.now }
 {
     others.iter().position(|other| field.meets(other))
 }
 
-// The places of the first field that shares a cell with a later one, and of the first such.
+/// The places of the first field that shares a cell with a later one, and of the first such.
 fn first_meeting(fields: &[Field]) -> Option<(usize, usize)>
     ensures { result ≡ first_meeting 0 fields.now }
 {
@@ -41,7 +41,7 @@ fn first_meeting(fields: &[Field]) -> Option<(usize, usize)>
     None
 }
 
-// Whether the fields are those of a frame of this kind.
+/// Whether the fields are those of a frame of this kind.
 fn has_shape(kind: Kind, fields: &[Field]) -> bool
     ensures { result ≡ has_shape kind fields.now }
 {
@@ -52,7 +52,7 @@ fn has_shape(kind: Kind, fields: &[Field]) -> bool
     }
 }
 
-// Whether the fields are those of mail.
+/// Whether the fields are those of mail.
 fn is_for_mail(fields: &[Field]) -> bool
     ensures { result ≡ has_shape Kind.Mail fields.now }
 {
@@ -70,7 +70,7 @@ fn are_texts(fields: &[Field]) -> bool
     fields.iter().all(|field| field.takes_text())
 }
 
-// Whether a frame of this kind may have the fields.
+/// Whether a frame of this kind may have the fields.
 pub(crate) fn check_fields(kind: Kind, fields: &[Field]) -> Result<(), FrameError>
     ensures ok { OnOk result (first_of (faults_of_fields kind fields.now) ≡ None) }
     ensures err { IfErr result (λ fault. first_of (faults_of_fields kind fields.now) ≡ Some fault) }

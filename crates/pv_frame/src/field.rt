@@ -38,14 +38,14 @@ impl Field {
 impl Field {
     ghost use Rattle.pv_frame.specs.Faults.{end_of, lies_in_body, meets, takes_account, takes_text};
 
-    // The column behind the last cell.
+    /// The column behind the last cell.
     fn end(&self) -> usize
         ensures { result ≡ end_of self.now }
     {
         usize::from(self.column) + usize::from(self.length)
     }
 
-    // Whether the field has 1 to 40 cells and lies whole in a row of the body.
+    /// Whether the field has 1 to 40 cells and lies whole in a row of the body.
     pub(crate) fn lies_in_body(&self) -> bool
         ensures { result ≡ lies_in_body self.now }
     {
@@ -54,7 +54,7 @@ impl Field {
             && self.end() <= ROW_LENGTH
     }
 
-    // Whether the fields share a cell.
+    /// Whether the fields share a cell.
     pub(crate) fn meets(&self, other: &Field) -> bool
         ensures { result ≡ meets self.now other.now }
     {
@@ -62,14 +62,14 @@ impl Field {
             && usize::from(self.column.max(other.column)) < self.end().min(other.end())
     }
 
-    // Whether the field is for the number of an account.
+    /// Whether the field is for the number of an account.
     pub(crate) fn takes_account(&self) -> bool
         ensures { result ≡ takes_account self.now }
     {
         matches!(self.kind, FieldKind::Digits) && self.length == ACCOUNT_DIGITS
     }
 
-    // Whether the field is for a text.
+    /// Whether the field is for a text.
     pub(crate) fn takes_text(&self) -> bool
         ensures { result ≡ takes_text self.now }
     {

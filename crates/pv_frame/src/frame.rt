@@ -156,7 +156,7 @@ impl Frame {
         read(bytes)
     }
 
-    // Appends the spelling where it fits.
+    /// Appends the spelling where it fits.
     #[tactic(auto, using(crate::proofs::Lengths::sizes))]
     fn put(&self, out: &mut Out)
         requires sound { IsSound self.now }

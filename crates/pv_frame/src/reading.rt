@@ -14,7 +14,7 @@ use crate::layout::{
 };
 use pv_page::{LAST_PAGE, PageNo};
 
-// The kind of frame that a byte stands for.
+/// The kind of frame that a byte stands for.
 fn kind_of(code: u8) -> Option<Kind>
     ensures { result ≡ kind_of code }
 {
@@ -26,7 +26,7 @@ fn kind_of(code: u8) -> Option<Kind>
     }
 }
 
-// The kind of field that a byte stands for.
+/// The kind of field that a byte stands for.
 fn field_kind_of(code: u8) -> Option<FieldKind>
     ensures { result ≡ field_kind_of code }
 {
@@ -37,7 +37,7 @@ fn field_kind_of(code: u8) -> Option<FieldKind>
     }
 }
 
-// The four bytes of the route of a digit, as a number.
+/// The four bytes of the route of a digit, as a number.
 fn route_number(bytes: &[u8], digit: usize) -> u32
     requires digit { digit < ROUTES }
     requires whole { FIELDS_AT ≤ length bytes.now }
@@ -47,7 +47,7 @@ fn route_number(bytes: &[u8], digit: usize) -> u32
     u32::from_be_bytes([bytes[at], bytes[at + 1], bytes[at + 2], bytes[at + 3]])
 }
 
-// The kind of a field, where its code stands for one.
+/// The kind of a field, where its code stands for one.
 fn kind_of_field(bytes: &[u8], i: usize) -> Option<FieldKind>
     requires few { i < FIELDS }
     requires whole { field_at (i + 1) ≤ length bytes.now }
@@ -56,14 +56,14 @@ fn kind_of_field(bytes: &[u8], i: usize) -> Option<FieldKind>
     field_kind_of(bytes[FIELDS_AT + FIELD_BYTES * i + 3])
 }
 
-// Whether a number is a page's or that of no route.
+/// Whether a number is a page's or that of no route.
 fn is_route(number: u32) -> bool
     ensures { result ≡ is_route number }
 {
     number <= LAST_PAGE || number == NO_ROUTE
 }
 
-// The first digit whose route has no meaning.
+/// The first digit whose route has no meaning.
 fn bad_route(bytes: &[u8]) -> Option<usize>
     requires { FIELDS_AT ≤ length bytes.now }
     ensures value { result ≡ bad_route bytes.now }
@@ -77,7 +77,7 @@ fn bad_route(bytes: &[u8]) -> Option<usize>
     None
 }
 
-// The first field whose kind has no meaning.
+/// The first field whose kind has no meaning.
 fn bad_field(bytes: &[u8], count: usize) -> Option<usize>
     requires count { count ≡ count_of bytes.now }
     requires few { count ≤ FIELDS }
@@ -99,7 +99,7 @@ fn bad_code(at: usize) -> FrameCodecError
     FrameCodecError::Invalid(FrameError::Code { at })
 }
 
-// Whether the bytes begin as a frame, and are not cut off before its fields.
+/// Whether the bytes begin as a frame, and are not cut off before its fields.
 fn check_front(bytes: &[u8]) -> Result<(), FrameCodecError>
     ensures ok { OnOk result (first_of (front_faults bytes.now) ≡ None) }
     ensures err { IfErr result (λ refusal. first_of (front_faults bytes.now) ≡ Some refusal) }
@@ -116,7 +116,7 @@ fn check_front(bytes: &[u8]) -> Result<(), FrameCodecError>
     Ok(())
 }
 
-// Whether the codes before the fields have a meaning.
+/// Whether the codes before the fields have a meaning.
 fn check_codes(bytes: &[u8]) -> Result<(), FrameCodecError>
     requires { FIELDS_AT ≤ length bytes.now }
     ensures ok { OnOk result (first_of (code_faults bytes.now) ≡ None) }
@@ -134,7 +134,7 @@ fn check_codes(bytes: &[u8]) -> Result<(), FrameCodecError>
     Ok(())
 }
 
-// Whether the fields are there, have a meaning, and end the bytes.
+/// Whether the fields are there, have a meaning, and end the bytes.
 fn check_tail(bytes: &[u8]) -> Result<(), FrameCodecError>
     requires whole { FIELDS_AT ≤ length bytes.now }
     requires few { count_of bytes.now ≤ FIELDS }
@@ -155,7 +155,7 @@ fn check_tail(bytes: &[u8]) -> Result<(), FrameCodecError>
     Ok(())
 }
 
-// Where each digit leads.
+/// Where each digit leads.
 fn read_routes(bytes: &[u8], routes: &mut [Option<PageNo>; ROUTES])
     requires { FIELDS_AT ≤ length bytes.now }
     ensures { routes.new ≡ routes_of bytes.now }
@@ -165,7 +165,7 @@ fn read_routes(bytes: &[u8], routes: &mut [Option<PageNo>; ROUTES])
     }
 }
 
-// A field whose kind has a meaning.
+/// A field whose kind has a meaning.
 fn field_of(bytes: &[u8], i: usize) -> Field
     requires few { i < FIELDS }
     requires whole { field_at (i + 1) ≤ length bytes.now }
@@ -181,7 +181,7 @@ fn field_of(bytes: &[u8], i: usize) -> Field
     }
 }
 
-// The fields, in their places.
+/// The fields, in their places.
 fn read_fields(bytes: &[u8], count: usize, fields: &mut [Field; FIELDS])
     requires count { count ≡ count_of bytes.now }
     requires few { count ≤ FIELDS }
@@ -194,7 +194,7 @@ fn read_fields(bytes: &[u8], count: usize, fields: &mut [Field; FIELDS])
     }
 }
 
-// The frame that the bytes are read as, where nothing is wrong with their layout.
+/// The frame that the bytes are read as, where nothing is wrong with their layout.
 fn frame_of(bytes: &[u8]) -> Frame
     requires codes { first_of (code_faults bytes.now) ≡ None }
     requires tail { first_of (tail_faults bytes.now) ≡ None }
@@ -213,7 +213,7 @@ fn frame_of(bytes: &[u8]) -> Frame
     frame
 }
 
-// The frame that the bytes are read as, or why they are refused.
+/// The frame that the bytes are read as, or why they are refused.
 pub(crate) fn read(bytes: &[u8]) -> Result<Frame, FrameCodecError>
     ensures { result ≡ decode_of bytes.now }
 {

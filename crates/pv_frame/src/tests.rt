@@ -4,8 +4,8 @@ use pv_fields::{NoRoom, Out};
 use pv_page::PageNo;
 use std::test::Fail;
 
-// A mail frame with its account at row 3 and texts at rows 5 and 6, spelled by hand: digit 1 leads
-// to page 12, the price is 5, and the group 300.
+/// A mail frame with its account at row 3 and texts at rows 5 and 6, spelled by hand: digit 1 leads
+/// to page 12, the price is 5, and the group 300.
 fn spelled() -> [u8; 962] {
     let mut bytes = [b' '; 962];
     bytes[0] = 1;
@@ -30,12 +30,12 @@ fn spelled() -> [u8; 962] {
     bytes
 }
 
-// What is refused of bytes, if anything.
+/// What is refused of bytes, if anything.
 fn refusal(bytes: &[u8]) -> Option<FrameCodecError> {
     Frame::decode(bytes).err()
 }
 
-// What is refused of the spelled frame with some bytes changed.
+/// What is refused of the spelled frame with some bytes changed.
 fn changed(changes: &[(usize, u8)]) -> Option<FrameCodecError> {
     let mut bytes = spelled();
     for (at, value) in changes {

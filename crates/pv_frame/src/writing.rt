@@ -8,7 +8,7 @@ use crate::layout::{FIELD_BYTES, NO_ROUTE, ROUTE_BYTES};
 use pv_fields::Out;
 use pv_page::PageNo;
 
-// The byte of a kind.
+/// The byte of a kind.
 pub(crate) fn kind_code(kind: Kind) -> u8
     ensures { result ≡ kind_code kind }
 {
@@ -19,7 +19,7 @@ pub(crate) fn kind_code(kind: Kind) -> u8
     }
 }
 
-// The byte of a field's kind.
+/// The byte of a field's kind.
 fn field_code(kind: FieldKind) -> u8
     ensures { result ≡ field_code kind }
 {
@@ -29,7 +29,7 @@ fn field_code(kind: FieldKind) -> u8
     }
 }
 
-// Appends the number of a route.
+/// Appends the number of a route.
 fn put_route(route: Option<PageNo>, out: &mut Out)
     requires { ROUTE_BYTES ≤ room_of out.old }
     ensures { Appends out.old out.new (route_bytes route) }
@@ -41,7 +41,7 @@ fn put_route(route: Option<PageNo>, out: &mut Out)
     out.u32(number).unwrap();
 }
 
-// Appends the numbers of routes.
+/// Appends the numbers of routes.
 pub(crate) fn put_routes(routes: &[Option<PageNo>], out: &mut Out)
     requires { ROUTE_BYTES * length routes.now ≤ room_of out.old }
     ensures { Appends out.old out.new (flat_map route_bytes routes.now) }
@@ -51,7 +51,7 @@ pub(crate) fn put_routes(routes: &[Option<PageNo>], out: &mut Out)
     }
 }
 
-// Appends the bytes of a field.
+/// Appends the bytes of a field.
 fn put_field(field: &Field, out: &mut Out)
     requires { FIELD_BYTES ≤ room_of out.old }
     ensures { Appends out.old out.new (field_bytes field.now) }
@@ -65,7 +65,7 @@ fn put_field(field: &Field, out: &mut Out)
     out.run(&bytes).unwrap();
 }
 
-// Appends the bytes of fields.
+/// Appends the bytes of fields.
 pub(crate) fn put_fields(fields: &[Field], out: &mut Out)
     requires { FIELD_BYTES * length fields.now ≤ room_of out.old }
     ensures { Appends out.old out.new (flat_map field_bytes fields.now) }
