@@ -9,12 +9,11 @@
 //!   in hand    -> in hand     settle    a call of the disk failed
 //!   in hand    -> at rest     settle    the record, if it is stored
 //! ```
-ghost use Rattle.std.specs.Prelude.{◌≡◌, ◌⊎◌, ◌↔◌, ℕ, ◌+◌, ◌*◌, ◌<◌, ◌≤◌, List, [], ◌∷◌, ◌++◌, length, take, Option, Some, None, Ok, IfOk, IfErr, IfSome, OnOk, OnErr, IsErr, IsOk};
+ghost use Rattle.std.specs.Prelude.{◌≡◌, ℕ, ◌+◌, ◌*◌, ◌<◌, ◌≤◌, List, length, take, Option, Some, None, Ok, IfOk, IfErr, IfSome, OnOk, OnErr, IsErr, IsOk};
 ghost use Rattle.pv_outside.specs.Counts.{Rose};
-ghost use Rattle.pv_outside.specs.Disk.{CallsPassed, HasCalls, IsEndless};
-ghost use Rattle.pv_journal.specs.Log.{IsAtRest};
-ghost use Rattle.pv_journal.specs.Journal.{EachImage, HasLeft, IsPaid, Remains, IsFused};
-ghost use Rattle.pv_node.specs.Standing.{Stands, StandsEither, Meets, MeetsBoth, DiskStands, StandsFor};
+ghost use Rattle.pv_outside.specs.Disk.{HasCalls, IsEndless};
+ghost use Rattle.pv_journal.specs.Journal.{EachImage, HasLeft, Remains, IsFused};
+ghost use Rattle.pv_node.specs.Standing.{StandsEither, Meets, MeetsBoth, DiskStands, StandsFor};
 ghost use Rattle.pv_node.specs.Opening.{IsOutside, IsOpenFault, FaultShows, IsOpenDiskFault};
 ghost use Rattle.pv_node.specs.Asking.{FailsOnDisk, IsSettled, IsUnsettled, IsRefused, CanStore, IsKept, CarriesOut, Asks, Spends};
 

@@ -1,10 +1,10 @@
-ghost use Rattle.std.specs.Prelude.{◌≡◌, ◌<◌, ◌≤◌, ℕ, ◌+◌, List, [], ◌∷◌, ◌++◌, length, map, All, true, false, Ok, IfOk, IfErr, IfSome, OnOk};
+ghost use Rattle.std.specs.Prelude.{◌≡◌, ◌<◌, ℕ, ◌+◌, List, [], ◌∷◌, ◌++◌, length, true, false, Ok, IfErr, IfSome, OnOk};
 ghost use Rattle.pv_outside.specs.Counts.{Rose};
 ghost use Rattle.pv_outside.specs.Disk.{IsEndless};
 ghost use Rattle.pv_journal.specs.Log.{IsAtRest};
-ghost use Rattle.pv_journal.specs.Journal.{Remains, Holds};
+ghost use Rattle.pv_journal.specs.Journal.{Remains};
 ghost use Rattle.pv_node.specs.Standing.{Meets, DiskStands};
-ghost use Rattle.pv_node.specs.Opening.{fault_of, IsOpenDiskFault, IsOutside, IsNotMemory, IsOpenFault, IsUnreadable, Begins, StopShows, FaultShows, HasRead, HasAll, ComesNext, AreAll};
+ghost use Rattle.pv_node.specs.Opening.{fault_of, IsOpenDiskFault, IsOutside, IsNotMemory, IsOpenFault, IsUnreadable, StopShows, FaultShows, HasRead, HasAll, ComesNext, AreAll};
 
 use crate::fault::NodeFault;
 use crate::rules::Rules;
