@@ -23,6 +23,7 @@ pub struct StandardInput<R: Read + Drop> {
 impl<R: Read + Drop> StandardInput<R> {
     /// A source of which nothing was read.
     pub fn new(reader: R) -> Self
+        ensures reader { result.reader ≡ reader }
         ensures faults { result.faults ≡ 0 }
         ensures ended { result.ended ≡ false }
     {
