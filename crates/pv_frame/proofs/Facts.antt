@@ -1,9 +1,11 @@
 -- Frames and bytes worked out by hand, computed from the definitions.
-use Rattle.std.proofs.Common.{◌≡◌, ℕ, true, false, [], ◌∷◌, length, Some, None, refl}
+use Rattle.std.proofs.Common.{◌≡◌, ℕ, true, false, [], ◌∷◌, length, take, Some, None, refl}
+use Rattle.std.specs.Prelude.{slice_index}
 use Rattle.pv_frame.specs.declared.codec_error.FrameCodecError.TheVariants.{Short, Version}
 use Rattle.pv_frame.specs.declared.field.Field.{Field}
 use Rattle.pv_frame.specs.declared.field.FieldKind.{FieldKind}
 use Rattle.pv_frame.specs.declared.field.FieldKind.TheVariants.{Digits, Words}
+use Rattle.pv_frame.specs.declared.frame_error.FrameError.TheVariants.{Price}
 use Rattle.pv_frame.specs.declared.kind.Kind.TheVariants.{Information, Response, Mail}
 use Rattle.pv_frame.specs.Content.{blank}
 use Rattle.pv_frame.specs.Faults.{lies_in_body, meets, first_meeting, has_shape, fault_of}
@@ -17,6 +19,22 @@ blank-faultless = refl
 -- a blank frame takes 950 bytes
 pub blank-size : length (spelling_of blank) ≡ 950
 blank-size = refl
+
+-- the first byte of a spelling is its version, 1
+pub first-byte : take 1 (spelling_of blank) ≡ 1 ∷ []
+first-byte = refl
+
+-- the price stands behind the routes
+pub price-place : slice_index (spelling_of (record blank { price = 99 })) 946 ≡ 99
+price-place = refl
+
+-- a frame may cost 99 pence
+pub dearest-faultless : fault_of (record blank { price = 99 }) ≡ None
+dearest-faultless = refl
+
+-- a price of 100 is refused
+pub too-dear : fault_of (record blank { price = 100 }) ≡ Some Price
+too-dear = refl
 
 -- a field by its row, its first column and its length
 abbrev field : FieldKind → ℕ → ℕ → ℕ → Field

@@ -10,7 +10,7 @@ pub enum FrameError {
     #[error("the price is over 99 pence")]
     Price,
     /// A field does not lie in the body: its row is outside 2 to 23, its length outside 1 to 40, or
-    /// it ends behind column 40.
+    /// it ends behind the last column.
     #[error("field {i} does not lie in the body")]
     FieldRange {
         /// The place of the first such field.

@@ -1,4 +1,5 @@
 pub mod Counts
+pub mod Facts
 pub mod Finding
 pub mod Keeping
 pub mod Lists

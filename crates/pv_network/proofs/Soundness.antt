@@ -18,7 +18,7 @@ use Rattle.pv_network.specs.declared.record.TheConstants.{OPERATOR}
 use Rattle.pv_network.specs.Edits.{puts, frame_at, frame_count, IsNumbered}
 use Rattle.pv_network.specs.World.{World, Centre, Acknowledged, new_centre, start, centre_at, with_centre}
 use Rattle.pv_network.specs.Step.{is_packets_full, next_edit, with_edit, is_frames_full, seeded, next_number, with_packet, packed, sent_number, sent, arrival_of, with_acknowledgement, with_taken, arrived, delivered_packet, delivered, happens, after}
-use Rattle.pv_network.specs.OneList.{IsKept, receipt, receipts_from, OneList}
+use Rattle.pv_network.specs.OneList.{IsInPlace, receipt, receipts_from, OneList}
 use Rattle.pv_network.specs.Run.{MayFollow, IsRun}
 use Rattle.pv_network.specs.Sound.{IsGenuine, IsSoundCentre, IsSound}
 use Rattle.pv_network.proofs.Counts.{none-frame_at, frame_count-push, last_number-run}
@@ -54,7 +54,7 @@ sound_with w c centre sound here = record {
 -- ---- seed
 
 -- a longer list has what the shorter one had
-kept_longer : (edits more : List Record) (a : Acknowledged) → IsKept edits a → IsKept (edits ++ more) a
+kept_longer : (edits more : List Record) (a : Acknowledged) → IsInPlace edits a → IsInPlace (edits ++ more) a
 kept_longer edits more a kept = (kept.0, get_front edits more a.place kept.0 kept.1, kept.2, kept.3)
 
 -- a packet that carries a record of the list does so as the list grows
@@ -127,8 +127,8 @@ sound_edit w name frame sound frames records =
       numbered = numbered_push w.edits edit sound.numbered refl number;
       records = omega (arith, leb-false w.record_limit (length w.edits) records, length-append w.edits (edit ∷ []));
       frames = frames_push w.edits edit w.frame_limit sound.frames frames;
-      acknowledged = all_push (IsKept (w.edits ++ edit ∷ [])) w.acknowledged (record { editor = edit.editor; number = edit.number; place = length w.edits })
-          (all_weaken (IsKept w.edits) (IsKept (w.edits ++ edit ∷ [])) (kept_longer w.edits (edit ∷ [])) w.acknowledged sound.acknowledged)
+      acknowledged = all_push (IsInPlace (w.edits ++ edit ∷ [])) w.acknowledged (record { editor = edit.editor; number = edit.number; place = length w.edits })
+          (all_weaken (IsInPlace w.edits) (IsInPlace (w.edits ++ edit ∷ [])) (kept_longer w.edits (edit ∷ [])) w.acknowledged sound.acknowledged)
           (edit, get_last w.edits edit, refl, refl);
       once = ap (λ (l : List Acknowledged). l ++ receipt edit (length w.edits) ∷ []) sound.once
           ∙ ap (λ (n : ℕ). receipts_from 0 w.edits ++ receipt edit n ∷ []) (omega arith) ∙ sym (receipts-push 0 w.edits edit);

@@ -7,8 +7,8 @@ use Rattle.pv_network.specs.Edits.{IsNumbered}
 use Rattle.pv_network.specs.Run.{IsRun}
 
 -- the place holds the editor's record of this number
-abbrev pub IsKept : List Record → Acknowledged → Type 0
-IsKept edits a = (edit : Record) × (slice_get edits a.place ≡ Some edit) × (edit.editor ≡ a.editor) × (edit.number ≡ a.number)
+abbrev pub IsInPlace : List Record → Acknowledged → Type 0
+IsInPlace edits a = (edit : Record) × (slice_get edits a.place ≡ Some edit) × (edit.editor ≡ a.editor) × (edit.number ≡ a.number)
 
 -- the receipt of a record at its place
 abbrev pub receipt : Record → ℕ → Acknowledged
@@ -25,6 +25,6 @@ receipts_from place (edit ∷ later) = receipt edit place ∷ receipts_from (pla
 pub record OneList (w : World) : Type 0 where
   pub run : IsRun w.frame_limit w.record_limit w.edits
   pub numbered : IsNumbered w.edits
-  pub kept : AllByRecursion (IsKept w.edits) w.acknowledged
+  pub kept : AllByRecursion (IsInPlace w.edits) w.acknowledged
   pub once : w.acknowledged ≡ receipts_from 0 w.edits
   pub fronts : AllByRecursion (λ centre. centre.number ≤ length w.edits) w.centres

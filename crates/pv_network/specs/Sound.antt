@@ -4,7 +4,7 @@ use Rattle.std.specs.List.{AllByRecursion}
 use Rattle.pv_network.specs.declared.packet.Packet.{Packet}
 use Rattle.pv_network.specs.declared.record.Record.{Record}
 use Rattle.pv_network.specs.World.{World, Centre}
-use Rattle.pv_network.specs.OneList.{IsKept, receipts_from}
+use Rattle.pv_network.specs.OneList.{IsInPlace, receipts_from}
 use Rattle.pv_network.specs.Edits.{IsNumbered, frame_count}
 use Rattle.pv_network.specs.Run.{IsRun}
 
@@ -27,6 +27,6 @@ pub record IsSound (w : World) : Type 0 where
   pub numbered : IsNumbered w.edits
   pub records : length w.edits ≤ w.record_limit
   pub frames : frame_count w.edits ≤ w.frame_limit
-  pub acknowledged : AllByRecursion (IsKept w.edits) w.acknowledged
+  pub acknowledged : AllByRecursion (IsInPlace w.edits) w.acknowledged
   pub once : w.acknowledged ≡ receipts_from 0 w.edits
   pub centres : AllByRecursion (IsSoundCentre w.edits) w.centres
