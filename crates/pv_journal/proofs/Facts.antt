@@ -1,6 +1,11 @@
 -- Worked examples of what stands on a disk, computed from the definitions.
 use Rattle.std.proofs.Common.{◌≡◌, inl, [], ◌∷◌, ◌++◌, replicate, codes, refl}
+use Rattle.pv_journal.specs.declared.block.TheConstants.{MAX_BODY}
 use Rattle.pv_journal.specs.Text.{front, first_eight, written_behind, IsBroken}
+
+-- a body has at most 2,048 bytes
+pub longest_body : MAX_BODY ≡ 2048
+longest_body = refl
 
 -- a journal without bodies
 pub no_bodies : front [] ++ 0 ∷ [] ≡ codes "PVJOURN1" ++ 0 ∷ []

@@ -1,8 +1,9 @@
 -- Which bytes stand at the gates of a disk over the writes of an append.
 use Rattle.std.proofs.Common.{◌≡◌, inl, inr, ℕ, ◌+◌, ◌-◌, ◌<◌, ◌≤◌, List, [], ◌∷◌, ◌++◌, length, get_or, take, drop, sym, ◌∙◌, ap, arith, length-append}
-use Rattle.std.proofs.lemmas.List.{get_or_append_left, get_or-append_right, get_or-append-add, get_or-take, get_or-drop, length-take-le, length-drop}
+use Rattle.std.proofs.lemmas.List.{get_or_append_left, get_or-append_right, get_or-append-add, get_or-take, get_or-drop, length-take-le}
 use Rattle.std.specs.Int.{w16, to_be_bytes}
 use Rattle.pv_outside.specs.Disk.{Torn, overwritten}
+use Rattle.pv_outside.proofs.CallerLemmas.{length-overwritten}
 use Rattle.pv_journal.specs.Text.{written_behind, HasClosedGate, MayHaveBody}
 use Rattle.pv_journal.proofs.Crash.{length-written_behind}
 
@@ -15,11 +16,6 @@ module _ (at : ℕ) (bytes text : List ℕ) (within : at ≤ length text) where
   -- before the place of a write stand as many bytes as the place says
   front_size : length (take at text) ≡ at
   front_size = length-take-le at text within
-
-  -- after a write the text ends where it ended, or at the write's end where that lies further
-  pub length-overwritten : length (overwritten at bytes text) ≡ at + length bytes + (length text - (at + length bytes))
-  length-overwritten =
-      omega (arith, length-append (take at text ++ bytes) (drop (at + length bytes) text), length-append (take at text) bytes, front_size, length-drop (at + length bytes) text)
 
   -- what lies before the range of a write stands
   pub before : (i : ℕ) → i < at → get_or (overwritten at bytes text) i 0 ≡ get_or text i 0

@@ -12,7 +12,6 @@
 //!   in hand    -> at rest     settle    whether the body in hand is stored
 //! ```
 ghost use Rattle.std.specs.Prelude.{◌≡◌, ◌⊎◌, ◌↔◌, ℕ, ◌+◌, ◌*◌, List, [], ◌∷◌, ◌++◌, length, take, Option, Some, None, Ok, true, false, ◌<◌, ◌≤◌, IfOk, IfErr, IfSome, OnOk, OnErr, IsErr, IsOk};
-ghost use Rattle.std.specs.Option.{option_map};
 ghost use Rattle.pv_outside.specs.Counts.{Rose};
 ghost use Rattle.pv_outside.specs.Disk.{CallsPassed, HasCalls, IsEndless};
 ghost use Rattle.pv_journal.specs.Text.{IsBody, Spells};

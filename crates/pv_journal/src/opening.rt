@@ -1,4 +1,4 @@
-ghost use Rattle.std.specs.Prelude.{◌≡◌, ◌↔◌, ◌+◌, ◌<◌, ◌≤◌, ℕ, ◌++◌, length, take, drop, slice_index, IfOk, IfErr, OnOk, IsErr, IsOk, IfSome, IsTrue};
+ghost use Rattle.std.specs.Prelude.{◌≡◌, ◌↔◌, ◌+◌, ◌<◌, ◌≤◌, ℕ, ◌++◌, length, take, drop, slice_index, IfOk, IfErr, OnOk, IsErr, IfSome, IsTrue};
 ghost use Rattle.pv_outside.specs.Counts.{Rose};
 ghost use Rattle.pv_outside.specs.Disk.{IsEndless};
 ghost use Rattle.pv_journal.specs.Text.{first_eight};

@@ -1,13 +1,14 @@
 -- What a write does to the bytes of a disk, and to the images that a crash may leave.
 use Rattle.std.proofs.Common.{◌≡◌, ◌⊎◌, inl, inr, ℕ, ◌+◌, ◌-◌, ◌<◌, ◌≤◌, Bool, true, false, ◌&&◌, ◌||◌, List, [], ◌∷◌, ◌++◌, length, get_or, take, drop, map, refl, sym, ◌∙◌, ap, subst, arith, nat_le, nat_lt, if◌then◌else◌, length-append, append_assoc, take-append-drop}
 use Rattle.std.specs.List.{range_with_len}
-use Rattle.std.proofs.lemmas.List.{get_or_append_left, get_or-append_right, get_or-take, get_or-drop, length-take-le, length-drop, take_at, drop_at, drop-drop, nil_from_length}
+use Rattle.std.proofs.lemmas.List.{get_or_append_left, get_or-append_right, get_or-take, get_or-drop, length-take-le, take_at, drop_at, drop-drop, nil_from_length}
 use Rattle.std.proofs.lemmas.List.FromFn.{length-map-range_with_len, get_or-map-range_with_len}
 use Rattle.std.proofs.lemmas.List.Folds.{list_any-append}
 use Rattle.std.proofs.lemmas.List.Elements.{All-push}
 use Rattle.std.proofs.lemmas.Bool.{cases_lt, lt-leb, le-leb, le-ltb, lt-ltb, true≢false, or_parts, or_from}
 use Rattle.std.proofs.Math.Bool.{and-false}
 use Rattle.pv_outside.specs.Disk.{Torn, overwritten, Follows}
+use Rattle.pv_outside.proofs.CallerLemmas.{length-overwritten}
 use Rattle.pv_memory.specs.declared.past.Range.{Range}
 use Rattle.pv_memory.specs.Medium.{is_within, is_pending, Moment, IsTorn, IsImage, IsSound, IsEachWithin}
 
@@ -19,10 +20,6 @@ module _ (at : ℕ) (bytes text : List ℕ) (within : at ≤ length text) where
   -- with the bytes that are written there are as many as the place and their number
   written : length (take at text ++ bytes) ≡ at + length bytes
   written = omega (arith, length-append (take at text) bytes, front)
-
-  -- after a write the text ends where it ended, or at the write's end where that lies further
-  length-overwritten : length (overwritten at bytes text) ≡ at + length bytes + (length text - (at + length bytes))
-  length-overwritten = omega (arith, length-append (take at text ++ bytes) (drop (at + length bytes) text), written, length-drop (at + length bytes) text)
 
   -- outside of its range a write changes no byte
   stands : (k : ℕ) → (k < at) ⊎ (at + length bytes ≤ k) → get_or (overwritten at bytes text) k 0 ≡ get_or text k 0

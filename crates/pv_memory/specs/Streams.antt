@@ -3,28 +3,28 @@ use Rattle.std.specs.Prelude.{ℕ, ◌+◌, ◌==◌, Bool, ◌||◌, ◌&&◌, 
 use Rattle.pv_memory.specs.Faults.{Plan, fails_now, after_call, after_fault}
 
 -- a source: the bytes read so far, those that are left, whether the end was met, and which calls fail
-pub record Tape : Type 0 where
+pub record SourceState : Type 0 where
   pub read : List ℕ
   pub left : List ℕ
   pub ended : Bool
   pub plan : Plan
 
 -- the source after a read into so many bytes, of which it fills as many as are left
-abbrev pub after_read : Tape → ℕ → Tape
-after_read t n = if fails_now t.plan then record t { plan = after_call t.plan }
-    else record { read = t.read ++ take n t.left; left = drop n t.left; ended = t.ended || (length (take n t.left) == 0 && nat_lt 0 n); plan = after_call t.plan }
+abbrev pub after_read : SourceState → ℕ → SourceState
+after_read s n = if fails_now s.plan then record s { plan = after_call s.plan }
+    else record { read = s.read ++ take n s.left; left = drop n s.left; ended = s.ended || (length (take n s.left) == 0 && nat_lt 0 n); plan = after_call s.plan }
 
 -- a sink: the bytes written so far, how many it has room for in all, and which calls fail
-pub record Sheet : Type 0 where
+pub record SinkState : Type 0 where
   pub bytes : List ℕ
   pub room : ℕ
   pub plan : Plan
 
 -- the bytes do not fit
-abbrev pub is_past_room : Sheet → List ℕ → Bool
+abbrev pub is_past_room : SinkState → List ℕ → Bool
 is_past_room s bytes = nat_lt s.room (length s.bytes + length bytes)
 
 -- the sink after a write: a call that fails, or one past the room, writes nothing
-abbrev pub after_write : Sheet → List ℕ → Sheet
+abbrev pub after_write : SinkState → List ℕ → SinkState
 after_write s bytes = if fails_now s.plan then record s { plan = after_call s.plan }
     else (if is_past_room s bytes then record s { plan = after_fault (after_call s.plan) } else record s { bytes = s.bytes ++ bytes; plan = after_call s.plan })

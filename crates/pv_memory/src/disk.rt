@@ -1,4 +1,4 @@
-ghost use Rattle.std.specs.Prelude.{◌≡◌, ◌≢◌, ◌↔◌, ◌+◌, ◌≤◌, [], Option, Some, None, false, length, IfOk, IsOk, IsErr, IfSome, OnOk, OnErr, is_ok, ◌&&◌, not, List, slice_range, ℕ};
+ghost use Rattle.std.specs.Prelude.{◌≡◌, ◌↔◌, ◌+◌, ◌≤◌, [], Option, Some, None, false, length, IfOk, IsOk, IsErr, IfSome, OnOk, OnErr, is_ok, ◌&&◌, not, List, slice_range, ℕ};
 ghost use Rattle.std.specs.Option.{option_map, ForSome};
 ghost use Rattle.pv_outside.specs.Counts.{Rose};
 ghost use Rattle.pv_outside.specs.Disk.{overwritten, Torn, Follows, NoMore, Turns, clock_after, Elapses, after_call, after_write, after_sync, budget_after, CanCall, CanWrite, IsSpent, fused};
@@ -81,8 +81,8 @@ impl MemDisk {
         self.left = None;
     }
 
-    // Counts a call, which fails where it is named to, where it is refused, or where no further one
-    // passes; else it keeps what stands in the range that the call is about to write.
+    /// Counts a call, which fails where it is named to, where it is refused, or where no further one
+    /// passes; else it keeps what stands in the range that the call is about to write.
     fn begin(&mut self, range: Range, is_refused: bool) -> Result<(), Failed>
         requires { range.at ≤ length self.old.text }
         ensures ok { OnOk result (self.new ≡ after_pass range self.old) }
@@ -96,7 +96,7 @@ impl MemDisk {
             return Err(Failed);
         }
         if is_refused || self.left == Some(0) {
-            self.faults.meet();
+            self.faults.count_fault();
             return Err(Failed);
         }
         if range.size > KEPT_BYTES as usize {

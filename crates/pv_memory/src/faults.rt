@@ -47,7 +47,7 @@ impl Faults {
     }
 
     /// Counts a fault that no call was named for.
-    pub(crate) fn meet(&mut self)
+    pub(crate) fn count_fault(&mut self)
         ensures counted { self.new ≡ after_fault self.old }
         ensures rose { Rose self.old.faults self.new.faults }
         ensures never_falls { self.old.faults ≤ self.new.faults }

@@ -19,9 +19,9 @@ pub struct MemSink {
 
 impl Model for MemSink {
     ghost use Rattle.std.specs.Prelude.{◌≤◌, vec_len, vec_capacity};
-    ghost use Rattle.pv_memory.specs.Streams.{Sheet};
+    ghost use Rattle.pv_memory.specs.Streams.{SinkState};
 
-    ghost Value = { Sheet };
+    ghost Value = { SinkState };
 
     ghost view = { λ s. record { bytes = s.bytes.items; room = s.room; plan = s.faults } };
 
@@ -66,7 +66,7 @@ impl Sink for MemSink {
             return Err(Failed);
         }
         if bytes.len() > self.room - self.bytes.len() {
-            self.faults.meet();
+            self.faults.count_fault();
             return Err(Failed);
         }
         self.bytes.extend_from_slice(bytes).unwrap();

@@ -2,8 +2,8 @@ ghost use Rattle.std.specs.Prelude.{◌≡◌, ℕ, ◌<◌, ◌≤◌, ◌+◌,
 ghost use Rattle.std.specs.Io.KnownBytes.{IsAtEnd};
 ghost use Rattle.pv_outside.specs.Counts.{Rose};
 ghost use Rattle.pv_outside.specs.Source.{Ends, Takes, Leaves};
-ghost use Rattle.pv_memory.specs.Faults.{fails_now, after_call};
-ghost use Rattle.pv_memory.specs.Streams.{Tape, after_read};
+ghost use Rattle.pv_memory.specs.Faults.{fails_now};
+ghost use Rattle.pv_memory.specs.Streams.{SourceState, after_read};
 
 use crate::faults::Faults;
 use pv_outside::{Failed, Source};
@@ -21,9 +21,9 @@ pub struct MemSource {
 
 impl Model for MemSource {
     ghost use Rattle.std.specs.Prelude.{◌≤◌, vec_len, take, drop};
-    ghost use Rattle.pv_memory.specs.Streams.{Tape};
+    ghost use Rattle.pv_memory.specs.Streams.{SourceState};
 
-    ghost Value = { Tape };
+    ghost Value = { SourceState };
 
     ghost view = { λ s. record { read = take s.at s.bytes.items; left = drop s.at s.bytes.items; ended = s.ended; plan = s.faults } };
 
@@ -66,6 +66,9 @@ impl Source for MemSource {
         ensures exact { self.new ≡ after_read self.old (length into.old) }
         ensures fails { is_err result ≡ fails_now self.old.plan }
         ensures kept { OnErr result (into.new ≡ into.old) }
+
+        // Behind the bytes that it gave the slice is as it was.
+        ensures rest { IfOk result (λ n. drop n into.new ≡ drop n into.old) }
     {
         if self.faults.next_fails() {
             return Err(Failed);
@@ -84,6 +87,7 @@ fn copy_from(bytes: &[u8], at: usize, into: &mut [u8]) -> usize
     ensures count { result ≡ length (take (length into.old) (drop at bytes.now)) }
     ensures within { result ≤ length into.old }
     ensures given { take result into.new ≡ take (length into.old) (drop at bytes.now) }
+    ensures rest { drop result into.new ≡ drop result into.old }
     ensures read { take (at + result) bytes.now ≡ take at bytes.now ++ take (length into.old) (drop at bytes.now) }
     ensures left { drop (at + result) bytes.now ≡ drop (length into.old) (drop at bytes.now) }
     ensures fits { at + result ≤ length bytes.now }
