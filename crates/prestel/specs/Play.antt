@@ -34,28 +34,27 @@ abbrev pub IsWhole : Option (List ℕ) → List ℕ → Type 0
 IsWhole None text = Unit {0}
 IsWhole (Some left) text = left ≡ text
 
--- the line of this number is the first of the text that is none of the forms: those before it read as these commands
-pub record IsBadLine (text : List ℕ) (line : ℕ) (commands : List Command) : Type 0 where
-  pub before : List (List ℕ)
+-- every one of the lines reads as a command, and what was appended is the answers to these
+pub record IsTranscript (lines : List (List ℕ)) (written_before written_now : Option (List ℕ)) : Type 0 where
+  pub commands : List Command
+  pub read : AreCommands CENTRES lines commands
+  pub written : Appends written_before written_now (answers first_world (events_of commands))
+
+-- every line of the text was read and run: what was written is the answers, and the network stands for the world after them
+pub record IsPlayed (text : List ℕ) (network : State) (written_before written_now : Option (List ℕ)) : Type 0 where
+  pub transcript : IsTranscript (lines_of text) written_before written_now
+  pub stands : StandsFor network (after first_world (events_of transcript.commands))
+
+-- the line of this number is the first of the text that is none of the forms: those before it were read and run, and what
+-- was written is their answers
+pub record IsCutShort (text : List ℕ) (number : ℕ) (written_before written_now : Option (List ℕ)) : Type 0 where
+  pub run : List (List ℕ)
   pub bad : List ℕ
   pub behind : List (List ℕ)
-  pub lines : lines_of text ≡ before ++ bad ∷ behind
-  pub number : length before + 1 ≡ line
-  pub read : AreCommands CENTRES before commands
+  pub lines : lines_of text ≡ run ++ bad ∷ behind
+  pub place : length run + 1 ≡ number
   pub none : (command : Command) → Reads CENTRES bad command → ⊥
-
--- every line of the text was read and run, and what was written is the answers
-pub record IsPlayed (text : List ℕ) (network : State) (written_before written_now : Option (List ℕ)) : Type 0 where
-  pub commands : List Command
-  pub read : AreCommands CENTRES (lines_of text) commands
-  pub stands : StandsFor network (after first_world (events_of commands))
-  pub written : Appends written_before written_now (answers first_world (events_of commands))
-
--- the lines before the first that is none of the forms were read and run, and what was written is their answers
-pub record IsCutShort (text : List ℕ) (number : ℕ) (written_before written_now : Option (List ℕ)) : Type 0 where
-  pub commands : List Command
-  pub line : IsBadLine text number commands
-  pub written : Appends written_before written_now (answers first_world (events_of commands))
+  pub transcript : IsTranscript run written_before written_now
 
 -- some lines at the front were read, and what was written is a front of their answers
 pub record IsBrokenOff (text : List ℕ) (written_before written_now : Option (List ℕ)) : Type 0 where
@@ -71,10 +70,8 @@ pub record IsBrokenOff (text : List ℕ) (written_before written_now : Option (L
 pub record IsFront (text : List ℕ) (written_before written_now : Option (List ℕ)) : Type 0 where
   pub run : List (List ℕ)
   pub behind : List (List ℕ)
-  pub commands : List Command
   pub lines : lines_of text ≡ run ++ behind
-  pub read : AreCommands CENTRES run commands
-  pub written : Appends written_before written_now (answers first_world (events_of commands))
+  pub transcript : IsTranscript run written_before written_now
 
 -- What a play made of the text that it read: too long is exactly a text of one byte more than a script may have, done
 -- says that all the source had was read and run, a bad line is the first that is none of the forms, a fault of the
