@@ -12,7 +12,8 @@ use Rattle.prestel.specs.declared.grammar.Command.TheVariants.{Nothing, Do}
 use Rattle.prestel.specs.declared.play.TheConstants.{CENTRES}
 use Rattle.prestel.specs.Grammar.{lines_of, Reads, AreCommands, events_of}
 use Rattle.prestel.specs.Transcript.{answer_text, answers}
-use Rattle.prestel.specs.Play.{first_world, IsTranscript, IsPlayed, IsBrokenOff, IsFront, HasRun, HasBegun}
+use Rattle.prestel.specs.Play.{first_world, IsTranscript, IsPlayed, IsBrokenOff, IsFront}
+use Rattle.prestel.specs.Parts.{HasRun, HasBegun}
 use Rattle.prestel.proofs.Reading.{Appends-none, Appends-more}
 
 -- ---- events, one list after another

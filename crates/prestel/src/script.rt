@@ -2,7 +2,8 @@ ghost use Rattle.std.specs.Prelude.{◌≡◌, ℕ, ◌+◌, ◌<◌, ◌≤◌,
 ghost use Rattle.std.specs.Io.KnownBytes.{Appends, Consumes, Keeps, IsAtEnd};
 ghost use Rattle.pv_outside.specs.Counts.{Rose};
 ghost use Rattle.prestel.specs.Grammar.{lines_of};
-ghost use Rattle.prestel.specs.Play.{HasRead, IsWhole, IsReadEnd};
+ghost use Rattle.prestel.specs.Parts.{IsReadEnd};
+ghost use Rattle.prestel.specs.Play.{HasRead, IsWhole};
 
 use crate::cut::cut_at;
 use pv_outside::{Failed, Source, Status};
