@@ -3,7 +3,8 @@ use Rattle.std.proofs.Common.{◌≡◌, ℕ, Bool, List, [], length, Option, re
 use Rattle.pv_outside.specs.declared.status.Status.{Status}
 use Rattle.pv_outside.specs.declared.status.Status.TheVariants.{Done, Usage, BadLine, ReadFault, WriteFault, Memory, TooLong}
 use Rattle.pv_network.specs.Standing.{State}
-use Rattle.prestel.specs.Play.{IsPlayOf, IsReadEnd}
+use Rattle.prestel.specs.Parts.{IsReadEnd}
+use Rattle.prestel.specs.Play.{IsPlayOf}
 use Rattle.prestel.proofs.Running.{front_of_nothing}
 
 -- the words were refused: nothing was read, and nothing else is claimed

@@ -11,7 +11,7 @@ use Rattle.prestel.specs.declared.streams.StandardOutput.{StandardOutput}
 use Rattle.prestel.specs.Grammar.{lines_of, events_of}
 use Rattle.prestel.specs.Transcript.{answers}
 use Rattle.prestel.specs.Output.{given, passed_on, waiting}
-use Rattle.prestel.specs.Play.{first_world, IsWhole, IsPlayed, IsCutShort, IsBrokenOff, IsFront, IsPlayOf}
+use Rattle.prestel.specs.Play.{first_world, IsWhole, IsTranscript, IsCutShort, IsBrokenOff, IsFront, IsPlayOf}
 use Rattle.prestel.specs.Program.{IsRunOf}
 use Rattle.prestel.proofs.Reading.{Appends-kept}
 
@@ -24,12 +24,12 @@ all_passed (Some x) None buffer kept none = absurd kept
 all_passed (Some x) (Some y) buffer kept none = sym (append-nil y) ∙ ap (λ (l : List ℕ). y ++ l) (sym none) ∙ kept
 
 -- a transcript that was written stays so
-played_kept : (text : List ℕ) (network : State) (a b c : Option (List ℕ)) → IsPlayed text network a b → Keeps b c → IsPlayed text network a c
-played_kept text network a b c p kept = record { commands = p.commands; read = p.read; stands = p.stands; written = Appends-kept a b c _ p.written kept }
+transcript_kept : (lines : List (List ℕ)) (a b c : Option (List ℕ)) → IsTranscript lines a b → Keeps b c → IsTranscript lines a c
+transcript_kept lines a b c t kept = record { commands = t.commands; read = t.read; written = Appends-kept a b c _ t.written kept }
 
 -- the answers before a bad line stay written
 cut_short_kept : (text : List ℕ) (number : ℕ) (a b c : Option (List ℕ)) → IsCutShort text number a b → Keeps b c → IsCutShort text number a c
-cut_short_kept text number a b c p kept = record { commands = p.commands; line = p.line; written = Appends-kept a b c _ p.written kept }
+cut_short_kept text number a b c p kept = record { run = p.run; bad = p.bad; behind = p.behind; lines = p.lines; place = p.place; none = p.none; transcript = transcript_kept p.run a b c p.transcript kept }
 
 -- a front of the answers stays written
 broken_off_kept : (text : List ℕ) (a b c : Option (List ℕ)) → IsBrokenOff text a b → Keeps b c → IsBrokenOff text a c
@@ -37,21 +37,15 @@ broken_off_kept text a b c p kept = record { run = p.run; behind = p.behind; com
 
 -- the answers of the lines at the front stay written
 front_kept : (text : List ℕ) (a b c : Option (List ℕ)) → IsFront text a b → Keeps b c → IsFront text a c
-front_kept text a b c p kept = record { run = p.run; behind = p.behind; commands = p.commands; lines = p.lines; read = p.read; written = Appends-kept a b c _ p.written kept }
+front_kept text a b c p kept = record { run = p.run; behind = p.behind; lines = p.lines; transcript = transcript_kept p.run a b c p.transcript kept }
 
 -- ---- all is a front
 
--- the answers of all lines are a front of them
-played_is_front : (text : List ℕ) (network : State) (a b : Option (List ℕ)) → IsPlayed text network a b → IsBrokenOff text a b
-played_is_front text network a b p =
-    let all = answers first_world (events_of p.commands) in
-    record { run = lines_of text; behind = []; commands = p.commands; lines = sym (append-nil (lines_of text)); read = p.read; count = length all; written = subst (λ (l : List ℕ). Appends a b l) (sym (take-length all)) p.written }
-
--- the answers of the lines before a bad one are a front
-cut_short_is_front : (text : List ℕ) (number : ℕ) (a b : Option (List ℕ)) → IsCutShort text number a b → IsBrokenOff text a b
-cut_short_is_front text number a b p =
-    let all = answers first_world (events_of p.commands) in
-    record { run = p.line.before; behind = p.line.bad ∷ p.line.behind; commands = p.commands; lines = p.line.lines; read = p.line.read; count = length all; written = subst (λ (l : List ℕ). Appends a b l) (sym (take-length all)) p.written }
+-- the answers of the lines at the front are a front of all
+transcript_is_front : (text : List ℕ) (run behind : List (List ℕ)) (a b : Option (List ℕ)) → lines_of text ≡ run ++ behind → IsTranscript run a b → IsBrokenOff text a b
+transcript_is_front text run behind a b lines t =
+    let all = answers first_world (events_of t.commands) in
+    record { run = run; behind = behind; commands = t.commands; lines = lines; read = t.read; count = length all; written = subst (λ (l : List ℕ). Appends a b l) (sym (take-length all)) t.written }
 
 -- a text that was written whole is a front of itself, and stays so
 pub whole_is_front : (a b c : Option (List ℕ)) (text : List ℕ) → Appends a b text → Keeps b c → (count : ℕ) × Appends a c (take count text)
@@ -73,7 +67,7 @@ passed contents text status network left ended before mid now p kept none =
     record {
       within = p.within;
       too_long = p.too_long;
-      done = λ is. let d = p.done is in let n = some_network network _ d.2 in (d.0, d.1, (n.0, played_kept text n.0 _ _ _ n.1 arrived), none);
+      done = λ is. let d = p.done is in let n = some_network network _ d.2 in (d.0, d.1, transcript_kept (lines_of text) _ _ _ n.1.transcript arrived, none);
       bad_line = λ number is. let b = p.bad_line number is in (b.0, b.1, cut_short_kept text number _ _ _ b.2 arrived, none);
       write_fault = λ is. let f = p.write_fault is in (f.0, f.1, broken_off_kept text _ _ _ f.2 kept);
       memory = λ is. (front_kept text _ _ _ (p.memory is) kept, inl none);
@@ -97,5 +91,5 @@ not_passed contents text told network left ended before mid now p kept which = r
     never long (inr bad) = let e : TooLong ≡ BadLine bad.0 = sym long ∙ bad.1 in cc
 
     front : (told ≡ Done) ⊎ ((number : ℕ) × (told ≡ BadLine number)) → IsTrue ended × IsWhole left text × IsBrokenOff text (given contents before) (given contents mid)
-    front (inl done) = let d = p.done done in let n = some_network network _ d.2 in (d.0, d.1, played_is_front text n.0 _ _ n.1)
-    front (inr bad) = let b = p.bad_line bad.0 bad.1 in (b.0, b.1, cut_short_is_front text bad.0 _ _ b.2)
+    front (inl done) = let d = p.done done in let n = some_network network _ d.2 in (d.0, d.1, transcript_is_front text (lines_of text) [] _ _ (sym (append-nil (lines_of text))) n.1.transcript)
+    front (inr bad) = let b = p.bad_line bad.0 bad.1 in (b.0, b.1, transcript_is_front text b.2.run (b.2.bad ∷ b.2.behind) _ _ b.2.lines b.2.transcript)

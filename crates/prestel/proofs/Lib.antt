@@ -1,4 +1,5 @@
 pub mod Ending
+pub mod Facts
 pub mod Flushing
 pub mod Forms
 pub mod Lines

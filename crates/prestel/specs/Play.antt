@@ -1,7 +1,6 @@
 -- How a play may end, and what then was read and written.
 use Rattle.std.specs.Prelude.{◌≡◌, ℕ, ◌+◌, ◌≤◌, ◌↔◌, Bool, IsTrue, List, [], ◌∷◌, ◌++◌, length, take, Option, Some, None, IsSomeAnd, codes}
 use Rattle.std.specs.Io.KnownBytes.{Appends, Consumes}
-use Rattle.pv_outside.specs.Counts.{Rose}
 use Rattle.pv_outside.specs.declared.status.Status.{Status}
 use Rattle.pv_outside.specs.declared.status.Status.TheVariants.{Done, Usage, BadLine, ReadFault, WriteFault, Memory, TooLong}
 use Rattle.pv_network.specs.World.{World, start}
@@ -34,28 +33,27 @@ abbrev pub IsWhole : Option (List ℕ) → List ℕ → Type 0
 IsWhole None text = Unit {0}
 IsWhole (Some left) text = left ≡ text
 
--- the line of this number is the first of the text that is none of the forms: those before it read as these commands
-pub record IsBadLine (text : List ℕ) (line : ℕ) (commands : List Command) : Type 0 where
-  pub before : List (List ℕ)
+-- every one of the lines reads as a command, and what was appended is the answers to these
+pub record IsTranscript (lines : List (List ℕ)) (written_before written_now : Option (List ℕ)) : Type 0 where
+  pub commands : List Command
+  pub read : AreCommands CENTRES lines commands
+  pub written : Appends written_before written_now (answers first_world (events_of commands))
+
+-- every line of the text was read and run: what was written is the answers, and the network stands for the world after them
+pub record IsPlayed (text : List ℕ) (network : State) (written_before written_now : Option (List ℕ)) : Type 0 where
+  pub transcript : IsTranscript (lines_of text) written_before written_now
+  pub stands : StandsFor network (after first_world (events_of transcript.commands))
+
+-- the line of this number is the first of the text that is none of the forms: those before it were read and run, and what
+-- was written is their answers
+pub record IsCutShort (text : List ℕ) (number : ℕ) (written_before written_now : Option (List ℕ)) : Type 0 where
+  pub run : List (List ℕ)
   pub bad : List ℕ
   pub behind : List (List ℕ)
-  pub lines : lines_of text ≡ before ++ bad ∷ behind
-  pub number : length before + 1 ≡ line
-  pub read : AreCommands CENTRES before commands
+  pub lines : lines_of text ≡ run ++ bad ∷ behind
+  pub place : length run + 1 ≡ number
   pub none : (command : Command) → Reads CENTRES bad command → ⊥
-
--- every line of the text was read and run, and what was written is the answers
-pub record IsPlayed (text : List ℕ) (network : State) (written_before written_now : Option (List ℕ)) : Type 0 where
-  pub commands : List Command
-  pub read : AreCommands CENTRES (lines_of text) commands
-  pub stands : StandsFor network (after first_world (events_of commands))
-  pub written : Appends written_before written_now (answers first_world (events_of commands))
-
--- the lines before the first that is none of the forms were read and run, and what was written is their answers
-pub record IsCutShort (text : List ℕ) (number : ℕ) (written_before written_now : Option (List ℕ)) : Type 0 where
-  pub commands : List Command
-  pub line : IsBadLine text number commands
-  pub written : Appends written_before written_now (answers first_world (events_of commands))
+  pub transcript : IsTranscript run written_before written_now
 
 -- some lines at the front were read, and what was written is a front of their answers
 pub record IsBrokenOff (text : List ℕ) (written_before written_now : Option (List ℕ)) : Type 0 where
@@ -71,10 +69,8 @@ pub record IsBrokenOff (text : List ℕ) (written_before written_now : Option (L
 pub record IsFront (text : List ℕ) (written_before written_now : Option (List ℕ)) : Type 0 where
   pub run : List (List ℕ)
   pub behind : List (List ℕ)
-  pub commands : List Command
   pub lines : lines_of text ≡ run ++ behind
-  pub read : AreCommands CENTRES run commands
-  pub written : Appends written_before written_now (answers first_world (events_of commands))
+  pub transcript : IsTranscript run written_before written_now
 
 -- What a play made of the text that it read: too long is exactly a text of one byte more than a script may have, done
 -- says that all the source had was read and run, a bad line is the first that is none of the forms, a fault of the
@@ -96,55 +92,3 @@ IsNotRun Done = ⊥
 IsNotRun (BadLine number) = ⊥
 IsNotRun WriteFault = ⊥
 IsNotRun Memory = ⊥
-
--- why a text was not read to its end
-abbrev pub IsReadEnd : List ℕ → ℕ → ℕ → Status → Type 0
-IsReadEnd text faults_before faults_now TooLong = length text ≡ longest_script + 1
-IsReadEnd text faults_before faults_now ReadFault = (length text ≤ longest_script) × Rose faults_before faults_now
-IsReadEnd text faults_before faults_now Memory = text ≡ []
-IsReadEnd text faults_before faults_now Done = ⊥
-IsReadEnd text faults_before faults_now Usage = ⊥
-IsReadEnd text faults_before faults_now (BadLine number) = ⊥
-IsReadEnd text faults_before faults_now WriteFault = ⊥
-
--- why a text's lines were not all run
-abbrev pub IsRunEnd : List ℕ → Option (List ℕ) → Option (List ℕ) → ℕ → ℕ → Status → Type 0
-IsRunEnd text before now faults_before faults_now (BadLine number) = IsCutShort text number before now
-IsRunEnd text before now faults_before faults_now WriteFault = Rose faults_before faults_now
-IsRunEnd text before now faults_before faults_now Memory = IsFront text before now
-IsRunEnd text before now faults_before faults_now Done = ⊥
-IsRunEnd text before now faults_before faults_now Usage = ⊥
-IsRunEnd text before now faults_before faults_now ReadFault = ⊥
-IsRunEnd text before now faults_before faults_now TooLong = ⊥
-
--- why a line was not run
-abbrev pub IsLineEnd : List ℕ → ℕ → Option (List ℕ) → Option (List ℕ) → ℕ → ℕ → Status → Type 0
-IsLineEnd line number before now faults_before faults_now (BadLine bad) = (bad ≡ number) × ((command : Command) → Reads CENTRES line command → ⊥) × (now ≡ before)
-IsLineEnd line number before now faults_before faults_now WriteFault = Rose faults_before faults_now
-IsLineEnd line number before now faults_before faults_now Memory = now ≡ before
-IsLineEnd line number before now faults_before faults_now Done = ⊥
-IsLineEnd line number before now faults_before faults_now Usage = ⊥
-IsLineEnd line number before now faults_before faults_now ReadFault = ⊥
-IsLineEnd line number before now faults_before faults_now TooLong = ⊥
-
--- why an event's answer was not written
-abbrev pub IsEventEnd : Option (List ℕ) → Option (List ℕ) → ℕ → ℕ → Status → Type 0
-IsEventEnd before now faults_before faults_now WriteFault = Rose faults_before faults_now
-IsEventEnd before now faults_before faults_now Memory = now ≡ before
-IsEventEnd before now faults_before faults_now (BadLine number) = ⊥
-IsEventEnd before now faults_before faults_now Done = ⊥
-IsEventEnd before now faults_before faults_now Usage = ⊥
-IsEventEnd before now faults_before faults_now ReadFault = ⊥
-IsEventEnd before now faults_before faults_now TooLong = ⊥
-
--- a line was run: it reads as a command, and for each world that the network stood for it stands for the next, and
--- the command's answer was written
-abbrev pub HasRun : List ℕ → State → State → Option (List ℕ) → Option (List ℕ) → Type 0
-HasRun line old new before now = (command : Command) × Reads CENTRES line command
-    × ((w : World) → StandsFor old w → StandsFor new (after w (events_of (command ∷ []))) × Appends before now (answers w (events_of (command ∷ []))))
-
--- a line was begun: it reads as a command, and for each world that the network stood for a front of the command's
--- answer was written
-abbrev pub HasBegun : List ℕ → State → Option (List ℕ) → Option (List ℕ) → Type 0
-HasBegun line old before now = (command : Command) × Reads CENTRES line command
-    × ((w : World) → StandsFor old w → (count : ℕ) × Appends before now (take count (answers w (events_of (command ∷ [])))))

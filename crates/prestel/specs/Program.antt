@@ -4,10 +4,10 @@ use Rattle.std.specs.Io.KnownBytes.{Appends}
 use Rattle.pv_outside.specs.Counts.{Rose}
 use Rattle.pv_outside.specs.declared.status.Status.{Status}
 use Rattle.pv_outside.specs.declared.status.Status.TheVariants.{Done, Usage, BadLine, ReadFault, WriteFault, Memory, TooLong}
-use Rattle.pv_network.specs.Standing.{State}
 use Rattle.prestel.specs.declared.streams.StandardOutput.{StandardOutput}
 use Rattle.prestel.specs.Output.{given, passed_on, waiting}
-use Rattle.prestel.specs.Play.{longest_script, IsWhole, IsPlayed, IsCutShort, IsBrokenOff, IsFront}
+use Rattle.prestel.specs.Grammar.{lines_of}
+use Rattle.prestel.specs.Play.{longest_script, IsWhole, IsTranscript, IsCutShort, IsBrokenOff, IsFront}
 
 -- how it may end that a text is told: the writer itself has the whole of it, and nothing waits, or the output failed behind
 -- a front of it
@@ -27,7 +27,7 @@ IsToldOf contents text TooLong before now = ⊥
 pub record IsRunOf {W : Type 0} (contents : W → Option (List ℕ)) (text : List ℕ) (status : Status) (left : Option (List ℕ)) (ended : Bool) (before now : StandardOutput W) : Type 0 where
   pub within : length text ≤ longest_script + 1
   pub too_long : (status ≡ TooLong) ↔ (length text ≡ longest_script + 1)
-  pub done : status ≡ Done → IsTrue ended × IsWhole left text × ((network : State) × IsPlayed text network (given contents before) (passed_on contents now)) × (waiting now ≡ [])
+  pub done : status ≡ Done → IsTrue ended × IsWhole left text × IsTranscript (lines_of text) (given contents before) (passed_on contents now) × (waiting now ≡ [])
   pub bad_line : (number : ℕ) → status ≡ BadLine number → IsTrue ended × IsWhole left text × IsCutShort text number (given contents before) (passed_on contents now) × (waiting now ≡ [])
   pub write_fault : status ≡ WriteFault → IsTrue ended × IsWhole left text × IsBrokenOff text (given contents before) (given contents now)
   pub memory : status ≡ Memory → IsFront text (given contents before) (given contents now) × ((waiting now ≡ []) ⊎ Rose before.faults now.faults)

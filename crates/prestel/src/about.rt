@@ -10,7 +10,7 @@ const HELP: &str = "usage: prestel play 1 < SCRIPT
        prestel --version
 
 Runs the script that standard input holds on a viewdata network of one
-retrieval centre, and writes an answer for each of its lines. The 1 is the
+retrieval centre, and writes an answer to each of its events. The 1 is the
 number of centres; no other is taken so far.
 
 Exit status:

@@ -4,7 +4,8 @@ ghost use Rattle.pv_outside.specs.Counts.{Rose};
 ghost use Rattle.pv_network.specs.Standing.{StandsFor, CanHappen};
 ghost use Rattle.pv_network.specs.Step.{happens};
 ghost use Rattle.pv_network.specs.World.{World};
-ghost use Rattle.prestel.specs.Play.{play_words, HasRead, IsPlayOf, IsPlayed, IsBrokenOff, IsNotRun, IsRunEnd, IsLineEnd, IsEventEnd, HasRun, HasBegun, first_world};
+ghost use Rattle.prestel.specs.Play.{play_words, HasRead, IsPlayOf, IsPlayed, IsBrokenOff, IsNotRun, first_world};
+ghost use Rattle.prestel.specs.Parts.{IsRunEnd, IsLineEnd, IsEventEnd, HasRun, HasBegun};
 ghost use Rattle.prestel.specs.Transcript.{answer_text};
 
 use crate::answer::push_answer;

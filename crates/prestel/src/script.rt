@@ -1,8 +1,9 @@
 ghost use Rattle.std.specs.Prelude.{◌≡◌, ℕ, ◌+◌, ◌<◌, ◌≤◌, IsTrue, List, ◌∷◌, ◌++◌, length, take, MatchResult, IfOk, IfErr};
-ghost use Rattle.std.specs.Io.KnownBytes.{Appends, Consumes, Keeps, IsAtEnd};
+ghost use Rattle.std.specs.Io.KnownBytes.{Keeps, IsAtEnd};
 ghost use Rattle.pv_outside.specs.Counts.{Rose};
 ghost use Rattle.prestel.specs.Grammar.{lines_of};
-ghost use Rattle.prestel.specs.Play.{HasRead, IsWhole, IsReadEnd};
+ghost use Rattle.prestel.specs.Parts.{IsReadEnd};
+ghost use Rattle.prestel.specs.Play.{HasRead, IsWhole};
 
 use crate::cut::cut_at;
 use pv_outside::{Failed, Source, Status};

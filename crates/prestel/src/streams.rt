@@ -33,6 +33,14 @@ impl<R: Read + Drop> StandardInput<R> {
             ended: false,
         }
     }
+
+    /// The reader itself.
+    #[cfg(test)]
+    pub fn reader(&self) -> &R
+        ensures { result.now ≡ self.now.reader }
+    {
+        &self.reader
+    }
 }
 
 impl<R: Read + Drop> Source for StandardInput<R> {

@@ -291,7 +291,7 @@ fn help_and_the_version_are_asked_for_by_one_word(rt: HostRuntime) -> Result<(),
 }
 
 /// A writer that takes at most three bytes at a time, and of which the call of one number fails. As a
-/// reader it gives what it holds again and again.
+/// reader it gives what it holds, and then the end.
 #[derive(Drop)]
 struct Balky {
     bytes: Vec<u8>,
@@ -315,7 +315,9 @@ impl Read for Balky {
         if self.calls == self.failing {
             return Err(ErrorKind::BrokenPipe.into());
         }
-        self.bytes.as_slice().read(into)
+        let count = self.bytes.as_slice().read(into)?;
+        self.bytes.drain(..count);
+        Ok(count)
     }
 }
 
@@ -417,5 +419,22 @@ fn a_reader_that_fails_in_mid_stream_is_a_read_fault(rt: HostRuntime) -> Result<
     let status = run_program(alloc, &words, &mut input, &mut out);
     assert_eq!(rt; status, Status::ReadFault);
     assert!(rt; out.writer().is_empty());
+    Ok(())
+}
+
+#[test]
+fn nothing_is_read_behind_the_end(rt: HostRuntime) -> Result<(), Fail> {
+    let alloc = rt.alloc();
+    let words = texts(alloc, &["play", "1"])?;
+    let cases: [(&[u8], u64); 2] = [(b"", 1), (TWO_SEEDS, 2)];
+    for (script, calls) in cases {
+        let mut reader = Balky::new(alloc, 0);
+        reader.bytes.extend_from_slice(script)?;
+        let mut input = StandardInput::new(reader);
+        let mut out = StandardOutput::new(alloc, Vec::new(alloc))?;
+        let status = run_program(alloc, &words, &mut input, &mut out);
+        assert_eq!(rt; status, Status::Done);
+        assert_eq!(rt; input.reader().calls, calls);
+    }
     Ok(())
 }
