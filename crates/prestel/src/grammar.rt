@@ -111,21 +111,16 @@ fn number_of(text: &[u8]) -> Option<u64>
     ensures found { IfSome result (λ number. text.now ≡ decimal number) }
     ensures only { (number : ℕ) → number < 2 ^ 64 → text.now ≡ decimal number → result ≡ Some number }
 {
-    let number = read_number(text)?;
+    let Ok(digits) = std::str::from_utf8(text) else {
+        return None;
+    };
+    let Ok(number) = digits.parse() else {
+        return None;
+    };
     if Buffer::new().format(number).as_bytes() == text {
         Some(number)
     } else {
         None
-    }
-}
-
-/// The number that a text writes in decimal; it may also be found where the text is not canonical.
-fn read_number(text: &[u8]) -> Option<u64>
-    ensures { (number : ℕ) → number < 2 ^ 64 → text.now ≡ decimal number → result ≡ Some number }
-{
-    match std::str::from_utf8(text) {
-        Ok(digits) => digits.parse().ok(),
-        Err(_) => None,
     }
 }
 
