@@ -1,5 +1,5 @@
 ghost use Rattle.std.specs.Prelude.{◌≡◌, ◌==◌, ◌&&◌, ◌≤◌, nat_lt, false, [], IfOk, IsErr, OnOk, None};
-ghost use Rattle.std.specs.Io.Buffered.{writer_inner, writer_capacity, writer_contents};
+ghost use Rattle.std.specs.Io.Buffered.{writer_inner, writer_capacity};
 ghost use Rattle.std.specs.Io.KnownBytes.{Keeps};
 ghost use Rattle.pv_outside.specs.Counts.{Rose};
 ghost use Rattle.prestel.specs.Output.{given, waiting};
@@ -121,7 +121,7 @@ impl<W: Write + Drop> StandardOutput<W> {
 impl<W: Write + Drop> Sink for StandardOutput<W> {
     ghost write_faults = { λ s. s.faults };
 
-    ghost written = { λ s. writer_contents W.contents s.writer };
+    ghost written = { given W.contents };
 
     fn write_all(&mut self, bytes: &[u8]) -> Result<(), Failed> {
         let mut at = 0;
