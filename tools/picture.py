@@ -1,10 +1,10 @@
 #!/usr/bin/env python3
 """Draws the screens of a transcript as a television shows them.
 
-    docs/picture.py examples/colours.transcript docs/colours.png
+    tools/picture.py examples/colours.transcript docs/colours.png
 
 Each line `screen BYTES` is read by a terminal, and what it shows is drawn below the one before: 40 columns of 24 rows,
-cut behind the last row that shows anything. Flashing and concealed cells are drawn as they are when they can be seen.
+cut after the last row that shows anything. Flashing and concealed cells are drawn as they are when they can be seen.
 
 It needs these packages of Debian: python3-pil fonts-dejavu-core. Run it with /usr/bin/python3 where another Python
 comes first.
