@@ -12,7 +12,7 @@ use Rattle.pv_network.specs.declared.event.Event.{Event}
 use Rattle.pv_network.specs.declared.event.Event.TheVariants.{Seed, Send, Deliver, View}
 use Rattle.pv_network.specs.declared.packet.Packet.{Packet}
 use Rattle.pv_network.specs.declared.record.Record.{Record}
-use Rattle.pv_network.specs.World.{World, centre_at}
+use Rattle.pv_network.specs.World.{World, centre_at, link_at}
 use Rattle.pv_network.specs.Step.{is_packets_full, next_edit, is_frames_full, seeded, next_number, packed, sent_number, sent, arrival_of, with_acknowledgement, with_taken, arrived, delivered_packet, delivered, happens, after}
 use Rattle.pv_network.specs.Run.{PutsCells, HaveMeaning}
 use Rattle.pv_network.proofs.Lists.{all_push}
@@ -27,7 +27,7 @@ meaning_seeded w name frame meaning have =
 
 -- what is sent leaves the edit list as it is
 edits_sent : (w : World) (c : ℕ) → (sent w c).0.edits ≡ w.edits
-edits_sent w c = choice (λ v. v.edits ≡ w.edits) (is_packets_full w) _ _ (λ _. refl) (λ _. numbered (next_number (centre_at w c).sending (length w.edits)))
+edits_sent w c = choice (λ v. v.edits ≡ w.edits) (is_packets_full w.links) _ _ (λ _. refl) (λ _. numbered (next_number (link_at w c).sending (length w.edits)))
   where
     pack : (number : ℕ) (found : Option Record) → (packed w c number found).0.edits ≡ w.edits
     pack number None = refl
@@ -39,11 +39,11 @@ edits_sent w c = choice (λ v. v.edits ≡ w.edits) (is_packets_full w) _ _ (λ 
 
 -- so does an acknowledgement
 edits_acknowledged : (w : World) (c : ℕ) → (with_acknowledgement w c).0.edits ≡ w.edits
-edits_acknowledged w c = choice (λ v. v.edits ≡ w.edits) (is_packets_full w) _ _ (λ _. refl) (λ _. refl)
+edits_acknowledged w c = choice (λ v. v.edits ≡ w.edits) (is_packets_full w.links) _ _ (λ _. refl) (λ _. refl)
 
 -- so does a packet that arrives, whatever the centre makes of it
 edits_delivered : (w : World) (c index : ℕ) → (delivered w c index).0.edits ≡ w.edits
-edits_delivered w c index = arrives (slice_get (centre_at w c).down index)
+edits_delivered w c index = arrives (slice_get (link_at w c).down index)
   where
     by : (number : ℕ) (arrival : Arrival) → (arrived w c number arrival).0.edits ≡ w.edits
     by number arrivals.Taken = edits_acknowledged (with_taken w c) c

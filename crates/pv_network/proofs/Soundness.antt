@@ -1,7 +1,7 @@
 -- What an event makes of a sound world is sound.
-use Rattle.std.proofs.Common.{◌≡◌, ℕ, zero, suc, ◌+◌, ◌<◌, ◌≤◌, Bool, true, false, cond, not, ◌&&◌, ltb, leb, eqb, List, [], ◌∷◌, ◌++◌, length, Option, Some, None, take, refl, sym, ap, subst, ◌∙◌, arith, inl, inr}
+use Rattle.std.proofs.Common.{◌≡◌, ℕ, zero, suc, ◌+◌, ◌<◌, ◌≤◌, Bool, true, false, cond, not, ◌&&◌, ltb, leb, eqb, List, [], ◌∷◌, ◌++◌, length, get_or, Option, Some, None, take, refl, sym, ap, subst, ◌∙◌, arith, inl, inr}
 use Rattle.std.specs.Prelude.{is_none, slice_get, replicate}
-use Rattle.std.specs.List.{AllByRecursion, list_any}
+use Rattle.std.specs.List.{list_any}
 use Rattle.std.proofs.lemmas.Bool.{leb-false, eqb-true}
 use Rattle.std.proofs.lemmas.List.{length-append, take-append-le}
 use Rattle.std.proofs.Math.Seq.{take-append_seam}
@@ -16,13 +16,13 @@ use Rattle.pv_network.specs.declared.packet.Packet.{Packet}
 use Rattle.pv_network.specs.declared.record.Record.{Record}
 use Rattle.pv_network.specs.declared.record.TheConstants.{OPERATOR}
 use Rattle.pv_network.specs.Edits.{puts, frame_at, frame_count, IsNumbered}
-use Rattle.pv_network.specs.World.{World, Centre, Acknowledged, new_centre, start, centre_at, with_centre}
-use Rattle.pv_network.specs.Step.{is_packets_full, next_edit, with_edit, is_frames_full, seeded, next_number, with_packet, packed, sent_number, sent, arrival_of, with_acknowledgement, with_taken, arrived, delivered_packet, delivered, happens, after}
+use Rattle.pv_network.specs.World.{World, Centre, Link, Acknowledged, new_centre, new_link, start, centre_at, link_at, with_centre, with_link}
+use Rattle.pv_network.specs.Step.{is_packets_full, next_edit, with_edit, is_frames_full, seeded, next_number, with_packet, with_count, packed, sent_number, sent, arrival_of, with_acknowledgement, with_taken, arrived, delivered_packet, delivered, happens, after}
 use Rattle.pv_network.specs.OneList.{IsInPlace, receipt, receipts_from, OneList}
 use Rattle.pv_network.specs.Run.{MayFollow, IsRun}
 use Rattle.pv_network.specs.Sound.{IsGenuine, IsSoundCentre, IsSound}
 use Rattle.pv_network.proofs.Counts.{none-frame_at, frame_count-push, last_number-run}
-use Rattle.pv_network.proofs.Lists.{all_push, all_set, all_at, all_get, all_weaken, get_front, get_push, get_last}
+use Rattle.pv_network.proofs.Lists.{all_push, set_at, all_get, all_weaken, get_front, get_push, get_last}
 
 -- what holds of the world on each side of a test holds of the one that it chooses
 pub choice : {A : Type 0} (P : World → Type 0) (b : Bool) (x y : World × A) → (b ≡ true → P x.0) → (b ≡ false → P y.0) → P (cond b x y).0
@@ -32,24 +32,33 @@ choice P false x y here there = there refl
 -- ---- a centre
 
 -- a centre that nothing has reached is sound beside any list
-sound_new : (edits : List Record) → IsSoundCentre edits new_centre
+sound_new : (edits : List Record) → IsSoundCentre edits new_centre new_link
 sound_new edits = record { within = omega arith; packets = tt; acknowledged = tt; heard = omega arith }
 
--- each centre of a sound world is sound, and past the last so is a new one
-pub sound_at : (w : World) (c : ℕ) → IsSound w → IsSoundCentre w.edits (centre_at w c)
-sound_at w c sound = all_at (IsSoundCentre w.edits) w.centres c new_centre sound.centres (sound_new w.edits)
+module _ (w : World) (c : ℕ) (sound : IsSound w) where
+  -- another sound centre in the place of one
+  sound_with_centre : (centre : Centre) → IsSoundCentre w.edits centre (link_at w c) → IsSound (with_centre w c centre)
+  sound_with_centre centre here = record {
+    run = sound.run;
+    numbered = sound.numbered;
+    records = sound.records;
+    frames = sound.frames;
+    acknowledged = sound.acknowledged;
+    once = sound.once;
+    centres = set_at (λ k centre. IsSoundCentre w.edits centre (link_at w k)) w.centres c centre new_centre sound.centres here;
+  }
 
--- another sound centre in the place of one
-sound_with : (w : World) (c : ℕ) (centre : Centre) → IsSound w → IsSoundCentre w.edits centre → IsSound (with_centre w c centre)
-sound_with w c centre sound here = record {
-  run = sound.run;
-  numbered = sound.numbered;
-  records = sound.records;
-  frames = sound.frames;
-  acknowledged = sound.acknowledged;
-  once = sound.once;
-  centres = all_set (IsSoundCentre w.edits) w.centres c centre sound.centres here;
-}
+  -- another sound link in the place of one
+  sound_with_link : (link : Link) → IsSoundCentre w.edits (centre_at w c) link → IsSound (with_link w c link)
+  sound_with_link link here = record {
+    run = sound.run;
+    numbered = sound.numbered;
+    records = sound.records;
+    frames = sound.frames;
+    acknowledged = sound.acknowledged;
+    once = sound.once;
+    centres = set_at (λ k link. IsSoundCentre w.edits (centre_at w k) link) w.links c link new_link sound.centres here;
+  }
 
 -- ---- seed
 
@@ -62,10 +71,10 @@ genuine_longer : (edits more : List Record) (packet : Packet) → IsGenuine edit
 genuine_longer edits more packet is = get_front edits more packet.number packet.edit is
 
 -- a centre stays sound as the list grows
-centre_longer : (edits more : List Record) (centre : Centre) → IsSoundCentre edits centre → IsSoundCentre (edits ++ more) centre
-centre_longer edits more centre sound = record {
+centre_longer : (edits more : List Record) (centre : Centre) (link : Link) → IsSoundCentre edits centre link → IsSoundCentre (edits ++ more) centre link
+centre_longer edits more centre link sound = record {
   within = omega (arith, sound.within, length-append edits more);
-  packets = all_weaken (IsGenuine edits) (IsGenuine (edits ++ more)) (genuine_longer edits more) centre.down sound.packets;
+  packets = all_weaken (IsGenuine edits) (IsGenuine (edits ++ more)) (genuine_longer edits more) link.down sound.packets;
   acknowledged = sound.acknowledged;
   heard = sound.heard;
 }
@@ -132,7 +141,7 @@ sound_edit w name frame sound frames records =
           (edit, get_last w.edits edit, refl, refl);
       once = ap (λ (l : List Acknowledged). l ++ receipt edit (length w.edits) ∷ []) sound.once
           ∙ ap (λ (n : ℕ). receipts_from 0 w.edits ++ receipt edit n ∷ []) (omega arith) ∙ sym (receipts-push 0 w.edits edit);
-      centres = all_weaken (IsSoundCentre w.edits) (IsSoundCentre (w.edits ++ edit ∷ [])) (centre_longer w.edits (edit ∷ [])) w.centres sound.centres;
+      centres = λ c. centre_longer w.edits (edit ∷ []) (centre_at w c) (link_at w c) (sound.centres c);
     }
 
 -- a sound world stays sound where a frame is put, or refused
@@ -144,19 +153,19 @@ sound_seeded w name frame sound =
 -- ---- send
 
 -- a sound world stays sound with a packet that carries the list's record of its number
-sound_packet : (w : World) (c number : ℕ) (edit : Record) → IsSound w → slice_get w.edits number ≡ Some edit → IsSound (with_centre w c (with_packet (centre_at w c) number edit))
+pub sound_packet : (w : World) (c number : ℕ) (edit : Record) → IsSound w → slice_get w.edits number ≡ Some edit → IsSound (with_link w c (with_packet (link_at w c) number edit))
 sound_packet w c number edit sound is =
-    let here = sound_at w c sound in
-    sound_with w c (with_packet (centre_at w c) number edit) sound (record {
+    let here = sound.centres c in
+    sound_with_link w c sound (with_packet (link_at w c) number edit) (record {
       within = here.within;
-      packets = all_push (IsGenuine w.edits) (centre_at w c).down (record { number = number; edit = edit }) here.packets is;
+      packets = all_push (IsGenuine w.edits) (link_at w c).down (record { number = number; edit = edit }) here.packets is;
       acknowledged = here.acknowledged;
       heard = here.heard;
     })
 
 -- a sound world stays sound where the next record is packed, or there is none to pack
-pub sound_sent : (w : World) (c : ℕ) → IsSound w → IsSound (sent w c).0
-sound_sent w c sound = choice IsSound (is_packets_full w) _ _ (λ _. sound) (λ _. numbered (next_number (centre_at w c).sending (length w.edits)))
+sound_sent : (w : World) (c : ℕ) → IsSound w → IsSound (sent w c).0
+sound_sent w c sound = choice IsSound (is_packets_full w.links) _ _ (λ _. sound) (λ _. numbered (next_number (link_at w c).sending (length w.edits)))
   where
     pack : (number : ℕ) (found : Option Record) → slice_get w.edits number ≡ found → IsSound (packed w c number found).0
     pack number None is = sound
@@ -168,25 +177,29 @@ sound_sent w c sound = choice IsSound (is_packets_full w) _ _ (λ _. sound) (λ 
 
 -- ---- deliver
 
--- a sound world stays sound where a centre acknowledges what it has taken
-pub sound_acknowledged : (w : World) (c : ℕ) → IsSound w → IsSound (with_acknowledgement w c).0
-sound_acknowledged w c sound =
-    let here = sound_at w c sound in
-    choice IsSound (is_packets_full w) _ _ (λ _. sound) (λ _. sound_with w c _ sound (record {
+-- a sound world stays sound with a centre's count on its link
+pub sound_count : (w : World) (c : ℕ) → IsSound w → IsSound (with_link w c (with_count (link_at w c) (centre_at w c).number))
+sound_count w c sound =
+    let here = sound.centres c in
+    sound_with_link w c sound _ (record {
       within = here.within;
       packets = here.packets;
-      acknowledged = all_push (λ n. n ≤ (centre_at w c).number) (centre_at w c).up (centre_at w c).number here.acknowledged (omega arith);
+      acknowledged = all_push (λ n. n ≤ (centre_at w c).number) (link_at w c).up (centre_at w c).number here.acknowledged (omega arith);
       heard = here.heard;
-    }))
+    })
+
+-- a sound world stays sound where a centre acknowledges what it has taken
+sound_acknowledged : (w : World) (c : ℕ) → IsSound w → IsSound (with_acknowledgement w c).0
+sound_acknowledged w c sound = choice IsSound (is_packets_full w.links) _ _ (λ _. sound) (λ _. sound_count w c sound)
 
 -- the record that comes next is one of the list's
 pub sound_taken : (w : World) (c : ℕ) (packet : Packet) → IsSound w → IsGenuine w.edits packet → packet.number ≡ (centre_at w c).number → IsSound (with_taken w c)
 sound_taken w c packet sound is next =
-    let here = sound_at w c sound in
-    sound_with w c _ sound (record {
+    let here = sound.centres c in
+    sound_with_centre w c sound _ (record {
       within = omega (arith, slice_get_within w.edits packet.number packet.edit is, next);
       packets = here.packets;
-      acknowledged = all_weaken (λ n. n ≤ (centre_at w c).number) (λ n. n ≤ (centre_at w c).number + 1) (λ n le. omega arith) (centre_at w c).up here.acknowledged;
+      acknowledged = all_weaken (λ n. n ≤ (centre_at w c).number) (λ n. n ≤ (centre_at w c).number + 1) (λ n le. omega arith) (link_at w c).up here.acknowledged;
       heard = omega (arith, here.heard);
     })
 
@@ -202,7 +215,7 @@ taken_is_next taken limit number is = next (eqb number taken) (leb limit taken) 
 
 -- a sound world stays sound whatever packet arrives
 pub sound_delivered : (w : World) (c index : ℕ) → IsSound w → IsSound (delivered w c index).0
-sound_delivered w c index sound = arrives (slice_get (centre_at w c).down index) refl
+sound_delivered w c index sound = arrives (slice_get (link_at w c).down index) refl
   where
     by : (packet : Packet) (arrival : Arrival) → IsGenuine w.edits packet → arrival_of (centre_at w c).number w.record_limit packet.number ≡ arrival → IsSound (arrived w c packet.number arrival).0
     by packet arrivals.Taken is how = sound_acknowledged (with_taken w c) c (sound_taken w c packet sound is (taken_is_next (centre_at w c).number w.record_limit packet.number how).0)
@@ -210,9 +223,9 @@ sound_delivered w c index sound = arrives (slice_get (centre_at w c).down index)
     by packet arrivals.Early is how = sound_acknowledged w c sound
     by packet arrivals.Full is how = sound
 
-    arrives : (found : Option Packet) → slice_get (centre_at w c).down index ≡ found → IsSound (delivered_packet w c found).0
+    arrives : (found : Option Packet) → slice_get (link_at w c).down index ≡ found → IsSound (delivered_packet w c found).0
     arrives None is = sound
-    arrives (Some packet) is = by packet _ (all_get (IsGenuine w.edits) (centre_at w c).down index packet (sound_at w c sound).packets is) refl
+    arrives (Some packet) is = by packet _ (all_get (IsGenuine w.edits) (link_at w c).down index packet (sound.centres c).packets is) refl
 
 -- ---- all
 
@@ -232,9 +245,10 @@ sound_after w (event ∷ events) sound = sound_after (happens w event).0 events 
 pub sound_start : (centres frames records : ℕ) → IsSound (start centres frames records)
 sound_start centres frames records = record { run = λ place edit is. absurd cc; numbered = λ place edit is. absurd cc; records = omega arith; frames = omega arith; acknowledged = tt; once = refl; centres = new_ones centres }
   where
-    new_ones : (n : ℕ) → AllByRecursion (IsSoundCentre []) (replicate n new_centre)
-    new_ones zero = tt
-    new_ones (suc n) = (sound_new [], new_ones n)
+    new_ones : (n c : ℕ) → IsSoundCentre [] (get_or (replicate n new_centre) c new_centre) (get_or (replicate n new_link) c new_link)
+    new_ones zero c = sound_new []
+    new_ones (suc n) zero = sound_new []
+    new_ones (suc n) (suc c) = new_ones n c
 
 -- a sound world has one list
 pub one_list : (w : World) → IsSound w → OneList w
@@ -243,5 +257,5 @@ one_list w sound = record {
   numbered = sound.numbered;
   kept = sound.acknowledged;
   once = sound.once;
-  fronts = all_weaken (IsSoundCentre w.edits) (λ centre. centre.number ≤ length w.edits) (λ centre here. here.within) w.centres sound.centres;
+  fronts = λ c. (sound.centres c).within;
 }

@@ -1,4 +1,3 @@
-pub mod Counting
 pub mod Edits
 pub mod Listing
 pub mod OneList

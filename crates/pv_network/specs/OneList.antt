@@ -2,7 +2,7 @@
 use Rattle.std.specs.Prelude.{◌≡◌, ℕ, ◌+◌, ◌≤◌, List, [], ◌∷◌, length, Some, slice_get}
 use Rattle.std.specs.List.{AllByRecursion}
 use Rattle.pv_network.specs.declared.record.Record.{Record}
-use Rattle.pv_network.specs.World.{World, Acknowledged}
+use Rattle.pv_network.specs.World.{World, Acknowledged, centre_at}
 use Rattle.pv_network.specs.Edits.{IsNumbered}
 use Rattle.pv_network.specs.Run.{IsRun}
 
@@ -27,4 +27,4 @@ pub record OneList (w : World) : Type 0 where
   pub numbered : IsNumbered w.edits
   pub kept : AllByRecursion (IsInPlace w.edits) w.acknowledged
   pub once : w.acknowledged ≡ receipts_from 0 w.edits
-  pub fronts : AllByRecursion (λ centre. centre.number ≤ length w.edits) w.centres
+  pub fronts : (c : ℕ) → (centre_at w c).number ≤ length w.edits

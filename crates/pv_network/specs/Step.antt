@@ -15,11 +15,11 @@ use Rattle.pv_network.specs.declared.outcome.Outcome.{Outcome}
 use Rattle.pv_network.specs.declared.outcome.Outcome.TheVariants.{Reply, Shown, Idle, PacketsFull, NoPacket, SentRecord, Taken, Old, Early, Full, NotHeld}
 use Rattle.pv_network.specs.Edits.{frame_at, frame_count, last_number}
 use Rattle.pv_network.specs.Replies.{stored_reply, frames_full_reply, full_reply}
-use Rattle.pv_network.specs.World.{World, Centre, End, centre_at, with_centre, held, packet_count}
+use Rattle.pv_network.specs.World.{World, Centre, Link, End, centre_at, link_at, with_centre, with_link, held, packet_count}
 
--- the network has made as many packets as it may: 20,000
-abbrev pub is_packets_full : World → Bool
-is_packets_full w = nat_le 20000 (packet_count w)
+-- as many packets were made on the links as may be: 20,000
+abbrev pub is_packets_full : List Link → Bool
+is_packets_full links = nat_le 20000 (packet_count links)
 
 -- ---- seed
 
@@ -61,13 +61,13 @@ next_number end front = if nat_le front end.acknowledged then None
     else Some (if nat_le end.acknowledged end.next && nat_lt end.next front then end.next else end.acknowledged)
 
 -- the record goes down in a packet, and the end goes on behind it
-abbrev pub with_packet : Centre → ℕ → Record → Centre
-with_packet centre number edit = record centre { down = centre.down ++ record { number = number; edit = edit } ∷ []; sending = record { acknowledged = centre.sending.acknowledged; next = number + 1 } }
+abbrev pub with_packet : Link → ℕ → Record → Link
+with_packet link number edit = record link { down = link.down ++ record { number = number; edit = edit } ∷ []; sending = record { acknowledged = link.sending.acknowledged; next = number + 1 } }
 
 -- the record of a number is packed, if the list has one there
 abbrev pub packed : World → ℕ → ℕ → Option Record → World × Outcome
 packed w c number None = (w, Idle)
-packed w c number (Some edit) = (with_centre w c (with_packet (centre_at w c) number edit), SentRecord (length (centre_at w c).down) number)
+packed w c number (Some edit) = (with_link w c (with_packet (link_at w c) number edit), SentRecord (length (link_at w c).down) number)
 
 -- the record of the number that is sent next is packed, if there is such a number
 abbrev pub sent_number : World → ℕ → Option ℕ → World × Outcome
@@ -76,7 +76,7 @@ sent_number w c (Some number) = packed w c number (slice_get w.edits number)
 
 -- the next record is packed for a centre, unless no packet can be made
 abbrev pub sent : World → ℕ → World × Outcome
-sent w c = if is_packets_full w then (w, PacketsFull) else sent_number w c (next_number (centre_at w c).sending (length w.edits))
+sent w c = if is_packets_full w.links then (w, PacketsFull) else sent_number w c (next_number (link_at w c).sending (length w.edits))
 
 -- ---- deliver
 
@@ -85,15 +85,23 @@ abbrev pub arrival_of : ℕ → ℕ → ℕ → Arrival
 arrival_of taken limit number = if number == taken then (if nat_le limit taken then arrivals.Full else arrivals.Taken)
     else (if nat_lt number taken then arrivals.Old else arrivals.Early)
 
+-- an acknowledgement of so many records goes up
+abbrev pub with_count : Link → ℕ → Link
+with_count link count = record link { up = link.up ++ count ∷ [] }
+
 -- The centre sends its count up in an acknowledgement, unless no packet can be made: the world, and the
 -- acknowledgement's place.
 abbrev pub with_acknowledgement : World → ℕ → World × Option ℕ
-with_acknowledgement w c = if is_packets_full w then (w, None)
-    else (with_centre w c (record (centre_at w c) { up = (centre_at w c).up ++ (centre_at w c).number ∷ [] }), Some (length (centre_at w c).up))
+with_acknowledgement w c = if is_packets_full w.links then (w, None)
+    else (with_link w c (with_count (link_at w c) (centre_at w c).number), Some (length (link_at w c).up))
+
+-- a centre with the next record taken
+abbrev pub one_more : Centre → Centre
+one_more centre = record { number = centre.number + 1 }
 
 -- the world with the next record taken
 abbrev pub with_taken : World → ℕ → World
-with_taken w c = with_centre w c (record (centre_at w c) { number = (centre_at w c).number + 1 })
+with_taken w c = with_centre w c (one_more (centre_at w c))
 
 -- The centre takes the record that comes next; it acknowledges that one, and any that is old or early. A full centre
 -- does neither.
@@ -110,7 +118,7 @@ delivered_packet w c (Some packet) = arrived w c packet.number (arrival_of (cent
 
 -- the packet of an index arrives at a centre
 abbrev pub delivered : World → ℕ → ℕ → World × Outcome
-delivered w c index = delivered_packet w c (slice_get (centre_at w c).down index)
+delivered w c index = delivered_packet w c (slice_get (link_at w c).down index)
 
 -- ---- all
 

@@ -23,11 +23,14 @@ mod centre;
 mod edit_list;
 mod event;
 mod laws;
+mod link;
+mod links;
 mod network;
 mod outcome;
 mod packet;
 mod record;
 mod text;
+mod update;
 
 pub use event::Event;
 pub use laws::every_reachable_world_is_sound;

@@ -1,48 +1,38 @@
-ghost use Rattle.std.specs.Prelude.{◌≡◌, ℕ, ◌+◌, ◌<◌, ◌≤◌, ◌^◌, List, length, slice_get, slice_set, IsOk, IfOk, is_none, None, Some};
+ghost use Rattle.std.specs.Prelude.{◌≡◌, ℕ, ◌+◌, ◌<◌, ◌≤◌, ◌^◌, length, IsOk, IfOk};
 ghost use Rattle.pv_frame.specs.Content.{frame_of_row};
 ghost use Rattle.pv_screen.specs.Grid.{IsRow};
-ghost use Rattle.pv_network.specs.declared.packet.Packet.{Packet};
-ghost use Rattle.pv_network.specs.declared.packet.TheConstants.{MAX_PACKETS};
-ghost use Rattle.pv_network.specs.Edits.{frame_at};
 ghost use Rattle.pv_network.specs.World.{start};
 ghost use Rattle.pv_network.specs.Step.{seeded, sent, delivered, viewed, with_acknowledgement, happens};
-ghost use Rattle.pv_network.specs.Standing.{StandsFor, Performs, CanHappen, kept_at, with_down, with_held, with_up, with_record, refusal_of};
+ghost use Rattle.pv_network.specs.Standing.{StandsFor, Performs, CanHappen};
 
-use crate::centre::{Arrival, Centre, acknowledge_at, open_centres, pack_at, take_at};
-use crate::edit_list::EditList;
+use crate::centre::{Arrival, Centre, open_centres};
 use crate::event::Event;
+use crate::links::Links;
 use crate::outcome::{Outcome, Turn};
-use crate::packet::MAX_PACKETS;
-use crate::record::{OPERATOR, Record};
-use crate::text::Text;
-use pv_frame::CheckedFrame;
+use crate::update::UpdateCentre;
 use pv_outside::Limits;
-use pv_page::{AccountNo, FrameName};
+use pv_page::FrameName;
 use pv_screen::{Screen, compose};
 use std::alloc::{AllocError, Global};
 use std::marker::Model;
 
-/// One Update Centre and one to four retrieval centres, with every packet that was made between them.
+/// One Update Centre and one to four retrieval centres, with the links between them.
 #[derive(Debug, Drop)]
 pub struct Network {
-    limits: Limits,
-    edits: EditList,
-    // How many names have a frame, and how many packets were made.
-    frames: u32,
-    packets: usize,
+    update: UpdateCentre,
     centres: Vec<Centre>,
+    links: Links,
 }
 
 impl Model for Network {
+    ghost use Rattle.std.specs.Prelude.{◌≡◌, length};
     ghost use Rattle.pv_network.specs.Standing.{State};
 
     ghost Value = { State };
 
-    ghost use Rattle.pv_network.specs.Counting.{IsCounted};
+    ghost view = { λ n. record { update = n.update; centres = n.centres.items; links = n.links } };
 
-    ghost view = { λ n. record { edits = n.edits.edits; frame_limit = n.limits.frames; record_limit = n.limits.records; centres = n.centres.items } };
-
-    ghost invariant = { IsCounted };
+    ghost invariant = { λ n. length n.links ≡ length n.centres.items };
 }
 
 impl Network {
@@ -54,15 +44,10 @@ impl Network {
         ensures ok { IfOk result (λ network. StandsFor network (start centres limits.frames limits.records)) }
         ensures centres { IfOk result (λ network. length network.centres ≡ centres) }
     {
-        let records = limits.records as usize;
-        let edits = EditList::open(alloc, records)?;
-        let centres = open_centres(alloc, centres, records)?;
         Ok(Network {
-            limits,
-            edits,
-            frames: 0,
-            packets: 0,
-            centres,
+            update: UpdateCentre::open(alloc, limits)?,
+            centres: open_centres(alloc, centres, limits.records as usize)?,
+            links: Links::open(alloc, centres)?,
         })
     }
 
@@ -90,45 +75,7 @@ impl Network {
         ensures performs { Performs self.old self.new result (λ w. seeded w name (frame_of_row row.now)) }
         ensures centres { length self.new.centres ≡ length self.old.centres }
     {
-        let is_new = self.edits.last_of(name).is_none();
-        match self.refusal(is_new) {
-            Some(reply) => Outcome::Reply(reply),
-            None => {
-                let place = self.store(name, CheckedFrame::of_row(row), is_new);
-                Outcome::Reply(Text::stored(place))
-            }
-        }
-    }
-
-    /// Why the operator may put no frame more, under a name that is new or under one that has a frame.
-    fn refusal(&self, is_new: bool) -> Option<Text>
-        ensures { result ≡ refusal_of self.now is_new }
-    {
-        if is_new && self.frames >= self.limits.frames {
-            return Some(Text::frames_full(self.limits.frames as u64));
-        }
-        if self.edits.len() >= self.limits.records as usize {
-            return Some(Text::full(self.limits.records as u64));
-        }
-        None
-    }
-
-    /// Stores the operator's next record, and answers its place.
-    fn store(&mut self, name: FrameName, frame: CheckedFrame, is_new: bool) -> u64
-        requires new { is_new ≡ is_none (frame_at self.old.edits name) }
-        requires taken { refusal_of self.old is_new ≡ None }
-        ensures place { result ≡ length self.old.edits }
-        ensures stored { self.new ≡ with_record self.old name frame }
-    {
-        let place = self.edits.len();
-        self.edits.push(&Record {
-            editor: AccountNo::of_number(OPERATOR).unwrap(),
-            number: place as u32 + 1,
-            name,
-            frame,
-        });
-        self.frames += u32::from(is_new);
-        place as u64
+        self.update.seed(name, row)
     }
 
     /// Packs the next record for a centre.
@@ -137,16 +84,13 @@ impl Network {
         ensures performs { Performs self.old self.new result (λ w. sent w centre) }
         ensures centres { length self.new.centres ≡ length self.old.centres }
     {
-        if self.packets >= MAX_PACKETS {
+        if self.links.is_full() {
             return Outcome::PacketsFull;
         }
-        let front = self.edits.len() as u64;
-        let Some(number) = self.centres[centre].next_number(front) else {
+        let Some(number) = self.links.next_number(centre, self.update.count()) else {
             return Outcome::Idle;
         };
-        let edit = self.edits.get(number as usize);
-        let index = pack_at(&mut self.centres, centre, number, edit);
-        self.packets += 1;
+        let index = self.links.pack(centre, number, self.update.get(number));
         Outcome::SentRecord { index, number }
     }
 
@@ -156,13 +100,13 @@ impl Network {
         ensures performs { Performs self.old self.new result (λ w. delivered w centre index) }
         ensures centres { length self.new.centres ≡ length self.old.centres }
     {
-        let Some(packet) = self.centres[centre].packet(index) else {
+        let Some(packet) = self.links.packet(centre, index) else {
             return Outcome::NoPacket;
         };
         let number = packet.number;
         match self.centres[centre].arrival(number) {
             Arrival::Taken => {
-                self.take(centre, index);
+                self.centres[centre].take(&packet.edit);
                 let ack = self.acknowledge(centre);
                 Outcome::Taken { number, ack }
             }
@@ -195,18 +139,6 @@ impl Network {
         }
     }
 
-    /// A centre takes the record of a packet, which is the next one for it.
-    fn take(&mut self, centre: usize, index: u64)
-        requires there { centre < length self.old.centres }
-        requires room { length (kept_at self.old.centres centre).held < (kept_at self.old.centres centre).room }
-        requires made { index < length (kept_at self.old.centres centre).down }
-        ensures taken { (packet : Packet) → slice_get (kept_at self.old.centres centre).down index ≡ Some packet
-            → self.new ≡ record self.old { centres = slice_set self.old.centres centre (with_held (kept_at self.old.centres centre) packet.edit) } }
-        ensures centres { length self.new.centres ≡ length self.old.centres }
-    {
-        take_at(&mut self.centres, centre, index);
-    }
-
     /// A centre acknowledges what it has taken, unless no packet can be made, and the acknowledgement's
     /// index is answered.
     fn acknowledge(&mut self, centre: usize) -> Option<u64>
@@ -214,11 +146,12 @@ impl Network {
         ensures performs { Performs self.old self.new result (λ w. with_acknowledgement w centre) }
         ensures centres { length self.new.centres ≡ length self.old.centres }
     {
-        if self.packets >= MAX_PACKETS {
+        if self.links.is_full() {
             return None;
         }
-        let index = acknowledge_at(&mut self.centres, centre);
-        self.packets += 1;
-        Some(index)
+        Some(
+            self.links
+                .acknowledge(centre, self.centres[centre].count() as u64),
+        )
     }
 }

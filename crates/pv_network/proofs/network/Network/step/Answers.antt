@@ -1,0 +1,12 @@
+use Rattle.pv_network.proofs.network.Network.step.Goals as goal
+use Rattle.pv_network.proofs.network.Network.step.Goals.{in-Seed, in-Send, in-Deliver, in-View}
+
+-- event by event
+pub returns-clause-performs : goal.returns-clause-performs
+returns-clause-performs c =
+    elim c.match-event.branch [
+      | in-Seed b ↦ rw (b.in-Seed.is, b.self-is, b.result-is) b.seed.ensures.performs
+      | in-Send b ↦ rw (b.in-Send.is, b.self-is, b.result-is) b.send.ensures.performs
+      | in-Deliver b ↦ rw (b.in-Deliver.is, b.self-is, b.result-is) b.deliver.ensures.performs
+      | in-View b ↦ rw (b.in-View.is, b.self-is, b.result-is) b.view.ensures
+    ]
