@@ -3,13 +3,17 @@ use Rattle.std.proofs.Common.{◌≡◌, ℕ, [], ◌∷◌, Some, None, codes, 
 use Rattle.std.specs.Fmt.{digits}
 use Rattle.pv_frame.specs.Content.{blank}
 use Rattle.pv_network.specs.declared.centre.Arrival.TheVariants.{Taken, Old, Early, Full}
+use Rattle.pv_network.specs.declared.outcome.Outcome.{Outcome}
 use Rattle.pv_network.specs.declared.outcome.Outcome.TheVariants as outcomes
 use Rattle.pv_network.specs.declared.record.Record.{Record}
 use Rattle.pv_network.specs.declared.record.TheConstants.{OPERATOR}
 use Rattle.pv_network.specs.Edits.{frame_count, last_number, edit_at}
 use Rattle.pv_network.specs.Replies.{stored_reply, frames_full_reply, full_reply}
-use Rattle.pv_network.specs.Step.{arrival_of, next_number, seeded, sent}
-use Rattle.pv_network.specs.World.{start}
+use Rattle.pv_network.specs.Centre.{arrival_of}
+use Rattle.pv_network.specs.Link.{next_number}
+use Rattle.pv_network.specs.Step.{step_of_judgement, step_of_send}
+use Rattle.pv_network.specs.UpdateCentre.{judgement_of}
+use Rattle.pv_network.specs.World.{World, start}
 
 -- the operator's account is 0
 pub operator : OPERATOR ≡ 0
@@ -82,21 +86,25 @@ begins-again = refl
 pub all-acknowledged : next_number (record { acknowledged = 3; next = 3 }) 3 ≡ None
 all-acknowledged = refl
 
--- where the limit is one frame, a second name is refused
-pub second-name : (seeded (seeded (start 1 1 5) (record { page = 1; letter = 97 }) blank).0 (record { page = 1; letter = 98 }) blank).1 ≡ outcomes.Reply (codes "NO 5 FRAMES FULL 1")
-unfolding digits
-second-name = refl
+-- a judgement of a blank frame that the operator puts under a letter of page 1
+abbrev put : World → ℕ → World × Outcome
+put w letter = step_of_judgement w (judgement_of w.update OPERATOR (record { page = 1; letter = letter }) blank)
 
--- where both limits are met, the frame too many is told
-pub frames-first : (seeded (seeded (start 1 1 1) (record { page = 1; letter = 97 }) blank).0 (record { page = 1; letter = 98 }) blank).1 ≡ outcomes.Reply (codes "NO 5 FRAMES FULL 1")
+-- if the limit is one frame, a second name is refused
+pub second_name : (put (put (start 1 1 5) 97).0 98).1 ≡ outcomes.Reply (codes "NO 5 FRAMES FULL 1")
 unfolding digits
-frames-first = refl
+second_name = refl
+
+-- if both limits are met, the frame too many comes first
+pub frames_first : (put (put (start 1 1 1) 97).0 98).1 ≡ outcomes.Reply (codes "NO 5 FRAMES FULL 1")
+unfolding digits
+frames_first = refl
 
 -- a frame that is there may be edited up to the limit of records alone
-pub same-name : (seeded (seeded (start 1 1 1) (record { page = 1; letter = 97 }) blank).0 (record { page = 1; letter = 97 }) blank).1 ≡ outcomes.Reply (codes "NO 14 FULL 1")
+pub same_frame : (put (put (start 1 1 1) 97).0 97).1 ≡ outcomes.Reply (codes "NO 14 FULL 1")
 unfolding digits
-same-name = refl
+same_frame = refl
 
 -- there is nothing to send at the start
-pub idle-at-start : (sent (start 1 5 5) 0).1 ≡ outcomes.Idle
-idle-at-start = refl
+pub idle_at_start : (step_of_send (start 1 5 5) 0).1 ≡ outcomes.Idle
+idle_at_start = refl

@@ -2,7 +2,6 @@ pub mod Counts
 pub mod Facts
 pub mod Finding
 pub mod Lists
-pub mod Meaning
 pub mod Performing
 pub mod Pushes
 pub mod Soundness

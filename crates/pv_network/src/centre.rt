@@ -1,9 +1,8 @@
 ghost use Rattle.std.specs.Prelude.{◌≡◌, ℕ, ◌<◌, ◌≤◌, List, [], length, take, option_copied, Some, slice_get, slice_set, slice_index_or, replicate, IfOk};
 ghost use Rattle.pv_network.specs.declared.record.Record.{Record};
 ghost use Rattle.pv_network.specs.Edits.{edit_at};
-ghost use Rattle.pv_network.specs.Standing.{CentreStands, empty_index};
-ghost use Rattle.pv_network.specs.Step.{arrival_of, one_more};
-ghost use Rattle.pv_network.specs.World as Spec;
+ghost use Rattle.pv_network.specs.Centre.{CentreStands, empty_index, arrival_of, with_next};
+ghost use Rattle.pv_network.specs.Centre as Spec;
 
 use crate::edit_list::EditList;
 use crate::record::Record;
@@ -11,7 +10,7 @@ use pv_page::FrameName;
 use std::alloc::{AllocError, Global};
 use std::marker::Model;
 
-/// What a centre makes of a record that arrives.
+/// What a centre does with a record that arrives.
 #[derive(Clone, Copy, Debug, PartialEq, Eq)]
 pub enum Arrival {
     /// It is the next one, and is taken.
@@ -24,7 +23,7 @@ pub enum Arrival {
     Full,
 }
 
-/// A retrieval centre: the records that it has taken.
+/// A retrieval centre: the records that it has applied.
 #[derive(Debug, Drop)]
 pub struct Centre {
     held: EditList,
@@ -32,7 +31,7 @@ pub struct Centre {
 
 impl Model for Centre {
     ghost use Rattle.std.specs.Prelude.{length, reverse};
-    ghost use Rattle.pv_network.specs.Standing.{Index};
+    ghost use Rattle.pv_network.specs.Centre.{Index};
 
     ghost Value = { Index };
 
@@ -40,7 +39,7 @@ impl Model for Centre {
 }
 
 impl Centre {
-    /// A centre that nothing has reached, with room for so many records.
+    /// A centre that nothing has reached, with room for this many records.
     pub(crate) fn open(alloc: Global, room: usize) -> Result<Centre, AllocError>
         ensures { IfOk result (λ c. c ≡ empty_index room) }
     {
@@ -49,7 +48,7 @@ impl Centre {
         })
     }
 
-    /// How many records it has taken.
+    /// How many records it has applied.
     pub(crate) fn count(&self) -> usize
         ensures value { result ≡ self.now.count }
         ensures within { self.now.count ≤ self.now.limit }
@@ -57,17 +56,17 @@ impl Centre {
         self.held.len()
     }
 
-    /// The last record of a name that the centre has taken.
+    /// The last record of a name that the centre has applied.
     pub(crate) fn last_of(&self, name: FrameName) -> Option<&Record>
         ensures { (limit : ℕ) (edits : List Record) (centre : Spec.Centre) → CentreStands limit edits self.now centre
-            → option_copied result ≡ edit_at (take centre.number edits) name }
+            → option_copied result ≡ edit_at (take centre.applied edits) name }
     {
         self.held.last_of(name)
     }
 
-    /// What the centre makes of the record of a number.
+    /// What the centre does with the record of a number.
     pub(crate) fn arrival(&self, number: u64) -> Arrival
-        ensures { result ≡ arrival_of (self.now.count) self.now.limit number }
+        ensures { result ≡ arrival_of self.now.count self.now.limit number }
     {
         let count = self.held.len() as u64;
         if number == count {
@@ -87,13 +86,13 @@ impl Centre {
     pub(crate) fn take(&mut self, edit: &Record)
         requires { self.old.count < self.old.limit }
         ensures { (limit : ℕ) (edits : List Record) (centre : Spec.Centre) → CentreStands limit edits self.old centre
-            → slice_get edits centre.number ≡ Some edit.now → CentreStands limit edits self.new (one_more centre) }
+            → slice_get edits centre.applied ≡ Some edit.now → CentreStands limit edits self.new (with_next centre) }
     {
-        self.held.push(edit);
+        self.held.push(*edit);
     }
 }
 
-/// So many centres that nothing has reached, each with room for so many records.
+/// This many centres that nothing has reached, each with the same room for records.
 pub(crate) fn open_centres(alloc: Global, count: u8, room: usize) -> Result<Vec<Centre>, AllocError>
     ensures { IfOk result (λ centres. centres.items ≡ replicate count (empty_index room)) }
 {

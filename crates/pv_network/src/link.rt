@@ -1,15 +1,14 @@
 ghost use Rattle.std.specs.Prelude.{◌≡◌, ◌+◌, ◌<◌, ◌^◌, ℕ, length, option_copied, slice_get, IfOk};
 ghost use Rattle.pv_network.specs.declared.packet.TheConstants.{MAX_PACKETS};
-ghost use Rattle.pv_network.specs.Step.{next_number, with_packet, with_count};
-ghost use Rattle.pv_network.specs.World.{new_link};
+ghost use Rattle.pv_network.specs.Link.{new_link, next_number, with_packet, with_acknowledgement};
 
 use crate::packet::{MAX_PACKETS, Packet};
 use crate::record::Record;
 use std::alloc::{AllocError, Global};
 use std::marker::Model;
 
-/// The link between the Update Centre and a centre: the packets that were made for it both ways, and the end that
-/// sends down. All room is taken when it is opened.
+/// The link between the Update Centre and a centre: the packets that were made for it in both directions, and the end
+/// that sends down. `open` reserves all room.
 #[derive(Debug, Drop)]
 pub struct Link {
     down: Vec<Packet>,
@@ -21,7 +20,7 @@ pub struct Link {
 impl Model for Link {
     ghost use Rattle.std.specs.Prelude.{◌≤◌, vec_capacity};
     ghost use Rattle.pv_network.specs.declared.packet.TheConstants.{MAX_PACKETS};
-    ghost use Rattle.pv_network.specs.World as Spec;
+    ghost use Rattle.pv_network.specs.Link as Spec;
 
     ghost Value = { Spec.Link };
 
@@ -50,21 +49,21 @@ impl Link {
         self.down.get(index as usize)
     }
 
-    /// The number that is sent next, of those below the front.
-    pub(crate) fn next_number(&self, front: u64) -> Option<u64>
-        ensures { result ≡ next_number self.now.sending front }
+    /// The number that is sent next, of those below this count. `None` if all of them are acknowledged.
+    pub(crate) fn next_number(&self, count: u64) -> Option<u64>
+        ensures { result ≡ next_number self.now.sending count }
     {
-        if front <= self.acknowledged {
+        if count <= self.acknowledged {
             return None;
         }
-        if self.acknowledged <= self.next && self.next < front {
+        if self.acknowledged <= self.next && self.next < count {
             Some(self.next)
         } else {
             Some(self.acknowledged)
         }
     }
 
-    /// Packs a record, and answers the packet's index.
+    /// Packs a record, and returns the packet's index.
     pub(crate) fn pack(&mut self, number: u64, edit: &Record) -> u64
         requires room { length self.old.down < MAX_PACKETS }
         requires next { number + 1 < 2 ^ 64 }
@@ -80,11 +79,11 @@ impl Link {
         index
     }
 
-    /// Sends an acknowledgement of so many records up, and answers its index.
+    /// Sends an acknowledgement of this many records up, and returns its index.
     pub(crate) fn acknowledge(&mut self, count: u64) -> u64
         requires { length self.old.up < MAX_PACKETS }
         ensures index { result ≡ length self.old.up }
-        ensures made { self.new ≡ with_count self.old count }
+        ensures made { self.new ≡ with_acknowledgement self.old count }
     {
         let index = self.up.len() as u64;
         self.up.push_reserved(count);

@@ -1,6 +1,5 @@
 ghost use Rattle.std.specs.Prelude.{◌≡◌, ◌+◌, ◌<◌, ◌^◌, ℕ, false, length, replicate, option_copied, slice_get, slice_set, IfOk};
-ghost use Rattle.pv_network.specs.Step.{is_packets_full, next_number, with_packet, with_count};
-ghost use Rattle.pv_network.specs.World.{new_link, link_in};
+ghost use Rattle.pv_network.specs.Link.{new_link, link_in, is_packets_full, next_number, with_packet, with_acknowledgement};
 
 use crate::link::Link;
 use crate::packet::{MAX_PACKETS, Packet};
@@ -17,7 +16,7 @@ pub struct Links {
 
 impl Model for Links {
     ghost use Rattle.std.specs.Prelude.{◌≡◌, List};
-    ghost use Rattle.pv_network.specs.World as Spec;
+    ghost use Rattle.pv_network.specs.Link as Spec;
 
     ghost Value = { List Spec.Link };
 
@@ -27,7 +26,7 @@ impl Model for Links {
 }
 
 impl Links {
-    /// So many links on which nothing was sent.
+    /// This many links on which nothing was sent.
     pub(crate) fn open(alloc: Global, count: u8) -> Result<Links, AllocError>
         ensures { IfOk result (λ links. links ≡ replicate count new_link) }
     {
@@ -53,15 +52,15 @@ impl Links {
         self.links[link].packet(index)
     }
 
-    /// The number that a link sends next, of those below the front.
-    pub(crate) fn next_number(&self, link: usize, front: u64) -> Option<u64>
+    /// The number that a link sends next, of those below this count. `None` if all of them are acknowledged.
+    pub(crate) fn next_number(&self, link: usize, count: u64) -> Option<u64>
         requires { link < length self.now }
-        ensures { result ≡ next_number (link_in self.now link).sending front }
+        ensures { result ≡ next_number (link_in self.now link).sending count }
     {
-        self.links[link].next_number(front)
+        self.links[link].next_number(count)
     }
 
-    /// Packs a record on a link, and answers the packet's index.
+    /// Packs a record on a link, and returns the packet's index.
     pub(crate) fn pack(&mut self, link: usize, number: u64, edit: &Record) -> u64
         requires there { link < length self.old }
         requires room { is_packets_full self.old ≡ false }
@@ -74,12 +73,12 @@ impl Links {
         index
     }
 
-    /// Sends an acknowledgement of so many records up a link, and answers its index.
+    /// Sends an acknowledgement of this many records up a link, and returns its index.
     pub(crate) fn acknowledge(&mut self, link: usize, count: u64) -> u64
         requires there { link < length self.old }
         requires room { is_packets_full self.old ≡ false }
         ensures index { result ≡ length (link_in self.old link).up }
-        ensures made { self.new ≡ slice_set self.old link (with_count (link_in self.old link) count) }
+        ensures made { self.new ≡ slice_set self.old link (with_acknowledgement (link_in self.old link) count) }
     {
         let index = self.links[link].acknowledge(count);
         self.packets += 1;

@@ -1,15 +1,15 @@
-ghost use Rattle.std.specs.Prelude.{◌≡◌, ℕ, ◌+◌, ◌<◌, ◌≤◌, ◌^◌, length, IsOk, IfOk};
+ghost use Rattle.std.specs.Prelude.{◌≡◌, ℕ, ◌+◌, ◌<◌, ◌≤◌, ◌^◌, Bool, false, length, IsTrue, IsOk, IsErr, IfOk};
 ghost use Rattle.pv_frame.specs.Content.{frame_of_row};
 ghost use Rattle.pv_screen.specs.Grid.{IsRow};
 ghost use Rattle.pv_network.specs.World.{start};
-ghost use Rattle.pv_network.specs.Step.{seeded, sent, delivered, viewed, with_acknowledgement, happens};
 ghost use Rattle.pv_network.specs.Standing.{StandsFor, Performs, CanHappen};
+ghost use Rattle.pv_network.specs.Step.{happens, step_of_seed, frame_of_cells, step_of_send, step_of_deliver, step_of_view, step_of_acknowledging};
 
 use crate::centre::{Arrival, Centre, open_centres};
 use crate::event::Event;
 use crate::links::Links;
 use crate::outcome::{Outcome, Turn};
-use crate::update::UpdateCentre;
+use crate::update_centre::UpdateCentre;
 use pv_outside::Limits;
 use pv_page::FrameName;
 use pv_screen::{Screen, compose};
@@ -22,6 +22,8 @@ pub struct Network {
     update: UpdateCentre,
     centres: Vec<Centre>,
     links: Links,
+    // Whether a step was out of memory; every later step is too.
+    is_out: bool,
 }
 
 impl Model for Network {
@@ -30,58 +32,80 @@ impl Model for Network {
 
     ghost Value = { State };
 
-    ghost view = { λ n. record { update = n.update; centres = n.centres.items; links = n.links } };
+    ghost view = { λ n. record { update = n.update; centres = n.centres.items; links = n.links; is_out = n.is_out } };
 
     ghost invariant = { λ n. length n.links ≡ length n.centres.items };
 }
 
 impl Network {
     /// A network of one to four centres, on which nothing has happened, with these limits for each of
-    /// its nodes. All room is taken here; the only error is want of memory.
+    /// its nodes. It reserves all room; the only error is that memory ran out.
     pub fn open(alloc: Global, centres: u8, limits: Limits) -> Result<Network, AllocError>
         requires some { 1 ≤ centres }
         requires few { centres ≤ 4 }
         ensures ok { IfOk result (λ network. StandsFor network (start centres limits.frames limits.records)) }
         ensures centres { IfOk result (λ network. length network.centres ≡ centres) }
+        ensures within { IfOk result (λ network. network.is_out ≡ false) }
     {
         Ok(Network {
             update: UpdateCentre::open(alloc, limits)?,
             centres: open_centres(alloc, centres, limits.records as usize)?,
             links: Links::open(alloc, centres)?,
+            is_out: false,
         })
     }
 
-    /// Lets an event happen, and answers what came of it. The event's centre is one of the network's, and
-    /// its row is one of cells of 0 to 127. It takes no memory.
+    /// Lets an event happen, and returns what came of it. The event's centre is one of the network's, and
+    /// its row is one of cells of 0 to 127. The only error is that memory ran out: after it, every later
+    /// step returns it too. No event so far takes memory.
     pub fn step(&mut self, event: &Event) -> Result<Outcome, AllocError>
         requires { CanHappen self.old event.now }
-        ensures succeeds { IsOk result }
 
         // Whatever world the network stood for, it stands for the next one, and the outcome is that answer.
-        ensures performs { IfOk result (λ outcome. Performs self.old self.new outcome (λ w. happens w event.now)) }
+        ensures performs { IfOk result (λ outcome. (kept : Bool) × Performs self.old self.new outcome (λ w. happens w event.now kept)) }
         ensures centres { length self.new.centres ≡ length self.old.centres }
+
+        // A network that is not out of memory succeeds. One that is out of memory stays so.
+        ensures succeeds { self.old.is_out ≡ false → IsOk result × (self.new.is_out ≡ false) }
+        ensures out { IsTrue self.old.is_out → IsErr result }
+        ensures stays_out { IsErr result → IsTrue self.new.is_out }
     {
-        Ok(match *event {
-            Event::Seed { name, row } => self.seed(name, &row),
-            Event::Send { centre } => self.send(centre as usize),
-            Event::Deliver { centre, index } => self.deliver(centre as usize, index),
-            Event::View { centre, name } => self.view(centre as usize, name),
+        if self.is_out {
+            return Err(AllocError);
+        }
+        let outcome = self.happen(event);
+        self.is_out = outcome.is_err();
+        outcome
+    }
+
+    /// Lets an event happen.
+    fn happen(&mut self, event: &Event) -> Result<Outcome, AllocError>
+        requires { CanHappen self.old event.now }
+        ensures performs { IfOk result (λ outcome. (kept : Bool) × Performs self.old self.new outcome (λ w. happens w event.now kept)) }
+        ensures centres { length self.new.centres ≡ length self.old.centres }
+        ensures succeeds { IsOk result }
+    {
+        Ok(match event {
+            Event::Seed { name, row } => self.seed(*name, row),
+            Event::Send { centre } => self.send(*centre as usize),
+            Event::Deliver { centre, index } => self.deliver(*centre as usize, *index),
+            Event::View { centre, name } => self.view(*centre as usize, *name),
         })
     }
 
     /// The operator puts a row under a name.
     fn seed(&mut self, name: FrameName, row: &[u8; 40]) -> Outcome
         requires { IsRow row.now }
-        ensures performs { Performs self.old self.new result (λ w. seeded w name (frame_of_row row.now)) }
+        ensures performs { Performs self.old self.new result (λ w. step_of_seed w name (frame_of_cells row.now)) }
         ensures centres { length self.new.centres ≡ length self.old.centres }
     {
-        self.update.seed(name, row)
+        Outcome::Reply(self.update.seed(name, row))
     }
 
     /// Packs the next record for a centre.
     fn send(&mut self, centre: usize) -> Outcome
         requires { centre < length self.old.centres }
-        ensures performs { Performs self.old self.new result (λ w. sent w centre) }
+        ensures performs { Performs self.old self.new result (λ w. step_of_send w centre) }
         ensures centres { length self.new.centres ≡ length self.old.centres }
     {
         if self.links.is_full() {
@@ -97,7 +121,7 @@ impl Network {
     /// A packet arrives at a centre.
     fn deliver(&mut self, centre: usize, index: u64) -> Outcome
         requires { centre < length self.old.centres }
-        ensures performs { Performs self.old self.new result (λ w. delivered w centre index) }
+        ensures performs { Performs self.old self.new result (λ w. step_of_deliver w centre index) }
         ensures centres { length self.new.centres ≡ length self.old.centres }
     {
         let Some(packet) = self.links.packet(centre, index) else {
@@ -126,9 +150,10 @@ impl Network {
     }
 
     /// A frame as a centre holds it.
+    #[inline(never)]
     fn view(&self, centre: usize, name: FrameName) -> Outcome
         requires { centre < length self.now.centres }
-        ensures { Performs self.now self.now result (λ w. viewed w centre name) }
+        ensures { Performs self.now self.now result (λ w. step_of_view w centre name) }
     {
         match self.centres[centre].last_of(name) {
             Some(edit) => Outcome::Shown(Turn {
@@ -139,11 +164,11 @@ impl Network {
         }
     }
 
-    /// A centre acknowledges what it has taken, unless no packet can be made, and the acknowledgement's
-    /// index is answered.
+    /// A centre acknowledges what it has applied, unless no packet can be made, and the acknowledgement's
+    /// index is returned.
     fn acknowledge(&mut self, centre: usize) -> Option<u64>
         requires { centre < length self.old.centres }
-        ensures performs { Performs self.old self.new result (λ w. with_acknowledgement w centre) }
+        ensures performs { Performs self.old self.new result (λ w. step_of_acknowledging w centre) }
         ensures centres { length self.new.centres ≡ length self.old.centres }
     {
         if self.links.is_full() {

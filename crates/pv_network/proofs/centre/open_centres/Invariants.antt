@@ -1,6 +1,6 @@
 use Rattle.std.proofs.Common.{◌≡◌}
 use Rattle.std.specs.Prelude.{replicate}
-use Rattle.pv_network.specs.Standing.{empty_index}
+use Rattle.pv_network.specs.Centre.{empty_index}
 use Rattle.pv_network.proofs.centre.open_centres.Given as goal
 
 -- as many as were counted are new

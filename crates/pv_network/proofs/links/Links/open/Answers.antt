@@ -1,6 +1,6 @@
 use Rattle.std.proofs.Common.{◌≡◌, ℕ, zero, suc, refl, sym, ap, ◌∙◌}
 use Rattle.std.specs.Prelude.{replicate}
-use Rattle.pv_network.specs.World.{new_link, packet_count}
+use Rattle.pv_network.specs.Link.{new_link, packet_count}
 use Rattle.pv_network.proofs.links.Links.open.Goals as goal
 
 -- no packet was made on new links

@@ -1,6 +1,6 @@
 use Rattle.std.proofs.Common.{◌≡◌}
 use Rattle.std.specs.Prelude.{replicate}
-use Rattle.pv_network.specs.World.{new_link}
+use Rattle.pv_network.specs.Link.{new_link}
 use Rattle.pv_network.proofs.links.Links.open.Given as goal
 
 -- as many as were counted are new

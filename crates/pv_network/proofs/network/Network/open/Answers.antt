@@ -1,6 +1,5 @@
 use Rattle.std.proofs.Common.{[], refl, arith}
-use Rattle.pv_network.specs.World.{new_centre}
-use Rattle.pv_network.specs.Standing.{CentreStands, empty_index}
+use Rattle.pv_network.specs.Centre.{CentreStands, empty_index, new_centre}
 use Rattle.pv_network.proofs.Lists.{zip_replicate}
 use Rattle.pv_network.proofs.Soundness.{sound_start}
 use Rattle.pv_network.proofs.network.Network.open.Goals as goal

@@ -1,12 +1,18 @@
+use Rattle.std.proofs.Common.{Bool, Result, Ok, Err}
+use Rattle.std.specs.Prelude.{IfOk}
+use Rattle.pv_network.specs.declared.outcome.Outcome.{Outcome}
+use Rattle.pv_network.specs.Standing.{State, Performs}
+use Rattle.pv_network.specs.Step.{happens}
+use Rattle.pv_network.specs.World.{World}
+use Rattle.pv_network.proofs.Standing.{out_stands}
 use Rattle.pv_network.proofs.network.Network.step.Goals as goal
-use Rattle.pv_network.proofs.network.Network.step.Goals.{in-Seed, in-Send, in-Deliver, in-View}
 
--- event by event
+-- what was performed stays so, whether memory ran out or not
+noted : {E : Type 0} (r : Result Outcome E) (old new : State) (out : Bool) (step : Bool → World → World × Outcome)
+    → IfOk r (λ outcome. (kept : Bool) × Performs old new outcome (step kept)) → IfOk r (λ outcome. (kept : Bool) × Performs old (record new { is_out = out }) outcome (step kept))
+noted (Ok outcome) old new out step is = (is.0, λ w stands. let done = is.1 w stands in (out_stands new (step is.0 w).0 done.0 out, done.1))
+noted (Err e) old new out step is = tt
+
 pub returns-clause-performs : goal.returns-clause-performs
 returns-clause-performs c =
-    elim c.match-event.branch [
-      | in-Seed b ↦ rw (b.in-Seed.is, b.self-is, b.result-is) b.seed.ensures.performs
-      | in-Send b ↦ rw (b.in-Send.is, b.self-is, b.result-is) b.send.ensures.performs
-      | in-Deliver b ↦ rw (b.in-Deliver.is, b.self-is, b.result-is) b.deliver.ensures.performs
-      | in-View b ↦ rw (b.in-View.is, b.self-is, b.result-is) b.view.ensures
-    ]
+    noted c.happen-outcome.result _ _ c.is_err-self-inside.result (λ kept w. happens w c.args.event.now kept) (rw (← c.self-2.view_is) at c.happen-outcome.ensures.performs)
