@@ -12,7 +12,7 @@ use std::alloc::AllocError;
 /// The most bytes that the notation of a screen has: three for each byte.
 const LONGEST_NOTATION: usize = 3 * LONGEST;
 
-/// Appends the line or lines that tell an outcome.
+/// Appends the line or lines of an outcome.
 pub fn push_answer(text: &mut Vec<u8>, outcome: &Outcome) -> Result<(), AllocError>
     ensures { OnOk result (text.new.items ≡ text.old.items ++ answer_text outcome.now) }
 {
@@ -56,14 +56,15 @@ fn push_number(text: &mut Vec<u8>, words: &[u8], number: u64) -> Result<(), Allo
     text.extend_from_slice(Buffer::new().format(number).as_bytes())
 }
 
-/// Appends what became of a record that arrived, and its acknowledgement.
+/// Appends what happened to a record that arrived, and its acknowledgement.
 fn push_arrival(
     text: &mut Vec<u8>,
     words: &[u8],
     number: u64,
     ack: Option<u64>,
 ) -> Result<(), AllocError>
-    ensures { OnOk result (text.new.items ≡ text.old.items ++ (words.now ++ decimal number ++ ack_text ack ++ newline)) }
+    ensures { OnOk result (text.new.items
+        ≡ text.old.items ++ (words.now ++ decimal number ++ ack_text ack ++ newline)) }
 {
     push_number(text, words, number)?;
     match ack {
@@ -73,7 +74,8 @@ fn push_arrival(
     push_words(text, b"\n")
 }
 
-/// Appends a screen, and the end of the call where it ended.
+/// Appends a screen, and the end of the call if it ended.
+#[inline(never)]
 fn push_turn(text: &mut Vec<u8>, turn: &Turn) -> Result<(), AllocError>
     ensures { OnOk result (text.new.items ≡ text.old.items ++ answer_text (Outcome.Shown turn.now)) }
 {
@@ -97,7 +99,7 @@ fn push_notation(text: &mut Vec<u8>, bytes: &[u8]) -> Result<(), AllocError>
     text.extend_from_slice(&buffer[..count])
 }
 
-/// Appends why a call ended, where it did.
+/// Appends why a call ended, if it did.
 fn push_end(text: &mut Vec<u8>, ended: Option<Why>) -> Result<(), AllocError>
     ensures { OnOk result (text.new.items ≡ text.old.items ++ end_text ended) }
 {

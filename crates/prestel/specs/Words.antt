@@ -1,0 +1,18 @@
+-- The first words of lines.
+use Rattle.std.specs.Prelude.{ℕ, List, Bool, codes, nat_eq, Option, Some, None, if◌then◌else◌}
+use Rattle.std.specs.Cmp.Lexicographic.{pointwise}
+use Rattle.prestel.specs.declared.word.Word.{Word}
+use Rattle.prestel.specs.declared.word.Word.TheVariants.{Seed, Send, Deliver, View}
+
+-- the texts are the same
+abbrev pub is_text : List ℕ → List ℕ → Bool
+is_text a b = pointwise nat_eq a b
+
+-- the word that a text is
+abbrev pub word_named : List ℕ → Option Word
+word_named text =
+    if is_text text (codes "seed") then Some Seed else
+    if is_text text (codes "send") then Some Send else
+    if is_text text (codes "deliver") then Some Deliver else
+    if is_text text (codes "view") then Some View else
+    None
