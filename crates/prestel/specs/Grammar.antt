@@ -2,10 +2,10 @@
 use Rattle.std.specs.Prelude.{◌≡◌, ℕ, ◌⊎◌, Bool, List, [], ◌∷◌, Some}
 use Rattle.std.specs.List.{AllZip}
 use Rattle.pv_words.specs.Numbers.{IsNumber, IsBelow}
-use Rattle.pv_words.specs.Parts.{IsOne, AreTwo, Gives}
+use Rattle.pv_words.specs.Parts.{IsOne, AreTwo, Gives, GivesAlone}
 use Rattle.pv_words.specs.Split.{IsSplit}
 use Rattle.pv_network.specs.declared.event.Event.{Event}
-use Rattle.pv_network.specs.declared.event.Event.TheVariants.{Seed, Send, Deliver, View}
+use Rattle.pv_network.specs.declared.event.Event.TheVariants as events
 use Rattle.prestel.specs.declared.grammar.Command.{Command}
 use Rattle.prestel.specs.declared.grammar.Command.TheVariants.{Nothing, Do}
 use Rattle.prestel.specs.declared.grammar.TheConstants.{COMMENT}
@@ -16,10 +16,12 @@ use Rattle.prestel.specs.Words.{word_named}
 
 -- a word and the tail after it ask for the event, in a play of this many centres: a row for each form
 abbrev pub AsksAs : ℕ → Word → List ℕ → Event → Type 0
-AsksAs centres words.Seed tail = Gives (AreTwo IsFrameText IsRowText) (λ parts. Seed parts.0 parts.1) tail
-AsksAs centres words.Send tail = Gives (IsOne (IsBelow centres)) (λ centre. Send centre) tail
-AsksAs centres words.Deliver tail = Gives (AreTwo (IsBelow centres) IsNumber) (λ parts. Deliver parts.0 parts.1) tail
-AsksAs centres words.View tail = Gives (AreTwo (IsBelow centres) IsFrameText) (λ parts. View parts.0 parts.1) tail
+AsksAs centres words.Seed tail = Gives (AreTwo IsFrameText IsRowText) (λ parts. events.Seed parts.0 parts.1) tail
+AsksAs centres words.Send tail = Gives (IsOne (IsBelow centres)) (λ centre. events.Send centre) tail
+AsksAs centres words.Deliver tail = Gives (AreTwo (IsBelow centres) IsNumber) (λ parts. events.Deliver parts.0 parts.1) tail
+AsksAs centres words.View tail = Gives (AreTwo (IsBelow centres) IsFrameText) (λ parts. events.View parts.0 parts.1) tail
+AsksAs centres words.At tail = Gives (IsOne (IsBelow centres)) (λ centre. events.At centre) tail
+AsksAs centres words.List tail = GivesAlone events.List tail
 
 -- a line asks for the event, by its first word and its tail
 abbrev pub Asks : ℕ → List ℕ → Event → Type 0

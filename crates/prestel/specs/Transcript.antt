@@ -6,7 +6,7 @@ use Rattle.pv_network.specs.declared.outcome.Why.{Why}
 use Rattle.pv_network.specs.declared.outcome.Why.TheVariants.{Finished, Refused, Spent}
 use Rattle.pv_network.specs.declared.outcome.Why.TheVariants as why
 use Rattle.pv_network.specs.declared.outcome.Outcome.{Outcome}
-use Rattle.pv_network.specs.declared.outcome.Outcome.TheVariants.{Reply, Shown, Idle, PacketsFull, NoPacket, SentRecord, Taken, Old, Early, Full, NotHeld}
+use Rattle.pv_network.specs.declared.outcome.Outcome.TheVariants as outcomes
 use Rattle.pv_network.specs.World.{World}
 use Rattle.pv_network.specs.Step.{happens}
 use Rattle.prestel.specs.declared.grammar.Command.{Command}
@@ -31,17 +31,19 @@ ack_text (Some index) = codes " ack " ++ decimal index
 
 -- what is written for an outcome
 abbrev pub answer_text : Outcome → List ℕ
-answer_text (Reply text) = text ++ newline
-answer_text (Shown turn) = codes "screen " ++ notation_of (screen_bytes turn.screen) ++ newline ++ end_text turn.ended
-answer_text Idle = codes "idle" ++ newline
-answer_text PacketsFull = codes "packets full" ++ newline
-answer_text NoPacket = codes "no packet" ++ newline
-answer_text (SentRecord index number) = codes "sent " ++ decimal index ++ codes " record " ++ decimal number ++ newline
-answer_text (Taken number ack) = codes "taken " ++ decimal number ++ ack_text ack ++ newline
-answer_text (Old number ack) = codes "old " ++ decimal number ++ ack_text ack ++ newline
-answer_text (Early number ack) = codes "early " ++ decimal number ++ ack_text ack ++ newline
-answer_text (Full count) = codes "full " ++ decimal count ++ newline
-answer_text NotHeld = codes "-" ++ newline
+answer_text (outcomes.Reply text) = text ++ newline
+answer_text (outcomes.Shown turn) = codes "screen " ++ notation_of (screen_bytes turn.screen) ++ newline ++ end_text turn.ended
+answer_text outcomes.Idle = codes "idle" ++ newline
+answer_text outcomes.PacketsFull = codes "packets full" ++ newline
+answer_text outcomes.NoPacket = codes "no packet" ++ newline
+answer_text (outcomes.SentRecord index number) = codes "sent " ++ decimal index ++ codes " record " ++ decimal number ++ newline
+answer_text (outcomes.Taken number ack) = codes "taken " ++ decimal number ++ ack_text ack ++ newline
+answer_text (outcomes.Old number ack) = codes "old " ++ decimal number ++ ack_text ack ++ newline
+answer_text (outcomes.Early number ack) = codes "early " ++ decimal number ++ ack_text ack ++ newline
+answer_text (outcomes.Full count) = codes "full " ++ decimal count ++ newline
+answer_text outcomes.NotHeld = codes "-" ++ newline
+answer_text (outcomes.Applied count) = codes "applied " ++ decimal count ++ newline
+answer_text (outcomes.Records count) = codes "records " ++ decimal count ++ newline
 
 -- ---- commands, one after another; beside each stands what a stop in it kept
 

@@ -33,11 +33,10 @@ pub fn push_answer(text: &mut Vec<u8>, outcome: &Outcome) -> Result<(), AllocErr
         Outcome::Taken { number, ack } => push_arrival(text, b"taken ", *number, *ack),
         Outcome::Old { number, ack } => push_arrival(text, b"old ", *number, *ack),
         Outcome::Early { number, ack } => push_arrival(text, b"early ", *number, *ack),
-        Outcome::Full { count } => {
-            push_number(text, b"full ", *count)?;
-            push_words(text, b"\n")
-        }
+        Outcome::Full { count } => push_line(text, b"full ", *count),
         Outcome::NotHeld => push_words(text, b"-\n"),
+        Outcome::Applied { count } => push_line(text, b"applied ", *count),
+        Outcome::Records { count } => push_line(text, b"records ", *count),
     }
 }
 
@@ -54,6 +53,14 @@ fn push_number(text: &mut Vec<u8>, words: &[u8], number: u64) -> Result<(), Allo
 {
     text.extend_from_slice(words)?;
     text.extend_from_slice(Buffer::new().format(number).as_bytes())
+}
+
+/// Appends a line of words and then a number in decimal.
+fn push_line(text: &mut Vec<u8>, words: &[u8], number: u64) -> Result<(), AllocError>
+    ensures { OnOk result (text.new.items ≡ text.old.items ++ (words.now ++ decimal number ++ newline)) }
+{
+    push_number(text, words, number)?;
+    push_words(text, b"\n")
 }
 
 /// Appends what happened to a record that arrived, and its acknowledgement.

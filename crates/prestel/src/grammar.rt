@@ -6,7 +6,7 @@ ghost use Rattle.prestel.specs.Grammar.{Asks, AsksAs, Reads};
 use crate::readers::{FrameText, RowText};
 use crate::word::{Word, word_of};
 use pv_network::Event;
-use pv_words::{Below, Number, one_as, split_word, two_as};
+use pv_words::{Below, Number, none_as, one_as, split_word, two_as};
 
 /// The byte that begins a comment.
 pub const COMMENT: u8 = b';';
@@ -67,5 +67,7 @@ fn asked_event(word: Word, tail: &[u8], centres: u8) -> Option<Event>
             tail,
             |(centre, name)| Event::View { centre, name },
         ),
+        Word::At => one_as(&centre, tail, |centre| Event::At { centre }),
+        Word::List => none_as(tail, Event::List),
     }
 }

@@ -12,6 +12,10 @@ pub enum Word {
     Deliver,
     /// `view C NAME`
     View,
+    /// `at C`
+    At,
+    /// `list`
+    List,
 }
 
 /// The word that a text is. `None` exactly when it is none of them.
@@ -26,6 +30,10 @@ pub fn word_of(text: &[u8]) -> Option<Word>
         Some(Word::Deliver)
     } else if text == b"view".as_slice() {
         Some(Word::View)
+    } else if text == b"at".as_slice() {
+        Some(Word::At)
+    } else if text == b"list".as_slice() {
+        Some(Word::List)
     } else {
         None
     }

@@ -15,7 +15,7 @@ use Rattle.pv_frame.proofs.CallerLemmas.{IsSound-frame_of_row}
 use Rattle.pv_network.specs.declared.centre.Arrival.{Arrival}
 use Rattle.pv_network.specs.declared.centre.Arrival.TheVariants as arrivals
 use Rattle.pv_network.specs.declared.event.Event.{Event}
-use Rattle.pv_network.specs.declared.event.Event.TheVariants.{Seed, Send, Deliver, View}
+use Rattle.pv_network.specs.declared.event.Event.TheVariants as events
 use Rattle.pv_network.specs.declared.packet.Packet.{Packet}
 use Rattle.pv_network.specs.declared.record.Record.{Record}
 use Rattle.pv_network.specs.declared.record.TheConstants.{OPERATOR}
@@ -286,10 +286,12 @@ sound_deliver w c index sound = arrives (slice_get (link_at w c).down index) ref
 
 -- a sound world stays sound whatever event happens, whatever a stop kept
 sound_happens : (w : World) (event : Event) (kept : Bool) → IsSound w → IsSound (happens w event kept).0
-sound_happens w (Seed name row) kept sound = sound_seed w name row sound
-sound_happens w (Send centre) kept sound = sound_send w centre sound
-sound_happens w (Deliver centre index) kept sound = sound_deliver w centre index sound
-sound_happens w (View centre name) kept sound = sound
+sound_happens w (events.Seed name row) kept sound = sound_seed w name row sound
+sound_happens w (events.Send centre) kept sound = sound_send w centre sound
+sound_happens w (events.Deliver centre index) kept sound = sound_deliver w centre index sound
+sound_happens w (events.View centre name) kept sound = sound
+sound_happens w (events.At centre) kept sound = sound
+sound_happens w events.List kept sound = sound
 
 -- a sound world stays sound however many events happen
 pub sound_after : (w : World) (events : List (Event × Bool)) → IsSound w → IsSound (after w events)

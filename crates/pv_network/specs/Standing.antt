@@ -3,7 +3,7 @@ use Rattle.std.specs.Prelude.{◌≡◌, ℕ, ◌<◌, Bool, List, length}
 use Rattle.std.specs.List.{AllZip}
 use Rattle.pv_screen.specs.Grid.{IsRow}
 use Rattle.pv_network.specs.declared.event.Event.{Event}
-use Rattle.pv_network.specs.declared.event.Event.TheVariants.{Seed, Send, Deliver, View}
+use Rattle.pv_network.specs.declared.event.Event.TheVariants as events
 use Rattle.pv_network.specs.Centre.{Index, CentreStands}
 use Rattle.pv_network.specs.Link.{Link}
 use Rattle.pv_network.specs.Sound.{IsSound}
@@ -30,7 +30,9 @@ Performs old new outcome step = (w : World) → StandsFor old w → StandsFor ne
 
 -- the event is at a centre that there is, or puts a row of cells
 abbrev pub CanHappen : State → Event → Type 0
-CanHappen s (Seed name row) = IsRow row
-CanHappen s (Send centre) = centre < length s.centres
-CanHappen s (Deliver centre index) = centre < length s.centres
-CanHappen s (View centre name) = centre < length s.centres
+CanHappen s (events.Seed name row) = IsRow row
+CanHappen s (events.Send centre) = centre < length s.centres
+CanHappen s (events.Deliver centre index) = centre < length s.centres
+CanHappen s (events.View centre name) = centre < length s.centres
+CanHappen s (events.At centre) = centre < length s.centres
+CanHappen s events.List = Unit {0}

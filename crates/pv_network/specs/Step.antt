@@ -12,9 +12,9 @@ use Rattle.pv_network.specs.declared.packet.Packet.{Packet}
 use Rattle.pv_network.specs.declared.centre.Arrival.{Arrival}
 use Rattle.pv_network.specs.declared.centre.Arrival.TheVariants as arrivals
 use Rattle.pv_network.specs.declared.event.Event.{Event}
-use Rattle.pv_network.specs.declared.event.Event.TheVariants.{Seed, Send, Deliver, View}
+use Rattle.pv_network.specs.declared.event.Event.TheVariants as events
 use Rattle.pv_network.specs.declared.outcome.Outcome.{Outcome}
-use Rattle.pv_network.specs.declared.outcome.Outcome.TheVariants.{Reply, Shown, Idle, PacketsFull, NoPacket, SentRecord, Taken, Old, Early, Full, NotHeld}
+use Rattle.pv_network.specs.declared.outcome.Outcome.TheVariants as outcomes
 use Rattle.pv_network.specs.Centre.{with_next, arrival_of}
 use Rattle.pv_network.specs.Edits.{frame_at}
 use Rattle.pv_network.specs.Link.{is_packets_full, next_number, with_packet, with_acknowledgement}
@@ -31,7 +31,7 @@ world_with w (Some edit) = with_edit w edit
 
 -- the world after a judgement, and its reply
 abbrev pub step_of_judgement : World → Judgement → World × Outcome
-step_of_judgement w judgement = (world_with w judgement.stored, Reply judgement.reply)
+step_of_judgement w judgement = (world_with w judgement.stored, outcomes.Reply judgement.reply)
 
 -- the frame of a row of cells; another row has none
 abbrev pub frame_of_cells : List ℕ → Option Content
@@ -39,15 +39,15 @@ frame_of_cells row = if list_all (λ cell. nat_le cell LAST_CELL) row then Some 
 
 -- the operator puts a frame under a name; what is no frame is no request
 abbrev pub step_of_seed : World → Name → Option Content → World × Outcome
-step_of_seed w name None = (w, Reply bad_line_reply)
+step_of_seed w name None = (w, outcomes.Reply bad_line_reply)
 step_of_seed w name (Some frame) = step_of_judgement w (judgement_of w.update OPERATOR name frame)
 
 -- ---- view
 
 -- what a centre shows of a name: the frame that its page base gives it
 abbrev pub view_answer : Name → Option Content → Outcome
-view_answer name None = NotHeld
-view_answer name (Some frame) = Shown (record { screen = Whole (composed frame name); ended = None })
+view_answer name None = outcomes.NotHeld
+view_answer name (Some frame) = outcomes.Shown (record { screen = Whole (composed frame name); ended = None })
 
 -- a view leaves the world as it is, and shows what the centre has under the name
 abbrev pub step_of_view : World → ℕ → Name → World × Outcome
@@ -57,17 +57,17 @@ step_of_view w c name = (w, view_answer name (frame_at (page_base w c) name))
 
 -- the record of a number is packed, if the list has one there
 abbrev pub step_of_packing : World → ℕ → ℕ → Option Record → World × Outcome
-step_of_packing w c number None = (w, Idle)
-step_of_packing w c number (Some edit) = (with_link w c (with_packet (link_at w c) number edit), SentRecord (length (link_at w c).down) number)
+step_of_packing w c number None = (w, outcomes.Idle)
+step_of_packing w c number (Some edit) = (with_link w c (with_packet (link_at w c) number edit), outcomes.SentRecord (length (link_at w c).down) number)
 
 -- the record of the number that is sent next is packed, if there is such a number
 abbrev pub step_of_number : World → ℕ → Option ℕ → World × Outcome
-step_of_number w c None = (w, Idle)
+step_of_number w c None = (w, outcomes.Idle)
 step_of_number w c (Some number) = step_of_packing w c number (slice_get w.update.edits number)
 
 -- the next record is packed for a centre, unless no packet can be made
 abbrev pub step_of_send : World → ℕ → World × Outcome
-step_of_send w c = if is_packets_full w.links then (w, PacketsFull)
+step_of_send w c = if is_packets_full w.links then (w, outcomes.PacketsFull)
     else step_of_number w c (next_number (link_at w c).sending (length w.update.edits))
 
 -- ---- deliver
@@ -85,29 +85,41 @@ with_applied w c = with_centre w c (with_next (centre_at w c))
 -- The centre takes the record that comes next; it acknowledges that one, and any that is old or early. A full centre
 -- does neither.
 abbrev pub step_of_arrival : World → ℕ → ℕ → Arrival → World × Outcome
-step_of_arrival w c number arrivals.Taken = let a = step_of_acknowledging (with_applied w c) c in (a.0, Taken number a.1)
-step_of_arrival w c number arrivals.Old = let a = step_of_acknowledging w c in (a.0, Old number a.1)
-step_of_arrival w c number arrivals.Early = let a = step_of_acknowledging w c in (a.0, Early number a.1)
-step_of_arrival w c number arrivals.Full = (w, Full (centre_at w c).applied)
+step_of_arrival w c number arrivals.Taken = let a = step_of_acknowledging (with_applied w c) c in (a.0, outcomes.Taken number a.1)
+step_of_arrival w c number arrivals.Old = let a = step_of_acknowledging w c in (a.0, outcomes.Old number a.1)
+step_of_arrival w c number arrivals.Early = let a = step_of_acknowledging w c in (a.0, outcomes.Early number a.1)
+step_of_arrival w c number arrivals.Full = (w, outcomes.Full (centre_at w c).applied)
 
 -- a packet that was made arrives
 abbrev pub step_of_packet : World → ℕ → Option Packet → World × Outcome
-step_of_packet w c None = (w, NoPacket)
+step_of_packet w c None = (w, outcomes.NoPacket)
 step_of_packet w c (Some packet) = step_of_arrival w c packet.number (arrival_of (centre_at w c).applied w.update.record_limit packet.number)
 
 -- the packet of an index arrives at a centre
 abbrev pub step_of_deliver : World → ℕ → ℕ → World × Outcome
 step_of_deliver w c index = step_of_packet w c (slice_get (link_at w c).down index)
 
+-- ---- at, list
+
+-- a question for what a centre has applied leaves the world as it is
+abbrev pub step_of_at : World → ℕ → World × Outcome
+step_of_at w c = (w, outcomes.Applied (centre_at w c).applied)
+
+-- so does one for the length of the edit list
+abbrev pub step_of_list : World → World × Outcome
+step_of_list w = (w, outcomes.Records (length w.update.edits))
+
 -- ---- all
 
 -- The world after an event, and the answer. The last argument is a choice of the outside: whether a stop within a write
 -- kept the record that was being written. No event stops a node yet, so that none depends on it.
 abbrev pub happens : World → Event → Bool → World × Outcome
-happens w (Seed name row) kept = step_of_seed w name (frame_of_cells row)
-happens w (Send centre) kept = step_of_send w centre
-happens w (Deliver centre index) kept = step_of_deliver w centre index
-happens w (View centre name) kept = step_of_view w centre name
+happens w (events.Seed name row) kept = step_of_seed w name (frame_of_cells row)
+happens w (events.Send centre) kept = step_of_send w centre
+happens w (events.Deliver centre index) kept = step_of_deliver w centre index
+happens w (events.View centre name) kept = step_of_view w centre name
+happens w (events.At centre) kept = step_of_at w centre
+happens w events.List kept = step_of_list w
 
 -- the world after a list of events, each with what a stop kept
 abbrev pub after : World → List (Event × Bool) → World

@@ -12,4 +12,8 @@ pub enum Event {
     Deliver { centre: u8, index: u64 },
     /// Somebody reads a frame as a centre holds it.
     View { centre: u8, name: FrameName },
+    /// Somebody asks how many records a centre has applied.
+    At { centre: u8 },
+    /// Somebody asks how many records the edit list has.
+    List,
 }

@@ -3,7 +3,7 @@ ghost use Rattle.pv_frame.specs.Content.{frame_of_row};
 ghost use Rattle.pv_screen.specs.Grid.{IsRow};
 ghost use Rattle.pv_network.specs.World.{start};
 ghost use Rattle.pv_network.specs.Standing.{StandsFor, Performs, CanHappen};
-ghost use Rattle.pv_network.specs.Step.{happens, step_of_seed, frame_of_cells, step_of_send, step_of_deliver, step_of_view, step_of_acknowledging};
+ghost use Rattle.pv_network.specs.Step.{happens, step_of_seed, frame_of_cells, step_of_send, step_of_deliver, step_of_view, step_of_at, step_of_list, step_of_acknowledging};
 
 use crate::centre::{Arrival, Centre, open_centres};
 use crate::event::Event;
@@ -90,6 +90,8 @@ impl Network {
             Event::Send { centre } => self.send(*centre as usize),
             Event::Deliver { centre, index } => self.deliver(*centre as usize, *index),
             Event::View { centre, name } => self.view(*centre as usize, *name),
+            Event::At { centre } => self.at(*centre as usize),
+            Event::List => self.list(),
         })
     }
 
@@ -162,6 +164,23 @@ impl Network {
             }),
             None => Outcome::NotHeld,
         }
+    }
+
+    /// How many records a centre has applied.
+    fn at(&self, centre: usize) -> Outcome
+        requires { centre < length self.now.centres }
+        ensures { Performs self.now self.now result (λ w. step_of_at w centre) }
+    {
+        let count = self.centres[centre].count() as u64;
+        Outcome::Applied { count }
+    }
+
+    /// How many records the edit list has.
+    fn list(&self) -> Outcome
+        ensures { Performs self.now self.now result step_of_list }
+    {
+        let count = self.update.count();
+        Outcome::Records { count }
     }
 
     /// A centre acknowledges what it has applied, unless no packet can be made, and the acknowledgement's

@@ -47,4 +47,8 @@ pub enum Outcome {
     Full { count: u64 },
     /// The centre has no such frame.
     NotHeld,
+    /// The centre has applied this many records.
+    Applied { count: u64 },
+    /// The edit list has this many records.
+    Records { count: u64 },
 }
