@@ -81,7 +81,8 @@ fn push_arrival(
     push_words(text, b"\n")
 }
 
-/// Appends a screen, and the end of the call if it ended.
+/// Appends a screen, and the end of the call if it ended. Its buffers are large, so that it stays apart from the answers that
+/// need none.
 #[inline(never)]
 fn push_turn(text: &mut Vec<u8>, turn: &Turn) -> Result<(), AllocError>
     ensures { OnOk result (text.new.items ≡ text.old.items ++ answer_text (Outcome.Shown turn.now)) }

@@ -1,5 +1,6 @@
-ghost use Rattle.std.specs.Prelude.{◌≡◌, ◌<◌, ◌≤◌, List, [], ◌∷◌, ◌++◌, length, map, option_copied, Some, slice_get, IfOk};
+ghost use Rattle.std.specs.Prelude.{◌≡◌, ◌<◌, ◌≤◌, List, [], ◌∷◌, ◌++◌, length, map, option_copied, Some, slice_get, IfOk, IfSome, IsNone};
 ghost use Rattle.pv_network.specs.Edits.{edit_at};
+ghost use Rattle.pv_network.specs.Listing.{IsLastPlace, StandsNowhere};
 
 use crate::record::Record;
 use pv_page::FrameName;
@@ -61,16 +62,14 @@ impl EditList {
     }
 
     /// The last record of a name. `None` exactly when no record is of it.
-    #[inline(never)]
     pub(crate) fn last_of(&self, name: FrameName) -> Option<&Record>
         ensures { option_copied result ≡ edit_at self.now.edits name }
     {
-        let place = self.names.iter().rposition(|other| *other == name)?;
+        let place = last_place(&self.names, name)?;
         Some(&self.records[place])
     }
 
     /// Puts a record at the end. There is room for it.
-    #[inline(never)]
     pub(crate) fn push(&mut self, edit: Record)
         requires { length self.old.edits < self.old.room }
         ensures { self.new ≡ record self.old { edits = self.old.edits ++ edit ∷ [] } }
@@ -78,4 +77,13 @@ impl EditList {
         self.names.push_reserved(edit.name);
         self.records.push_reserved(edit);
     }
+}
+
+/// The last place of a name. `None` exactly when it stands nowhere.
+#[inline(never)]
+fn last_place(names: &[FrameName], name: FrameName) -> Option<usize>
+    ensures found { IfSome result (IsLastPlace names.now name) }
+    ensures missing { IsNone result → StandsNowhere names.now name }
+{
+    names.iter().rposition(|other| other.page == name.page && other.letter == name.letter)
 }

@@ -152,7 +152,6 @@ impl Network {
     }
 
     /// A frame as a centre holds it.
-    #[inline(never)]
     fn view(&self, centre: usize, name: FrameName) -> Outcome
         requires { centre < length self.now.centres }
         ensures { Performs self.now self.now result (λ w. step_of_view w centre name) }
