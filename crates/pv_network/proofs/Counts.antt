@@ -51,10 +51,7 @@ none-reverse p (x ∷ xs) =
     ∙ ap (λ (t : Bool). t && is_none (find p (x ∷ []))) (none-reverse p xs) ∙ last (p x) (list_any p xs)
   where
     last : (b rest : Bool) → (not rest && is_none (cond b (Some x) None)) ≡ not (b || rest)
-    last true true = refl
-    last true false = refl
-    last false true = refl
-    last false false = refl
+    last b rest = grind arith
 
 -- a record has a frame
 pub none-option_map : (o : Option Record) → is_none (option_map (λ edit. edit.frame) o) ≡ is_none o
@@ -69,14 +66,7 @@ none-frame_at edits name = none-option_map (find (puts name) (reverse edits)) �
 
 -- one more record: one name more has a frame, unless it had one
 arranged : (before here same : Bool) (count : ℕ) → (same ≡ true → before ≡ here) → cond (before || same) 0 1 + (count + cond here 0 1) ≡ (cond before 0 1 + count) + cond (same || here) 0 1
-arranged true true true count agree = omega arith
-arranged true true false count agree = omega arith
-arranged true false true count agree = let e = agree refl in absurd cc
-arranged true false false count agree = omega arith
-arranged false true true count agree = let e = agree refl in absurd cc
-arranged false true false count agree = omega arith
-arranged false false true count agree = omega arith
-arranged false false false count agree = omega arith
+arranged before here same count agree = grind arith
 
 -- a record more is a frame more, unless its name had one
 pub frame_count-push : (edits : List Record) (edit : Record) → frame_count (edits ++ edit ∷ []) ≡ frame_count edits + cond (list_any (puts edit.name) edits) 0 1
@@ -100,8 +90,7 @@ last_number-push edits edit editor =
     ap (λ (l : List Record). option_map_or (λ e. e.number) (find (is_by editor) l) 0) (reverse-append edits (edit ∷ [])) ∙ chosen (is_by editor edit)
   where
     chosen : (b : Bool) → option_map_or (λ e. e.number) (cond b (Some edit) (find (is_by editor) (reverse edits))) 0 ≡ cond b edit.number (last_number edits editor)
-    chosen true = refl
-    chosen false = refl
+    chosen b = grind arith
 
 -- more elements pass a test before a later place than before one that passes
 pub count_by-grows : {X : Type 0} (p : X → Bool) (xs : List X) (a b : ℕ) (x : X) → slice_get xs a ≡ Some x → p x ≡ true → a < b
@@ -119,7 +108,4 @@ frame_count_more edits edit is_new count new counted =
     counts is_new (list_any (puts edit.name) edits) (new ∙ none-frame_at edits edit.name) ∙ sym (frame_count-push edits edit)
   where
     counts : (new named : Bool) → new ≡ not named → count + bool_byte new ≡ frame_count edits + cond named 0 1
-    counts true false is = omega (arith, counted)
-    counts false true is = omega (arith, counted)
-    counts true true is = absurd cc
-    counts false false is = absurd cc
+    counts new named is = grind (arith, counted)

@@ -9,12 +9,6 @@ use Rattle.pv_network.specs.declared.record.Record.{Record}
 use Rattle.pv_network.specs.Edits.{same_name, puts, edit_at}
 use Rattle.pv_network.specs.Listing.{IsLastPlace, StandsNowhere}
 
--- a list that has a place has an element there
-pub element : {X : Type 0} (xs : List X) (i : ℕ) → i < length xs → (x : X) × (x ≡ get_or xs i x)
-element [] i within = let none : ⊥ = omega arith in absurd none
-element (x ∷ xs) zero within = (x, refl)
-element (x ∷ xs) (suc i) within = let later = element xs i (omega arith) in (later.0, later.1)
-
 module _ {X : Type 0} (p : X → Bool) where
   -- a search from the end comes to the first element last
   first_last : (x : X) (xs : List X) → find p (reverse (x ∷ xs)) ≡ option_or (find p (reverse xs)) (cond (p x) (Some x) None)

@@ -1,19 +1,12 @@
 -- Facts that hold of each element of a list, and elements by their places.
 use Rattle.std.proofs.Common.{◌≡◌, ℕ, zero, suc, ◌<◌, ◌⊎◌, List, [], ◌∷◌, ◌++◌, length, get_or, set, Some, refl, ap, subst, arith, inl, inr}
-use Rattle.std.specs.List.{AllByRecursion, AllZip, slice_get}
+use Rattle.std.specs.List.{All, AllZip, slice_get}
+use Rattle.std.proofs.lemmas.Option.{slice_get_within, get_or_from_slice_get}
 use Rattle.std.specs.Prelude.{replicate}
 
-module _ {X : Type 0} (P : X → Type 0) where
-  -- one more at the end
-  pub all_push : (xs : List X) (x : X) → AllByRecursion P xs → P x → AllByRecursion P (xs ++ x ∷ [])
-  all_push [] x all here = (here, tt)
-  all_push (y ∷ xs) x all here = (all.0, all_push xs x all.1 here)
-
-  -- the one that is at a place
-  pub all_get : (xs : List X) (i : ℕ) (x : X) → AllByRecursion P xs → slice_get xs i ≡ Some x → P x
-  all_get [] i x all is = absurd cc
-  all_get (y ∷ xs) zero x all is = let same : y ≡ x = cc in subst P same all.0
-  all_get (y ∷ xs) (suc i) x all is = all_get xs i x all.1 is
+-- the one that is at a place
+pub all_get : {X : Type 0} (P : X → Type 0) (xs : List X) (i : ℕ) (x : X) → All P xs → slice_get xs i ≡ Some x → P x
+all_get P xs i x all is = subst P (get_or_from_slice_get xs i x x is) (all i x (slice_get_within xs i x is))
 
 -- Another in the place of one: what is said of each place by its number is said of the others as before.
 pub set_at : {X : Type 0} (P : ℕ → X → Type 0) (xs : List X) (i : ℕ) (x d : X) → ((k : ℕ) → P k (get_or xs k d)) → P i x → (k : ℕ) → P k (get_or (set xs i x) k d)
@@ -50,17 +43,12 @@ pub zip_replicate : {X Y : Type 0} (R : X → Y → Type 0) (n : ℕ) (x : X) (y
 zip_replicate R zero x y here = tt
 zip_replicate R (suc n) x y here = (here, zip_replicate R n x y here)
 
--- what follows from the fact at each element
-pub all_weaken : {X : Type 0} (P Q : X → Type 0) → ((x : X) → P x → Q x) → (xs : List X) → AllByRecursion P xs → AllByRecursion Q xs
-all_weaken P Q follows [] all = tt
-all_weaken P Q follows (x ∷ xs) all = (follows x all.0, all_weaken P Q follows xs all.1)
-
 module _ {X : Type 0} where
   -- what is at a place stays there as the list grows
-  pub get_front : (xs ys : List X) (i : ℕ) (x : X) → slice_get xs i ≡ Some x → slice_get (xs ++ ys) i ≡ Some x
-  get_front [] ys i x is = absurd cc
-  get_front (y ∷ xs) ys zero x is = is
-  get_front (y ∷ xs) ys (suc i) x is = get_front xs ys i x is
+  pub get_prefix : (xs ys : List X) (i : ℕ) (x : X) → slice_get xs i ≡ Some x → slice_get (xs ++ ys) i ≡ Some x
+  get_prefix [] ys i x is = absurd cc
+  get_prefix (y ∷ xs) ys zero x is = is
+  get_prefix (y ∷ xs) ys (suc i) x is = get_prefix xs ys i x is
 
   -- what is at a place of the longer list was there before, or is the new one
   pub get_push : (xs : List X) (new : X) (i : ℕ) (x : X) → slice_get (xs ++ new ∷ []) i ≡ Some x → (slice_get xs i ≡ Some x) ⊎ ((i ≡ length xs) × (new ≡ x))

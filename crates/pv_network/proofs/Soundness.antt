@@ -4,7 +4,9 @@ use Rattle.std.specs.Prelude.{is_none, slice_get, replicate}
 use Rattle.std.specs.List.{count_by, list_all, list_any}
 use Rattle.std.proofs.lemmas.Bool.{leb-false, leb-true, eqb-true, eq-eqb}
 use Rattle.std.proofs.lemmas.List.{length-append, take-append-le}
+use Rattle.std.proofs.lemmas.List.Elements.{All-push}
 use Rattle.std.proofs.lemmas.List.Sums.{AllPass-from_list_all, sum_by_push}
+use Rattle.std.proofs.lemmas.Bool.Decides.{nat_tests}
 use Rattle.std.proofs.Math.Seq.{take-append_seam}
 use Rattle.std.proofs.lemmas.Option.{slice_get_within}
 use Rattle.pv_page.specs.Names.{Name}
@@ -22,14 +24,14 @@ use Rattle.pv_network.specs.declared.record.TheConstants.{OPERATOR}
 use Rattle.pv_network.specs.Centre.{Centre, new_centre, arrival_of}
 use Rattle.pv_network.specs.Edits.{puts, is_by, frame_at, frame_count, last_number}
 use Rattle.pv_network.specs.Link.{Link, new_link, is_packets_full, next_number, with_packet, with_acknowledgement}
-use Rattle.pv_network.specs.OneList.{IsNextOfEditor, AreNumbered, StandsAt, HasOnePlaceEach, IsKept, OneList}
+use Rattle.pv_network.specs.OneList.{IsNextOfEditor, AreNumbered, StandsAt, HasOnePlaceEach, IsReceived, OneList}
 use Rattle.pv_network.specs.Run.{EachFollows, MayFollow}
 use Rattle.pv_network.specs.Sound.{IsGenuine, IsSoundLink, IsSound}
 use Rattle.pv_network.specs.Step.{world_with, step_of_judgement, frame_of_cells, step_of_seed, step_of_packing, step_of_number, step_of_send, step_of_acknowledging, with_applied, step_of_arrival, step_of_packet, step_of_deliver, happens, after}
 use Rattle.pv_network.specs.UpdateCentre.{Update, next_record, refusal_of, judgement_by, judgement_of}
 use Rattle.pv_network.specs.World.{World, Receipt, start, centre_at, link_at, with_centre, with_link, with_edit}
 use Rattle.pv_network.proofs.Counts.{none-frame_at, frame_count-push, last_number-push, count_by-grows}
-use Rattle.pv_network.proofs.Lists.{all_push, set_at, all_get, all_weaken, get_front, get_push, get_last}
+use Rattle.pv_network.proofs.Lists.{set_at, all_get, get_prefix, get_push, get_last}
 
 -- what holds of the world on each side of a test holds of the one that it chooses
 pub choice : {A : Type 0} (P : World → Type 0) (b : Bool) (x y : World × A) → (b ≡ true → P x.0) → (b ≡ false → P y.0) → P (cond b x y).0
@@ -40,7 +42,7 @@ choice P false x y here there = there refl
 
 -- a centre that nothing has reached has a sound link beside any list
 sound_new : (edits : List Record) → IsSoundLink edits new_centre new_link
-sound_new edits = record { packets = tt; acknowledged = tt; heard = omega arith }
+sound_new edits = record { packets = λ k d none. absurd (omega (arith, none)); acknowledged = λ k d none. absurd (omega (arith, none)); heard = omega arith }
 
 module _ (w : World) (c : ℕ) (sound : IsSound w) where
   -- another centre in the place of one, which has applied a prefix and has a sound link
@@ -62,13 +64,7 @@ module _ (w : World) (c : ℕ) (sound : IsSound w) where
   -- another sound link in the place of one
   sound_with_link : (link : Link) → IsSoundLink w.update.edits (centre_at w c) link → IsSound (with_link w c link)
   sound_with_link link here = record {
-    law = record {
-      run = sound.law.run;
-      one_place = sound.law.one_place;
-      numbered = sound.law.numbered;
-      kept = sound.law.kept;
-      prefixes = sound.law.prefixes;
-    };
+    law = sound.law;
     last = sound.last;
     records = sound.records;
     frames = sound.frames;
@@ -78,10 +74,10 @@ module _ (w : World) (c : ℕ) (sound : IsSound w) where
 -- ---- an edit that is stored
 
 -- what is kept in a list is kept in a longer one
-kept_longer : (edits more : List Record) (receipt : Receipt) → IsKept edits receipt → IsKept (edits ++ more) receipt
+kept_longer : (edits more : List Record) (receipt : Receipt) → IsReceived edits receipt → IsReceived (edits ++ more) receipt
 kept_longer edits more receipt kept = record {
   edit = kept.edit;
-  there = get_front edits more receipt.place kept.edit kept.there;
+  there = get_prefix edits more receipt.place kept.edit kept.there;
   by = kept.by;
   numbered = kept.numbered;
 }
@@ -89,7 +85,7 @@ kept_longer edits more receipt kept = record {
 -- a link stays sound as the list grows
 link_longer : (edits more : List Record) (centre : Centre) (link : Link) → IsSoundLink edits centre link → IsSoundLink (edits ++ more) centre link
 link_longer edits more centre link sound = record {
-  packets = all_weaken (IsGenuine edits) (IsGenuine (edits ++ more)) (λ packet is. get_front edits more packet.number packet.edit is) link.down sound.packets;
+  packets = λ k d within. get_prefix edits more _ _ (sound.packets k d within);
   acknowledged = sound.acknowledged;
   heard = sound.heard;
 }
@@ -110,10 +106,7 @@ follows_push Follows edits edit each follows place found is =
 
 -- numbers of which neither is below the other are one
 neither_below : (a b : ℕ) → (a < b → ⊥) → (b < a → ⊥) → a ≡ b
-neither_below zero zero below above = refl
-neither_below zero (suc b) below above = absurd (below (omega arith))
-neither_below (suc a) zero below above = absurd (above (omega arith))
-neither_below (suc a) (suc b) below above = ap suc (neither_below a b (λ less. below (omega (arith, less))) (λ less. above (omega (arith, less))))
+neither_below a b below above = grind (arith, nat_tests, below, above)
 
 -- in a list with numbers in order an editor and a number have one place
 one_place : (edits : List Record) → AreNumbered edits → HasOnePlaceEach edits
@@ -160,7 +153,7 @@ sound_edit w edit sound follows =
         run = follows_push (MayFollow w.update.frame_limit w.update.record_limit) edits edit sound.law.run follows;
         one_place = one_place longer numbered;
         numbered = numbered;
-        kept = all_push (IsKept longer) w.receipts _ (all_weaken (IsKept edits) (IsKept longer) (kept_longer edits (edit ∷ [])) w.receipts sound.law.kept)
+        kept = All-push (IsReceived longer) w.receipts _ (λ k d within. kept_longer edits (edit ∷ []) _ (sound.law.kept k d within))
             (record { edit = edit; there = get_last edits edit; by = refl; numbered = refl });
         prefixes = λ c. omega (arith, sound.law.prefixes c, length-append edits (edit ∷ []));
       };
@@ -174,9 +167,7 @@ sound_edit w edit sound follows =
 
 -- nothing is refused: neither test says so
 not_refused : (frames records : Bool) (a b : List ℕ) → cond frames (Some a) (cond records (Some b) None) ≡ None → (frames ≡ false) × (records ≡ false)
-not_refused true records a b is = absurd cc
-not_refused false true a b is = absurd cc
-not_refused false false a b is = (refl, refl)
+not_refused frames records a b is = grind arith
 
 -- what is judged and not refused may follow
 may_follow : (u : Update) (name : Name) (frame : Content) → IsValidFrame frame → refusal_of u (is_none (frame_at u.edits name)) ≡ None
@@ -216,7 +207,7 @@ pub sound_packet : (w : World) (c number : ℕ) (edit : Record) → IsSound w �
 sound_packet w c number edit sound is =
     let here = sound.links c in
     sound_with_link w c sound (with_packet (link_at w c) number edit) (record {
-      packets = all_push (IsGenuine w.update.edits) (link_at w c).down (record { number = number; edit = edit }) here.packets is;
+      packets = All-push (IsGenuine w.update.edits) (link_at w c).down (record { number = number; edit = edit }) here.packets is;
       acknowledged = here.acknowledged;
       heard = here.heard;
     })
@@ -241,7 +232,7 @@ sound_count w c sound =
     let here = sound.links c in
     sound_with_link w c sound _ (record {
       packets = here.packets;
-      acknowledged = all_push (λ n. n ≤ (centre_at w c).applied) (link_at w c).up (centre_at w c).applied here.acknowledged (omega arith);
+      acknowledged = All-push (λ n. n ≤ (centre_at w c).applied) (link_at w c).up (centre_at w c).applied here.acknowledged (omega arith);
       heard = here.heard;
     })
 
@@ -255,18 +246,13 @@ sound_applied w c packet sound is next =
     let here = sound.links c in
     sound_with_centre w c sound _ (omega (arith, slice_get_within w.update.edits packet.number packet.edit is, next)) (record {
       packets = here.packets;
-      acknowledged = all_weaken (λ n. n ≤ (centre_at w c).applied) (λ n. n ≤ (centre_at w c).applied + 1) (λ n le. omega arith) (link_at w c).up here.acknowledged;
+      acknowledged = λ k d within. let le = here.acknowledged k d within in omega (arith, le);
       heard = omega (arith, here.heard);
     })
 
 -- what is taken is the next one
 pub taken_is_next : (applied limit number : ℕ) → arrival_of applied limit number ≡ arrivals.Taken → number ≡ applied
-taken_is_next applied limit number is = next (eqb number applied) (leb limit applied) (ltb number applied) (eqb-true number applied) is
-  where
-    next : (same full less : Bool) → (same ≡ true → number ≡ applied) → cond same (cond full arrivals.Full arrivals.Taken) (cond less arrivals.Old arrivals.Early) ≡ arrivals.Taken → number ≡ applied
-    next true full less equal is = equal refl
-    next false full true equal is = absurd cc
-    next false full false equal is = absurd cc
+taken_is_next applied limit number is = grind (arith, nat_tests)
 
 -- a sound world stays sound whatever packet arrives
 pub sound_deliver : (w : World) (c index : ℕ) → IsSound w → IsSound (step_of_deliver w c index).0
@@ -311,7 +297,7 @@ sound_start centres frames records = record {
     run = λ place edit is. absurd cc;
     one_place = λ editor number one other here there. let none = here.there in absurd cc;
     numbered = λ place edit is. absurd cc;
-    kept = tt;
+    kept = λ k d none. absurd (omega (arith, none));
     prefixes = λ c. omega (arith, ap (λ (centre : Centre). centre.applied) (copy_at new_centre centres c));
   };
   last = λ editor. refl;

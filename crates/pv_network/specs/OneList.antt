@@ -1,10 +1,12 @@
 -- The law of the one edit list: what it holds of the edits that were acknowledged, and what the centres have of it.
-use Rattle.std.specs.Prelude.{◌≡◌, ℕ, ◌+◌, ◌≤◌, List, length, Some, slice_get}
-use Rattle.std.specs.List.{AllByRecursion, count_by}
+use Rattle.std.specs.Prelude.{◌≡◌, ℕ, ◌+◌, ◌≤◌, All, List, length, Some, slice_get, slice_index_or}
+use Rattle.std.specs.List.{count_by}
+use Rattle.pv_network.specs.Centre.{Centre, new_centre}
 use Rattle.pv_network.specs.declared.record.Record.{Record}
 use Rattle.pv_network.specs.Edits.{is_by}
 use Rattle.pv_network.specs.Run.{EachFollows, IsRun}
-use Rattle.pv_network.specs.World.{World, Receipt, centre_at}
+use Rattle.pv_network.specs.UpdateCentre.{Update}
+use Rattle.pv_network.specs.World.{World, Receipt}
 
 -- the number of a record is one more than how many records of its editor come before it
 abbrev pub IsNextOfEditor : List Record → Record → Type 0
@@ -27,15 +29,19 @@ HasOnePlaceEach edits = (editor number one other : ℕ)
     → StandsAt edits editor number one → StandsAt edits editor number other → one ≡ other
 
 -- the record that was acknowledged stands at the place of its receipt
-abbrev pub IsKept : List Record → Receipt → Type 0
-IsKept edits receipt = StandsAt edits receipt.editor receipt.number receipt.place
+abbrev pub IsReceived : List Record → Receipt → Type 0
+IsReceived edits receipt = StandsAt edits receipt.editor receipt.number receipt.place
 
 -- The edit list is a run from nothing within the limits. It holds every acknowledged edit once, in order: an editor and a
 -- number have one place, an editor's numbers are 1, 2, 3 and on, and each acknowledged edit stands at the place of its
 -- receipt. Each centre has applied a prefix of the list.
-pub record OneList (w : World) : Type 0 where
-  pub run : IsRun w.update.frame_limit w.update.record_limit w.update.edits
-  pub one_place : HasOnePlaceEach w.update.edits
-  pub numbered : AreNumbered w.update.edits
-  pub kept : AllByRecursion (IsKept w.update.edits) w.receipts
-  pub prefixes : (c : ℕ) → (centre_at w c).applied ≤ length w.update.edits
+pub record IsOneList (u : Update) (centres : List Centre) (receipts : List Receipt) : Type 0 where
+  pub run : IsRun u.frame_limit u.record_limit u.edits
+  pub one_place : HasOnePlaceEach u.edits
+  pub numbered : AreNumbered u.edits
+  pub kept : All (IsReceived u.edits) receipts
+  pub prefixes : (c : ℕ) → (slice_index_or centres c new_centre).applied ≤ length u.edits
+
+-- the law of a world
+abbrev pub OneList : World → Type 0
+OneList w = IsOneList w.update w.centres w.receipts

@@ -1,6 +1,6 @@
 -- What every world that can be reached keeps.
-use Rattle.std.specs.Prelude.{◌≡◌, ℕ, ◌≤◌, List, length, Some, slice_get}
-use Rattle.std.specs.List.{AllByRecursion, count_by}
+use Rattle.std.specs.Prelude.{◌≡◌, ℕ, ◌≤◌, All, List, length, Some, slice_get}
+use Rattle.std.specs.List.{count_by}
 use Rattle.pv_network.specs.declared.packet.Packet.{Packet}
 use Rattle.pv_network.specs.declared.record.Record.{Record}
 use Rattle.pv_network.specs.Centre.{Centre}
@@ -16,8 +16,8 @@ IsGenuine edits packet = slice_get edits packet.number ≡ Some packet.edit
 -- The packets of a centre's link carry the list's records. What went up acknowledges no more than was applied, and neither
 -- does what the sending end knows of it.
 pub record IsSoundLink (edits : List Record) (centre : Centre) (link : Link) : Type 0 where
-  pub packets : AllByRecursion (IsGenuine edits) link.down
-  pub acknowledged : AllByRecursion (λ n. n ≤ centre.applied) link.up
+  pub packets : All (IsGenuine edits) link.down
+  pub acknowledged : All (λ n. n ≤ centre.applied) link.up
   pub heard : link.sending.acknowledged ≤ centre.applied
 
 -- The law of the one list holds, and with it what keeps it so: an editor's last number is how many records he has, the limits

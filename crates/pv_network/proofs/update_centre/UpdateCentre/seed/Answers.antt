@@ -1,4 +1,4 @@
-use Rattle.std.proofs.Common.{◌≡◌, length, Bool, true, false, not, Option, None, Some, Bor, refl, ap, sym, ◌∙◌}
+use Rattle.std.proofs.Common.{◌≡◌, length, Bool, not, Option, None, Some, Bor, refl, ap, sym, ◌∙◌, arith}
 use Rattle.std.specs.Prelude.{is_none, is_some, option_copied}
 use Rattle.pv_network.specs.declared.record.Record.{Record}
 use Rattle.pv_network.specs.Edits.{edit_at, frame_at}
@@ -10,10 +10,7 @@ use Rattle.pv_network.proofs.update_centre.UpdateCentre.seed.Goals.{After-refusa
 
 -- the one test is the other turned round
 turned : (a b : Bool) → b ≡ not a → a ≡ not b
-turned true true is = absurd cc
-turned true false is = refl
-turned false true is = refl
-turned false false is = absurd cc
+turned a b is = grind (arith, is)
 
 -- a borrowed record is there if the record is
 some_copied : (found : Option (Bor Record)) → is_none (option_copied found) ≡ not (is_some found)
