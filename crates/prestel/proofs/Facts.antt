@@ -2,7 +2,7 @@
 use Rattle.std.proofs.Common.{◌≡◌, [], ◌∷◌, ◌*◌, true, Some, None, codes, refl}
 use Rattle.std.specs.Fmt.{digits}
 use Rattle.pv_network.specs.declared.event.Event.TheVariants.{Send, Deliver}
-use Rattle.pv_network.specs.declared.outcome.Outcome.TheVariants.{SentRecord, Taken, Old, NotHeld}
+use Rattle.pv_network.specs.declared.outcome.Outcome.TheVariants.{SentRecord, Taken, Old, NotHeld, Applied, Records}
 use Rattle.prestel.specs.declared.grammar.Command.TheVariants.{Nothing, Do}
 use Rattle.prestel.specs.declared.grammar.TheConstants.{COMMENT}
 use Rattle.prestel.specs.declared.word.Word.TheVariants as words
@@ -16,13 +16,9 @@ use Rattle.prestel.specs.Words.{word_named}
 pub comment : COMMENT ∷ [] ≡ codes ";"
 comment = refl
 
--- a word is one of the script's as it stands, and no other
-pub deliver_is_a_word : word_named (codes "deliver") ≡ Some words.Deliver
-deliver_is_a_word = refl
-
--- a word with a letter more is none
-pub longer_word_is_none : word_named (codes "views") ≡ None
-longer_word_is_none = refl
+-- a word is one of the script's as it stands, and with a letter more it is none
+pub names_of_words : (word_named (codes "deliver") ≡ Some words.Deliver) × (word_named (codes "views") ≡ None)
+names_of_words = (refl, refl)
 
 -- a script may have a mebibyte
 pub mebibyte : longest_script ≡ 1024 * 1024
@@ -30,24 +26,16 @@ mebibyte = refl
 
 -- ---- transcripts
 
--- the packet's number comes first, and then the record's
-pub sent : answer_text (SentRecord 3 17) ≡ codes "sent 3 record 17\n"
+-- The packet's number comes before the record's. A record that was taken has its acknowledgement beside it, and a dash stands
+-- for one that could not be made, and for a frame that a centre does not have.
+pub lines : (answer_text (SentRecord 3 17) ≡ codes "sent 3 record 17\n")
+    × (answer_text (Taken 17 (Some 4)) ≡ codes "taken 17 ack 4\n")
+    × (answer_text (Old 17 None) ≡ codes "old 17 ack -\n")
+    × (answer_text NotHeld ≡ codes "-\n")
+    × (answer_text (Applied 2) ≡ codes "applied 2\n")
+    × (answer_text (Records 3) ≡ codes "records 3\n")
 unfolding digits
-sent = refl
-
--- a record that was taken has its acknowledgement beside it
-pub taken : answer_text (Taken 17 (Some 4)) ≡ codes "taken 17 ack 4\n"
-unfolding digits
-taken = refl
-
--- a dash stands for an acknowledgement that could not be made
-pub old : answer_text (Old 17 None) ≡ codes "old 17 ack -\n"
-unfolding digits
-old = refl
-
--- a frame that a centre does not have is a dash, too
-pub not_held : answer_text NotHeld ≡ codes "-\n"
-not_held = refl
+lines = (refl, refl, refl, refl, refl, refl)
 
 -- on a new network nothing is there to send or to deliver, and a comment has no answer
 pub new_network : answers first_world ((Do (Send 0), true) ∷ (Nothing, true) ∷ (Do (Deliver 0 0), true) ∷ []) ≡ codes "idle\nno packet\n"

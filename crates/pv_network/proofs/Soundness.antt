@@ -28,7 +28,7 @@ use Rattle.pv_network.specs.OneList.{IsNextOfEditor, AreNumbered, StandsAt, HasO
 use Rattle.pv_network.specs.Run.{EachFollows, MayFollow}
 use Rattle.pv_network.specs.Sound.{IsGenuine, IsSoundLink, IsSound}
 use Rattle.pv_network.specs.Step.{world_with, step_of_judgement, frame_of_cells, step_of_seed, step_of_packing, step_of_number, step_of_send, step_of_acknowledging, with_applied, step_of_arrival, step_of_packet, step_of_deliver, happens, after}
-use Rattle.pv_network.specs.UpdateCentre.{Update, next_record, refusal_of, judgement_by, judgement_of}
+use Rattle.pv_network.specs.UpdateCentre.{Update, next_record, refusal_reply, judgement_by, judgement_of}
 use Rattle.pv_network.specs.World.{World, Receipt, start, centre_at, link_at, with_centre, with_link, with_edit}
 use Rattle.pv_network.proofs.Counts.{none-frame_at, frame_count-push, last_number-push, count_by-grows}
 use Rattle.pv_network.proofs.Lists.{set_at, all_get, get_prefix, get_push, get_last}
@@ -170,7 +170,7 @@ not_refused : (frames records : Bool) (a b : List ℕ) → cond frames (Some a) 
 not_refused frames records a b is = grind arith
 
 -- what is judged and not refused may follow
-may_follow : (u : Update) (name : Name) (frame : Content) → IsValidFrame frame → refusal_of u (is_none (frame_at u.edits name)) ≡ None
+may_follow : (u : Update) (name : Name) (frame : Content) → IsValidFrame frame → refusal_reply u (is_none (frame_at u.edits name)) ≡ None
     → MayFollow u.frame_limit u.record_limit u.edits (next_record u OPERATOR name frame)
 may_follow u name frame valid is =
     let full = leb u.frame_limit (frame_count u.edits) in
@@ -185,9 +185,9 @@ may_follow u name frame valid is =
 
 -- a sound world stays sound if a valid frame is judged
 pub sound_judged : (w : World) (name : Name) (frame : Content) → IsValidFrame frame → IsSound w → IsSound (step_of_judgement w (judgement_of w.update OPERATOR name frame)).0
-sound_judged w name frame valid sound = by (refusal_of w.update (is_none (frame_at w.update.edits name))) refl
+sound_judged w name frame valid sound = by (refusal_reply w.update (is_none (frame_at w.update.edits name))) refl
   where
-    by : (refusal : Option (List ℕ)) → refusal_of w.update (is_none (frame_at w.update.edits name)) ≡ refusal
+    by : (refusal : Option (List ℕ)) → refusal_reply w.update (is_none (frame_at w.update.edits name)) ≡ refusal
         → IsSound (world_with w (judgement_by w.update (next_record w.update OPERATOR name frame) refusal).stored)
     by None is = sound_edit w _ sound (may_follow w.update name frame valid is)
     by (Some refusal) is = sound

@@ -33,8 +33,8 @@ next_record u editor name frame = record { editor = editor; number = last_number
 
 -- Why no frame may be put under a name that is new, or under one that has a frame: a frame too many comes first, and then a
 -- record too many.
-abbrev pub refusal_of : Update → Bool → Option (List ℕ)
-refusal_of u is_new = if is_new && nat_le u.frame_limit (frame_count u.edits) then Some (frames_full_reply u.frame_limit)
+abbrev pub refusal_reply : Update → Bool → Option (List ℕ)
+refusal_reply u is_new = if is_new && nat_le u.frame_limit (frame_count u.edits) then Some (frames_full_reply u.frame_limit)
     else (if nat_le u.record_limit (length u.edits) then Some (full_reply u.record_limit) else None)
 
 -- the judgement of a record that is refused, or is not
@@ -44,7 +44,7 @@ judgement_by u edit None = record { stored = Some edit; reply = stored_reply (le
 
 -- the judgement of a frame that an editor puts under a name
 abbrev pub judgement_of : Update → ℕ → Name → Content → Judgement
-judgement_of u editor name frame = judgement_by u (next_record u editor name frame) (refusal_of u (is_none (frame_at u.edits name)))
+judgement_of u editor name frame = judgement_by u (next_record u editor name frame) (refusal_reply u (is_none (frame_at u.edits name)))
 
 -- with the record that is stored, if there is one
 abbrev pub with_stored : Update → Option Record → Update

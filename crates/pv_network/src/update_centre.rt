@@ -4,7 +4,7 @@ ghost use Rattle.pv_screen.specs.Grid.{IsRow};
 ghost use Rattle.pv_network.specs.declared.record.TheConstants.{OPERATOR};
 ghost use Rattle.pv_network.specs.Edits.{frame_at};
 ghost use Rattle.pv_network.specs.UpdateCentre as Spec;
-ghost use Rattle.pv_network.specs.UpdateCentre.{UdcStands, judgement_of, next_record, refusal_of, with_record, with_stored};
+ghost use Rattle.pv_network.specs.UpdateCentre.{UdcStands, judgement_of, next_record, refusal_reply, with_record, with_stored};
 
 use crate::edit_list::EditList;
 use crate::record::{OPERATOR, Record};
@@ -88,7 +88,7 @@ impl UpdateCentre {
 
     /// Why no frame may be put under a name that is new, or under one that has a frame. `None` if it may.
     fn refusal(&self, is_new: bool) -> Option<Text>
-        ensures { result ≡ refusal_of self.now is_new }
+        ensures { result ≡ refusal_reply self.now is_new }
     {
         if is_new && self.frames >= self.frame_limit {
             return Some(Text::frames_full(self.frame_limit as u64));
@@ -102,7 +102,7 @@ impl UpdateCentre {
     /// Stores the operator's next record, and returns its place.
     fn store(&mut self, name: FrameName, frame: CheckedFrame, is_new: bool) -> u64
         requires new { is_new ≡ is_none (frame_at self.old.edits name) }
-        requires taken { refusal_of self.old is_new ≡ None }
+        requires taken { refusal_reply self.old is_new ≡ None }
         ensures place { result ≡ length self.old.edits }
         ensures stored { self.new ≡ with_record self.old (next_record self.old OPERATOR name frame) }
     {

@@ -3,7 +3,7 @@ use Rattle.std.specs.Prelude.{is_none, is_some, option_copied}
 use Rattle.pv_network.specs.declared.record.Record.{Record}
 use Rattle.pv_network.specs.Edits.{edit_at, frame_at}
 use Rattle.pv_network.specs.Replies.{stored_reply}
-use Rattle.pv_network.specs.UpdateCentre.{Update, UdcStands, refusal_of}
+use Rattle.pv_network.specs.UpdateCentre.{Update, UdcStands, refusal_reply}
 use Rattle.pv_network.proofs.Counts.{none-option_map}
 use Rattle.pv_network.proofs.update_centre.UpdateCentre.seed.Goals as goal
 use Rattle.pv_network.proofs.update_centre.UpdateCentre.seed.Goals.{After-refusal}
@@ -27,8 +27,8 @@ is_new c =
     ∙ ap (λ (v : Update). is_none (frame_at v.edits c.args.name)) c.self.view_is
 
 -- what is refused is the definition's
-refusal : (c : After-refusal) (u : Update) → UdcStands u c.args.self.now → refusal_of u (is_none (frame_at u.edits c.args.name)) ≡ c.refusal.result
-refusal c u stands = rw (← stands.same) (sym (c.refusal.ensures ∙ ap (refusal_of c.args.self.now) (is_new c)))
+refusal : (c : After-refusal) (u : Update) → UdcStands u c.args.self.now → refusal_reply u (is_none (frame_at u.edits c.args.name)) ≡ c.refusal.result
+refusal c u stands = rw (← stands.same) (sym (c.refusal.ensures ∙ ap (refusal_reply c.args.self.now) (is_new c)))
 
 pub returns-in-Some-clause-reply : goal.returns-in-Some-clause-reply
 returns-in-Some-clause-reply c = λ u stands. rw (refusal (goal.at.returns-in-Some-clause-reply c).After-refusal u stands ∙ c.in-Some.is) refl
