@@ -1,5 +1,3 @@
 pub mod CallerLemmas
-mod Covering
-mod Digits
+mod Decimals
 mod Facts
-mod Writing
