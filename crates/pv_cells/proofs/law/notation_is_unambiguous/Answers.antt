@@ -1,6 +1,5 @@
-use Rattle.pv_cells.proofs.Canonical.{same_bytes}
-use Rattle.pv_cells.proofs.OneOutcome.{one_reading}
-use Rattle.pv_cells.proofs.law.notation_tells_rows_apart.Goals as goal
+use Rattle.pv_cells.proofs.Canonical.{one_reading, same_bytes}
+use Rattle.pv_cells.proofs.law.notation_is_unambiguous.Goals as goal
 
 pub returns-clause-read : goal.returns-clause-read
 returns-clause-read c = one_reading
