@@ -1,51 +1,19 @@
 -- What a text is read as, cell by cell.
-use Rattle.std.proofs.Common.{◌≡◌, ℕ, zero, suc, ◌+◌, ◌-◌, ◌<◌, ◌≤◌, Bool, ◌==◌, List, [], ◌∷◌, ◌++◌, length, replicate, Option, Some, None, Result, Ok, leb, refl, sym, ap, ◌∙◌, subst, arith}
+use Rattle.std.proofs.Common.{◌≡◌, ℕ, zero, suc, ◌-◌, ◌≤◌, Bool, ◌==◌, List, [], ◌∷◌, length, replicate, Option, Some, None, Result, Ok, leb, refl, sym, ap, ◌∙◌, subst, arith}
 use Rattle.std.specs.Prelude.{option_map, unwrap_or}
 use Rattle.std.specs.List.{All}
 use Rattle.std.proofs.lemmas.Bool.{leb-true, le-leb}
-use Rattle.std.proofs.lemmas.List.{append-nil, append_assoc}
 use Rattle.std.proofs.lemmas.List.Elements.{All-nil, All-cons, All-head, All-tail, All-append, All-same, All-replicate}
 use Rattle.pv_fields.specs.Padded.{padded_list}
-use Rattle.pv_fields.specs.Reading.{Parser}
+use Rattle.pv_fields.specs.Reading.{many_at}
 use Rattle.pv_fields.specs.Refusals.{first_of, some_if, unless}
 use Rattle.pv_fields.proofs.CallerLemmas.{some_if-some, unless_ok}
-use Rattle.pv_cells.specs.Notation.{notation_at, many_at, ReadsAs}
+use Rattle.pv_cells.specs.Notation.{notation_at, ReadsAs}
 use Rattle.pv_cells.specs.Row.{IsCell, cell_at, row_errors, row_of_text, SpellsCells}
 use Rattle.pv_cells.specs.declared.error.NotationError.{NotationError}
 use Rattle.pv_cells.specs.declared.error.NotationError.TheVariants.{TooLong, BadEscape, BadByte}
 use Rattle.pv_cells.specs.declared.writing.TheConstants.{BACKSLASH}
 use Rattle.pv_cells.specs.declared.reading.TheConstants.{BLANK, LAST_CELL}
-
--- ---- a loop that reads values
-
--- the values that were read before, and what is still read
-abbrev pub prefixed : {A : Type 0} → List A → List A × List ℕ → List A × List ℕ
-prefixed prefix found = (prefix ++ found.0, found.1)
-
-module _ {A : Type 0} (read : Parser A) (prefix : List A) (bytes : List ℕ) (total : List A × List ℕ) where
-  -- it read one more
-  pub many_more : (count i : ℕ) (x : A) (after : List ℕ) → i < count → read bytes ≡ Some (x, after)
-      → prefixed prefix (many_at read (count - i) bytes) ≡ total
-      → prefixed (prefix ++ x ∷ []) (many_at read (count - (i + 1)) after) ≡ total
-  many_more count i x after lt next so_far =
-      let k : count - i ≡ suc (count - (i + 1)) = omega arith in
-      let found = many_at read (count - (i + 1)) after in
-      let one : prefixed prefix (many_at read (count - i) bytes) ≡ (prefix ++ x ∷ found.0, found.1) = rw (k, next) refl in
-      ap (λ xs. (xs, found.1)) (append_assoc prefix (x ∷ []) found.0) ∙ sym one ∙ so_far
-
-  -- no further one can be read
-  pub many_ends : (n : ℕ) → read bytes ≡ None → prefixed prefix (many_at read n bytes) ≡ total → total ≡ (prefix, bytes)
-  many_ends zero none so_far = sym so_far ∙ ap (λ xs. (xs, bytes)) (append-nil prefix)
-  many_ends (suc n) none so_far =
-      let end : prefixed prefix (many_at read (suc n) bytes) ≡ (prefix ++ [], bytes) = rw none refl in
-      sym so_far ∙ end ∙ ap (λ xs. (xs, bytes)) (append-nil prefix)
-
-  -- as many were read as it should
-  pub many_done : (count i : ℕ) → count ≤ i → prefixed prefix (many_at read (count - i) bytes) ≡ total → total ≡ (prefix, bytes)
-  many_done count i le so_far =
-      let k : count - i ≡ 0 = omega arith in
-      let end : prefixed prefix (many_at read (count - i) bytes) ≡ (prefix ++ [], bytes) = rw k refl in
-      sym so_far ∙ end ∙ ap (λ xs. (xs, bytes)) (append-nil prefix)
 
 -- ---- cells
 

@@ -1,5 +1,5 @@
 -- The notation of bytes in text: the one form that is written, and the forms that are read.
-use Rattle.std.specs.Prelude.{◌≡◌, ℕ, zero, suc, ◌+◌, ◌*◌, ◌/◌, ◌%◌, ◌<◌, ◌==◌, Bool, not, ◌&&◌, nat_lt, if◌then◌else◌, List, [], ◌∷◌, Some, None, option_map, unwrap_or}
+use Rattle.std.specs.Prelude.{◌≡◌, ℕ, ◌+◌, ◌*◌, ◌/◌, ◌%◌, ◌<◌, ◌==◌, Bool, not, ◌&&◌, nat_lt, if◌then◌else◌, List, [], ◌∷◌, Some, None}
 use Rattle.std.specs.Char.{digit_char, digit_value}
 use Rattle.std.specs.Int.{is_in_range}
 use Rattle.std.specs.List.{flat_map}
@@ -44,9 +44,3 @@ notation_at (first ∷ rest) = if is_plain first then Some (first, rest) else if
 abbrev pub ReadsAs : List ℕ → List ℕ → Type 0
 ReadsAs text [] = text ≡ []
 ReadsAs text (byte ∷ bytes) = (rest : List ℕ) × (notation_at text ≡ Some (byte, rest)) × ReadsAs rest bytes
-
--- the values that a parser finds one after the other, up to a count, and the rest of the bytes
-abbrev pub many_at : {A : Type 0} → Parser A → ℕ → List ℕ → List A × List ℕ
-many_at read zero bytes = ([], bytes)
-many_at read (suc count) bytes =
-    unwrap_or (option_map (λ x. let more = many_at read count x.1 in (x.0 ∷ more.0, more.1)) (read bytes)) ([], bytes)

@@ -2,9 +2,9 @@
 use Rattle.std.specs.Prelude.{◌≡◌, ℕ, ◌-◌, ◌≤◌, ◌==◌, Bool, List, [], ◌∷◌, length, Option, Some, Result}
 use Rattle.std.specs.List.{All}
 use Rattle.pv_fields.specs.Padded.{padded_list}
-use Rattle.pv_fields.specs.Reading.{Parser, at_most}
+use Rattle.pv_fields.specs.Reading.{Parser, at_most, many_at}
 use Rattle.pv_fields.specs.Refusals.{first_of, some_if, unless}
-use Rattle.pv_cells.specs.Notation.{notation_at, many_at, ReadsAs}
+use Rattle.pv_cells.specs.Notation.{notation_at, ReadsAs}
 use Rattle.pv_cells.specs.declared.error.NotationError.{NotationError}
 use Rattle.pv_cells.specs.declared.error.NotationError.TheVariants.{TooLong, BadEscape, BadByte}
 use Rattle.pv_cells.specs.declared.writing.TheConstants.{BACKSLASH}

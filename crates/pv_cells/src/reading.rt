@@ -4,7 +4,8 @@ ghost use Rattle.std.specs.List.{All};
 ghost use Rattle.std.specs.Option.{SomeIff};
 ghost use Rattle.pv_fields.specs.Padded.{padded_list};
 ghost use Rattle.pv_fields.specs.Refusals.{first_of};
-ghost use Rattle.pv_cells.specs.Notation.{notation_at, many_at};
+ghost use Rattle.pv_fields.specs.Reading.{many_at};
+ghost use Rattle.pv_cells.specs.Notation.{notation_at};
 ghost use Rattle.pv_cells.specs.Row.{IsCell, SpellsCells, cell_at, row_errors, row_of_text};
 
 use crate::error::NotationError;

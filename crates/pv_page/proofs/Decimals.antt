@@ -65,7 +65,8 @@ module _ (text : List ℕ) (digits : AllDigits 10 text) (some : 0 < length text)
       decimal-digits_value own text digits some no_leading_zero (omega (arith, page_within))
 
 -- what was written before the end of ten zeros is an account's text
-pub account_text-written : (n at : ℕ) (buffer : List ℕ) → at + length (decimal n) ≡ 10 → drop at buffer ≡ decimal n ++ drop 10 (replicate 10 48)
+pub account_text-written : (n at : ℕ) (buffer : List ℕ) → at + length (decimal n) ≡ 10
+    → drop at buffer ≡ decimal n ++ drop 10 (replicate 10 48)
     → take at buffer ≡ take at (replicate 10 48) → buffer ≡ account_text n
 account_text-written n at buffer start written before =
     let zeros : take at (replicate 10 48) ≡ replicate (10 - length (decimal n)) 48 =

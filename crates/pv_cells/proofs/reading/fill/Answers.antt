@@ -1,10 +1,10 @@
 use Rattle.std.proofs.Common.{◌≡◌, ◌-◌, ◌<◌, List, ℕ, Some, None, arith, take, length, rules, sym, ap, ◌∙◌}
 use Rattle.pv_fields.specs.Padded.{padded_list}
 use Rattle.pv_fields.proofs.CallerLemmas.{IsPadded-set, take-set, padded_list-take, length-items}
-use Rattle.pv_cells.specs.Notation.{many_at}
+use Rattle.pv_fields.specs.Reading.{many_at}
 use Rattle.pv_cells.specs.Row.{cell_at}
 use Rattle.pv_cells.specs.declared.reading.TheConstants.{BLANK}
-use Rattle.pv_cells.proofs.Rows.{many_more, many_ends, many_done}
+use Rattle.pv_fields.proofs.Readings.{many_more, many_ends, many_done}
 use Rattle.pv_cells.proofs.reading.fill.Goals as goal
 use Rattle.pv_cells.proofs.reading.fill.Goals.{Left-loop-count, else-loop-count-test, then-loop-count-test+in_default}
 
