@@ -3,16 +3,15 @@ use Rattle.std.proofs.Common.{◌≡◌, ℕ, zero, suc, ◌-◌, ◌≤◌, Boo
 use Rattle.std.specs.Prelude.{option_map, unwrap_or}
 use Rattle.std.specs.List.{All}
 use Rattle.std.proofs.lemmas.Bool.{leb-true, le-leb}
+use Rattle.std.proofs.lemmas.Bool.Decides.{nat_tests}
 use Rattle.std.proofs.lemmas.List.Elements.{All-nil, All-cons, All-head, All-tail, All-append, All-same, All-replicate}
 use Rattle.pv_fields.specs.Padded.{padded_list}
 use Rattle.pv_fields.specs.Reading.{many_at}
-use Rattle.pv_fields.specs.Refusals.{first_of, some_if, unless}
+use Rattle.pv_fields.specs.Refusals.{first_of, unless}
 use Rattle.pv_fields.proofs.CallerLemmas.{some_if-some, unless_ok}
 use Rattle.pv_cells.specs.Notation.{notation_at, ReadsAs}
 use Rattle.pv_cells.specs.Row.{IsCell, cell_at, row_errors, row_of_text, SpellsCells}
 use Rattle.pv_cells.specs.declared.error.NotationError.{NotationError}
-use Rattle.pv_cells.specs.declared.error.NotationError.TheVariants.{TooLong, BadEscape, BadByte}
-use Rattle.pv_cells.specs.declared.writing.TheConstants.{BACKSLASH}
 use Rattle.pv_cells.specs.declared.reading.TheConstants.{BLANK, LAST_CELL}
 
 -- ---- cells
@@ -65,17 +64,10 @@ many_reads (cell ∷ cells) text (suc n) (rest, is, reads) are_cells fits =
 
 -- ---- the row of a text
 
--- a list that ends with a refusal refuses
-last_refuses : {X : Type 0} (one other : Option X) (x : X) → first_of (one ∷ other ∷ Some x ∷ []) ≡ None → ⊥
-last_refuses None None x none = absurd cc
-last_refuses None (Some y) x none = absurd cc
-last_refuses (Some y) other x none = absurd cc
-
 -- what has no error is read to its end
 no_error : (is_full : Bool) (at : ℕ) (rest : List ℕ) → first_of (row_errors is_full at rest) ≡ None → rest ≡ []
 no_error is_full at [] none = refl
-no_error is_full at (first ∷ rest) none =
-    absurd (last_refuses (some_if is_full TooLong) (some_if (first == BACKSLASH) (BadEscape at)) (BadByte at) none)
+no_error is_full at (first ∷ rest) none = absurd (grind (arith, nat_tests))
 
 module _ (width : ℕ) (text row : List ℕ) where
   -- a row that is read is spelled by the text
