@@ -3,3 +3,4 @@ mod Covering
 mod Digits
 mod Facts
 mod Writing
+pub mod Spellings
