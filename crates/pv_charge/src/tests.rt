@@ -26,7 +26,7 @@ fn a_line_is_spelled_part_by_part(rt: HostRuntime) -> Result<(), Fail> {
     let mut out = Out::new(&mut slice);
     line.encode(&mut out)?;
     assert_eq!(rt; out.written(), LINE_BYTES);
-    assert_eq!(rt; slice[..LINE_BYTES], SPELLING);
+    assert_eq!(rt; &slice[..LINE_BYTES], SPELLING.as_slice());
     assert!(rt; line.encode(&mut Out::new(&mut slice[..LINE_BYTES - 1])).is_err());
     Ok(())
 }
@@ -57,7 +57,7 @@ fn a_part_out_of_its_range_is_no_line(rt: HostRuntime) -> Result<(), Fail> {
     let mut last = SPELLING;
     last[27..].copy_from_slice(&LAST_MOMENT.to_be_bytes());
     assert!(rt; Line::decode(&mut In::new(&last)).is_some());
-    last[30] += 1;
+    last[27..].copy_from_slice(&(LAST_MOMENT + 1).to_be_bytes());
     assert!(rt; Line::decode(&mut In::new(&last)).is_none());
     Ok(())
 }
