@@ -48,6 +48,32 @@ fn numbers_out_of_range_are_no_names(rt: HostRuntime) {
 }
 
 #[test]
+fn accounts_have_ten_digits(rt: HostRuntime) -> Result<(), Fail> {
+    let texts: [(&[u8], u64); 4] = [
+        (b"0000000000", 0),
+        (b"0000000012", 12),
+        (b"1000000000", 1_000_000_000),
+        (b"9999999999", 9_999_999_999),
+    ];
+    for (text, number) in texts {
+        let account = AccountNo::of_digits(text).ok_or("an account")?;
+        assert_eq!(rt; account.number(), number);
+        assert_eq!(rt; account.digits().as_slice(), text);
+    }
+    let others: [&[u8]; 5] = [
+        b"",
+        b"999999999",
+        b"00000000000",
+        b"+000000012",
+        b"000000001x",
+    ];
+    for text in others {
+        assert_eq!(rt; AccountNo::of_digits(text), None, "at {text:?}");
+    }
+    Ok(())
+}
+
+#[test]
 fn a_root_begins_the_pages_with_its_digits(rt: HostRuntime) -> Result<(), Fail> {
     let cases: [(u32, u32, bool); 9] = [
         (12, 12, true),
