@@ -16,7 +16,9 @@ Reads-charge =
     (record {
       has = λ x h. record { serial = h.0; number = h.1.0; account = h.1.1.0; name = h.1.1.1.0; price = h.1.1.1.1.0; moment = h.1.1.1.1.1 };
       spell = λ x. refl;
-      part = λ l h.
-          ((l.serial, (l.number, (l.account, (l.name, (l.price, l.moment))))),
-          (h.serial, (h.number, (h.account, (h.name, (h.price, h.moment))))), refl);
+      part = λ l h. (
+        (l.serial, (l.number, (l.account, (l.name, (l.price, l.moment))))),
+        (h.serial, (h.number, (h.account, (h.name, (h.price, h.moment))))),
+        refl,
+      );
     })

@@ -27,7 +27,10 @@ fn a_line_is_spelled_part_by_part(rt: HostRuntime) -> Result<(), Fail> {
     line.encode(&mut out)?;
     assert_eq!(rt; out.written(), LINE_BYTES);
     assert_eq!(rt; &slice[..LINE_BYTES], SPELLING.as_slice());
-    assert!(rt; line.encode(&mut Out::new(&mut slice[..LINE_BYTES - 1])).is_err());
+    assert!(rt;
+        line.encode(&mut Out::new(&mut slice[..LINE_BYTES - 1]))
+            .is_err()
+    );
     Ok(())
 }
 
@@ -40,12 +43,22 @@ fn a_line_is_read_before_other_bytes(rt: HostRuntime) -> Result<(), Fail> {
     assert_eq!(rt; bytes.left(), 1);
     assert_eq!(rt; Line::decode(&mut bytes), None);
     assert_eq!(rt; bytes.left(), 1);
-    assert_eq!(rt; Line::decode(&mut In::new(&SPELLING[..LINE_BYTES - 1])), None);
+    assert_eq!(rt;
+        Line::decode(&mut In::new(&SPELLING[..LINE_BYTES - 1])),
+        None
+    );
     Ok(())
 }
 
 /// A byte of the spelling, and a value that makes it no line's.
-const WRONG: [(usize, u8); 6] = [(14, 3), (20, 0x3c), (24, b'`'), (24, b'{'), (26, 100), (27, 0xf5)];
+const WRONG: [(usize, u8); 6] = [
+    (14, 3),
+    (20, 0x3c),
+    (24, b'`'),
+    (24, b'{'),
+    (26, 100),
+    (27, 0xf5),
+];
 
 #[test]
 fn a_part_out_of_its_range_is_no_line(rt: HostRuntime) -> Result<(), Fail> {
@@ -69,6 +82,12 @@ fn a_bill_adds_the_prices(rt: HostRuntime) -> Result<(), Fail> {
     for _ in 0..3 {
         bill.add(&line);
     }
-    assert_eq!(rt; bill, Bill { lines: 3, pence: 297 });
+    assert_eq!(rt;
+        bill,
+        Bill {
+            lines: 3,
+            pence: 297
+        }
+    );
     Ok(())
 }
