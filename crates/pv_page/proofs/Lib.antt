@@ -1,3 +1,4 @@
 pub mod CallerLemmas
 mod Decimals
 mod Facts
+pub mod Spellings

@@ -26,6 +26,7 @@ mod digits;
 mod frame_name;
 mod page_error;
 mod page_no;
+mod spelling;
 
 pub use account_no::{ACCOUNT_DIGITS, AccountNo, LAST_ACCOUNT};
 pub use frame_name::{FIRST_LETTER, FrameName, LAST_LETTER, one_text_is_one_name, texts_of_names};
