@@ -14,7 +14,7 @@ pub enum NotationError {
         at: usize,
     },
     /// A byte is outside 0x20 to 0x7E.
-    #[error("the byte at {at} cannot stand in a text")]
+    #[error("the byte at {at} cannot be printed")]
     BadByte {
         /// The byte's place.
         at: usize,

@@ -64,8 +64,12 @@ pub fn weights_of(code: u8) -> Option<u8>
 pub fn squares_have_their_codes()
     ensures top_left { DARK + TOP_LEFT ≡ 0x21 }
     ensures top_right { DARK + TOP_RIGHT ≡ 0x22 }
+
+    // The second line.
     ensures middle_left { DARK + MIDDLE_LEFT ≡ 0x24 }
     ensures middle_right { DARK + MIDDLE_RIGHT ≡ 0x28 }
+
+    // The third line.
     ensures bottom_left { DARK + BOTTOM_LEFT ≡ 0x30 }
     ensures bottom_right { DARK + BOTTOM_RIGHT ≡ 0x60 }
 {}

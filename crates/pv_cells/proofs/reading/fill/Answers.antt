@@ -14,13 +14,16 @@ loop-count-preserved c =
     let width = length c.args.row.now in
     let count = c.loop-count.count in
     let row = c.loop-count.row in
+    let so_far = c.loop-count.invariant.so_far in
+    let padded = c.loop-count.invariant.padded in
+    let cell = c.in-Some.cell in
     let room : count < width = omega (arith, c.loop-count-test.true, c.loop-count.auto.row) in
     let next : cell_at c.loop-count.rest.now ≡ Some (c.in-Some.cell, c.in-Some.after.now) = search rules in
     record {
-      padded = IsPadded-set BLANK width count row c.loop-count.invariant.padded c.in-Some.cell room;
+      padded = IsPadded-set BLANK width count row padded cell room;
       so_far =
-          rw (take-set BLANK width count row c.loop-count.invariant.padded c.in-Some.cell room)
-          (many_more cell_at (take count row) c.loop-count.rest.now _ width count c.in-Some.cell c.in-Some.after.now room next c.loop-count.invariant.so_far);
+          rw (take-set BLANK width count row padded cell room)
+          (many_more cell_at (take count row) c.loop-count.rest.now _ width count cell c.in-Some.after.now room next so_far);
     }
 
 -- the row has room for no more, or no cell follows
