@@ -1,6 +1,6 @@
 ghost use Rattle.std.specs.Prelude.{◌≡◌, ◌<◌, ◌≤◌, ◌↔◌, [], ◌∷◌, ◌++◌, length, IsErr, OnOk, OnErr, IfOk};
 ghost use Rattle.std.specs.Int.{w16, w32, w64, to_be_bytes};
-ghost use Rattle.pv_fields.specs.Reading.{Gives, same, byte_at, number_at, run_at, within, at_most};
+ghost use Rattle.pv_fields.specs.Reading.{Gives, IsBytes, same, byte_at, number_at, run_at, within, at_most};
 
 use crate::error::{NoSpelling, Short};
 use std::marker::Model;
@@ -21,6 +21,10 @@ impl<'a> Model for In<'a> {
     ghost Value = { List ℕ };
 
     ghost view = { λ reader. reader.from.now };
+
+    ghost use Rattle.pv_fields.specs.Reading.{IsBytes};
+
+    ghost invariant = { λ reader. IsBytes reader.from.now };
 }
 
 impl<'a> In<'a> {
@@ -35,6 +39,7 @@ impl<'a> In<'a> {
     /// ahead by it, and put it in the place of this one if all that it wants is there.
     pub fn fork(&self) -> In<'a>
         ensures same { result ≡ self.now }
+        ensures bytes { IsBytes result }
     {
         In { from: self.from }
     }
