@@ -2,6 +2,5 @@ pub mod Ending
 pub mod Facts
 pub mod Flushing
 pub mod Happening
-pub mod Notations
 pub mod Reading
 pub mod Running

@@ -13,7 +13,7 @@ use Rattle.prestel.specs.declared.ends.AnswerEnd.TheVariants as answering
 use Rattle.prestel.specs.declared.ends.RunEnd.{RunEnd}
 use Rattle.prestel.specs.declared.ends.RunEnd.TheVariants.{BadLine, Unanswered}
 use Rattle.prestel.specs.declared.grammar.Command.{Command}
-use Rattle.prestel.specs.Grammar.{Reads, HasNoForm}
+use Rattle.prestel.specs.Grammar.{ReadsLine, HasNoForm}
 use Rattle.prestel.specs.Transcript.{answer_to, world_after}
 use Rattle.prestel.specs.Play.{longest_script, StopsAtBadLine, StopsInAnswers, StopsAfterLine}
 
@@ -52,13 +52,13 @@ IsAnswerEnd command old before now faults_before faults_now answering.Memory = n
 
 -- a line was run: it reads as a command that was run
 abbrev pub HasRun : ℕ → List ℕ → State → State → Option (List ℕ) → Option (List ℕ) → Type 0
-HasRun centres line old new before now = (command : Command) × Reads centres line command × HasAnswered command old new before now
+HasRun centres line old new before now = (command : Command) × ReadsLine centres line command × HasAnswered command old new before now
 
 -- why a line was not run
 abbrev pub IsLineEnd : ℕ → List ℕ → ℕ → State → Option (List ℕ) → Option (List ℕ) → ℕ → ℕ → RunEnd → Type 0
 IsLineEnd centres line number old before now faults_before faults_now (BadLine bad) = (bad ≡ number) × HasNoForm centres line × (now ≡ before)
 IsLineEnd centres line number old before now faults_before faults_now (Unanswered end) =
-    (command : Command) × Reads centres line command × IsAnswerEnd command old before now faults_before faults_now end
+    (command : Command) × ReadsLine centres line command × IsAnswerEnd command old before now faults_before faults_now end
 
 -- why a text's lines were not all run
 abbrev pub IsRunEnd : ℕ → World → List ℕ → Option (List ℕ) → Option (List ℕ) → ℕ → ℕ → RunEnd → Type 0

@@ -28,14 +28,14 @@ abbrev pub Asks : ℕ → List ℕ → Event → Type 0
 Asks centres line event = (first tail : List ℕ) × (word : Word) × IsSplit line first tail × (word_named first ≡ Some word) × AsksAs centres word tail event
 
 -- an empty line and a comment ask for nothing
-abbrev pub Reads : ℕ → List ℕ → Command → Type 0
-Reads centres line Nothing = (line ≡ []) ⊎ ((comment : List ℕ) × (line ≡ COMMENT ∷ comment))
-Reads centres line (Do event) = Asks centres line event
+abbrev pub ReadsLine : ℕ → List ℕ → Command → Type 0
+ReadsLine centres line Nothing = (line ≡ []) ⊎ ((comment : List ℕ) × (line ≡ COMMENT ∷ comment))
+ReadsLine centres line (Do event) = Asks centres line event
 
 -- the line has none of the forms
 abbrev pub HasNoForm : ℕ → List ℕ → Type 0
-HasNoForm centres line = (command : Command) → Reads centres line command → ⊥
+HasNoForm centres line = (command : Command) → ReadsLine centres line command → ⊥
 
 -- the lines read as the commands that were run, one for each; beside a command stands what a stop in it kept
 abbrev pub AreRead : ℕ → List (List ℕ) → List (Command × Bool) → Type 0
-AreRead centres lines runs = AllZip (λ line run. Reads centres line run.0) lines runs
+AreRead centres lines runs = AllZip (λ line run. ReadsLine centres line run.0) lines runs

@@ -1,16 +1,11 @@
-ghost use Rattle.std.specs.Prelude.{◌≡◌, ◌≤◌, ◌++◌, length, OnOk, decimal};
-ghost use Rattle.pv_cells.specs.Notation.{notation_of};
+ghost use Rattle.std.specs.Prelude.{◌≡◌, ◌++◌, OnOk, decimal};
 ghost use Rattle.prestel.specs.Transcript.{answer_text, ack_text, end_text, newline};
 
 use itoa::Buffer;
-use pv_cells::notation;
-use pv_fields::Out;
+use pv_cells::push_notation;
 use pv_network::{Outcome, Turn, Why};
-use pv_screen::{BUFFER, LONGEST};
+use pv_screen::BUFFER;
 use std::alloc::AllocError;
-
-/// The most bytes that the notation of a screen has: three for each byte.
-const LONGEST_NOTATION: usize = 3 * LONGEST;
 
 /// Appends the line or lines of an outcome.
 pub fn push_answer(text: &mut Vec<u8>, outcome: &Outcome) -> Result<(), AllocError>
@@ -81,7 +76,7 @@ fn push_arrival(
     push_words(text, b"\n")
 }
 
-/// Appends a screen, and the end of the call if it ended. Its buffers are large, so that it stays apart from the answers that
+/// Appends a screen, and the end of the call if it ended. Its buffer is large, so that it stays apart from the answers that
 /// need none.
 #[inline(never)]
 fn push_turn(text: &mut Vec<u8>, turn: &Turn) -> Result<(), AllocError>
@@ -90,21 +85,9 @@ fn push_turn(text: &mut Vec<u8>, turn: &Turn) -> Result<(), AllocError>
     let mut bytes = [0; BUFFER];
     let count = turn.screen.bytes(&mut bytes);
     push_words(text, b"screen ")?;
-    push_notation(text, &bytes[..count])?;
+    push_notation(&bytes[..count], text)?;
     push_words(text, b"\n")?;
     push_end(text, turn.ended)
-}
-
-/// Appends the notation of the bytes of a screen.
-fn push_notation(text: &mut Vec<u8>, bytes: &[u8]) -> Result<(), AllocError>
-    requires { length bytes.now ≤ LONGEST }
-    ensures { OnOk result (text.new.items ≡ text.old.items ++ notation_of bytes.now) }
-{
-    let mut buffer = [0; LONGEST_NOTATION];
-    let mut out = Out::new(&mut buffer);
-    notation(bytes, &mut out).unwrap();
-    let count = out.written();
-    text.extend_from_slice(&buffer[..count])
 }
 
 /// Appends why a call ended, if it did.

@@ -1,7 +1,7 @@
 ghost use Rattle.std.specs.Prelude.{◌≡◌, Some, IfSome};
 ghost use Rattle.pv_words.specs.Parts.{Exactly};
 ghost use Rattle.pv_network.specs.declared.event.Event.{Event};
-ghost use Rattle.prestel.specs.Grammar.{Asks, AsksAs, Reads};
+ghost use Rattle.prestel.specs.Grammar.{Asks, AsksAs, ReadsLine};
 
 use crate::readers::{FrameText, RowText};
 use crate::word::{Word, word_of};
@@ -22,8 +22,8 @@ pub enum Command {
 
 /// What a line asks for in a play of this many centres. `None` exactly when the line has none of the script's forms.
 pub fn parse(line: &[u8], centres: u8) -> Option<Command>
-    ensures found { IfSome result (Reads centres line.now) }
-    ensures only { (command : Command) → Reads centres line.now command → result ≡ Some command }
+    ensures found { IfSome result (ReadsLine centres line.now) }
+    ensures only { (command : Command) → ReadsLine centres line.now command → result ≡ Some command }
 {
     if line.is_empty() || line[0] == COMMENT {
         return Some(Command::Nothing);

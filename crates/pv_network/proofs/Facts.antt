@@ -1,7 +1,7 @@
 -- Worked examples of the network's rules, computed from the definitions.
 use Rattle.std.proofs.Common.{◌≡◌, ℕ, [], ◌∷◌, Some, None, codes, refl}
 use Rattle.std.specs.Fmt.{digits}
-use Rattle.pv_frame.specs.Content.{blank}
+use Rattle.pv_frame.specs.Content.{blank_frame}
 use Rattle.pv_network.specs.declared.centre.Arrival.TheVariants.{Taken, Old, Early, Full}
 use Rattle.pv_network.specs.declared.outcome.Outcome.{Outcome}
 use Rattle.pv_network.specs.declared.outcome.Outcome.TheVariants as outcomes
@@ -29,7 +29,7 @@ replies = (refl, refl, refl, refl)
 
 -- a record by its editor, his number, and the letter of a frame of page 1
 abbrev edit : ℕ → ℕ → ℕ → Record
-edit editor number letter = record { editor = editor; number = number; name = record { page = 1; letter = letter }; frame = blank }
+edit editor number letter = record { editor = editor; number = number; name = record { page = 1; letter = letter }; frame = blank_frame }
 
 -- two edits of one frame are one frame, and the frames a and b of a page are two
 pub frames : (frame_count (edit 0 1 97 ∷ edit 0 2 97 ∷ []) ≡ 1) × (frame_count (edit 0 1 97 ∷ edit 0 2 98 ∷ []) ≡ 2)
@@ -57,7 +57,7 @@ turns = (refl, refl, refl)
 
 -- a judgement of a blank frame that the operator puts under a letter of page 1
 abbrev put : World → ℕ → World × Outcome
-put w letter = step_of_judgement w (judgement_of w.update OPERATOR (record { page = 1; letter = letter }) blank)
+put w letter = step_of_judgement w (judgement_of w.update OPERATOR (record { page = 1; letter = letter }) blank_frame)
 
 -- if the limit is one frame, a second name is refused
 pub second_name : (put (put (start 1 1 5) 97).0 98).1 ≡ outcomes.Reply (codes "NO 5 FRAMES FULL 1")

@@ -12,8 +12,8 @@ use Rattle.std.proofs.lemmas.Option.{slice_get_within}
 use Rattle.pv_page.specs.Names.{Name}
 use Rattle.pv_cells.specs.declared.reading.TheConstants.{LAST_CELL}
 use Rattle.pv_frame.specs.Content.{Content, frame_of_row}
-use Rattle.pv_frame.specs.Sound.{IsSound as IsValidFrame}
-use Rattle.pv_frame.proofs.CallerLemmas.{IsSound-frame_of_row}
+use Rattle.pv_frame.specs.Errors.{IsValid}
+use Rattle.pv_frame.proofs.CallerLemmas.{IsValid-frame_of_row}
 use Rattle.pv_network.specs.declared.centre.Arrival.{Arrival}
 use Rattle.pv_network.specs.declared.centre.Arrival.TheVariants as arrivals
 use Rattle.pv_network.specs.declared.event.Event.{Event}
@@ -170,7 +170,7 @@ not_refused : (frames records : Bool) (a b : List ℕ) → cond frames (Some a) 
 not_refused frames records a b is = grind arith
 
 -- what is judged and not refused may follow
-may_follow : (u : Update) (name : Name) (frame : Content) → IsValidFrame frame → refusal_reply u (is_none (frame_at u.edits name)) ≡ None
+may_follow : (u : Update) (name : Name) (frame : Content) → IsValid frame → refusal_reply u (is_none (frame_at u.edits name)) ≡ None
     → MayFollow u.frame_limit u.record_limit u.edits (next_record u OPERATOR name frame)
 may_follow u name frame valid is =
     let full = leb u.frame_limit (frame_count u.edits) in
@@ -184,7 +184,7 @@ may_follow u name frame valid is =
     }
 
 -- a sound world stays sound if a valid frame is judged
-pub sound_judged : (w : World) (name : Name) (frame : Content) → IsValidFrame frame → IsSound w → IsSound (step_of_judgement w (judgement_of w.update OPERATOR name frame)).0
+pub sound_judged : (w : World) (name : Name) (frame : Content) → IsValid frame → IsSound w → IsSound (step_of_judgement w (judgement_of w.update OPERATOR name frame)).0
 sound_judged w name frame valid sound = by (refusal_reply w.update (is_none (frame_at w.update.edits name))) refl
   where
     by : (refusal : Option (List ℕ)) → refusal_reply w.update (is_none (frame_at w.update.edits name)) ≡ refusal
@@ -197,7 +197,7 @@ sound_seed : (w : World) (name : Name) (row : List ℕ) → IsSound w → IsSoun
 sound_seed w name row sound = by (list_all (λ cell. leb cell LAST_CELL) row) (AllPass-from_list_all (λ cell. leb cell LAST_CELL) row)
   where
     by : (cells : Bool) → (cells ≡ true → (k d : ℕ) → k < length row → leb (get_or row k d) LAST_CELL ≡ true) → IsSound (step_of_seed w name (cond cells (Some (frame_of_row row)) None)).0
-    by true all = sound_judged w name (frame_of_row row) (IsSound-frame_of_row row (λ k d within. leb-true (get_or row k d) LAST_CELL (all refl k d within))) sound
+    by true all = sound_judged w name (frame_of_row row) (IsValid-frame_of_row row (λ k d within. leb-true (get_or row k d) LAST_CELL (all refl k d within))) sound
     by false all = sound
 
 -- ---- send

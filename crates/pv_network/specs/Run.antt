@@ -1,6 +1,6 @@
 -- The edit list as a run from nothing: each record is one that could be stored after those before it.
 use Rattle.std.specs.Prelude.{◌≡◌, ℕ, ◌+◌, ◌<◌, List, length, take, Some, None, slice_get}
-use Rattle.pv_frame.specs.Sound.{IsSound as IsValidFrame}
+use Rattle.pv_frame.specs.Errors.{IsValid}
 use Rattle.pv_network.specs.declared.record.Record.{Record}
 use Rattle.pv_network.specs.declared.record.TheConstants.{OPERATOR}
 use Rattle.pv_network.specs.Edits.{frame_at, frame_count, last_number}
@@ -15,7 +15,7 @@ EachFollows Follows edits = (place : ℕ) (edit : Record) → slice_get edits pl
 pub record MayFollow (frames records : ℕ) (before : List Record) (edit : Record) : Type 0 where
   pub editor : edit.editor ≡ OPERATOR
   pub number : edit.number ≡ last_number before edit.editor + 1
-  pub valid : IsValidFrame edit.frame
+  pub valid : IsValid edit.frame
   pub frame_room : frame_at before edit.name ≡ None → frame_count before < frames
   pub record_room : length before < records
 

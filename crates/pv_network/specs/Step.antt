@@ -4,7 +4,7 @@ use Rattle.std.specs.List.{list_all}
 use Rattle.pv_page.specs.Names.{Name}
 use Rattle.pv_cells.specs.declared.reading.TheConstants.{LAST_CELL}
 use Rattle.pv_frame.specs.Content.{Content, frame_of_row}
-use Rattle.pv_screen.specs.Composing.{composed}
+use Rattle.pv_screen.specs.Composing.{composed_grid}
 use Rattle.pv_screen.specs.declared.screen.Screen.TheVariants.{Whole}
 use Rattle.pv_network.specs.declared.record.Record.{Record}
 use Rattle.pv_network.specs.declared.record.TheConstants.{OPERATOR}
@@ -47,7 +47,7 @@ step_of_seed w name (Some frame) = step_of_judgement w (judgement_of w.update OP
 -- what a centre shows of a name: the frame that its page base gives it
 abbrev pub view_answer : Name → Option Content → Outcome
 view_answer name None = outcomes.NotHeld
-view_answer name (Some frame) = outcomes.Shown (record { screen = Whole (composed frame name); ended = None })
+view_answer name (Some frame) = outcomes.Shown (record { screen = Whole (composed_grid frame name); ended = None })
 
 -- a view leaves the world as it is, and shows what the centre has under the name
 abbrev pub step_of_view : World → ℕ → Name → World × Outcome

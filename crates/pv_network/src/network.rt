@@ -45,7 +45,7 @@ impl Network {
         requires few { centres ≤ 4 }
         ensures ok { IfOk result (λ network. StandsFor network (start centres limits.frames limits.records)) }
         ensures centres { IfOk result (λ network. length network.centres ≡ centres) }
-        ensures within { IfOk result (λ network. network.is_out ≡ false) }
+        ensures memory { IfOk result (λ network. network.is_out ≡ false) }
     {
         Ok(Network {
             update: UpdateCentre::open(alloc, limits)?,

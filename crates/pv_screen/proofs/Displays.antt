@@ -6,7 +6,7 @@ use Rattle.std.proofs.lemmas.Bool.Decides.{nat_tests}
 use Rattle.std.proofs.lemmas.Bool.{leb-true, and_parts, cond_both}
 use Rattle.pv_cells.specs.Row.{IsCell}
 use Rattle.pv_screen.specs.Grid.{IsGrid, IsRow}
-use Rattle.pv_screen.specs.Terminal.{Display, IsDisplay, down, up, row_start, home, forward, back, clear, with_cell, written, after_first, after_second, after_byte, terminal_after}
+use Rattle.pv_screen.specs.Terminal.{Display, IsDisplay, down, up, row_start, home, forward, back, clear, with_cell, after_cell, after_first, after_second, after_byte, terminal_after}
 use Rattle.pv_screen.proofs.Grids.{IsGrid-blank}
 
 -- a number that passes the test of a range is at most its end
@@ -64,7 +64,7 @@ module _ (d : Display) (is : IsDisplay d) where
   IsDisplay-clear = record { cells = IsGrid-blank; row_from = search rules; row_to = search rules; column = search rules }
 
 -- a cell that is written, and the move behind it, keep the grid and the cursor on it
-IsDisplay-written : (d : Display) (cell : ℕ) → IsDisplay d → IsCell cell → IsDisplay (written d cell)
+IsDisplay-written : (d : Display) (cell : ℕ) → IsDisplay d → IsCell cell → IsDisplay (after_cell d cell)
 IsDisplay-written d cell is fits =
     let cells = IsGrid-with_cell d.cells d.row d.column cell is.cells is.row_from is.row_to fits in
     IsDisplay-forward (record d { cells = with_cell d.cells d.row d.column cell }) (record { cells = cells; row_from = is.row_from; row_to = is.row_to; column = is.column })
@@ -81,7 +81,7 @@ IsDisplay-first d byte is =
     let onward = code 9 (forward d) _ (IsDisplay-forward d is) to_below in
     let backward = code 8 (back d) _ (IsDisplay-back d is) onward in
     let escaped = code 27 (record d { waiting = true }) _ (IsDisplay-waits d is true) backward in
-    cond_both (leb 32 byte && leb byte 127) (written d byte) _ IsDisplay (λ cell. IsDisplay-written d byte is (at_most 32 127 byte cell)) (λ _. escaped)
+    cond_both (leb 32 byte && leb byte 127) (after_cell d byte) _ IsDisplay (λ cell. IsDisplay-written d byte is (at_most 32 127 byte cell)) (λ _. escaped)
 
 -- and every byte that does
 IsDisplay-second : (d : Display) (byte : ℕ) → IsDisplay d → IsDisplay (after_second d byte)

@@ -4,7 +4,7 @@ use Rattle.std.proofs.lemmas.Bool.{eqb-true}
 use Rattle.pv_words.specs.Lines.{lines_of, before_first_line}
 use Rattle.pv_words.specs.Split.{HasNone}
 
--- another byte is told from a newline
+-- a byte that is no newline is not equal to one
 other : (byte : ℕ) → (byte ≡ 10 → ⊥) → eqb byte 10 ≡ false
 other byte differs = go (eqb byte 10) (eqb-true byte 10)
   where
@@ -12,7 +12,7 @@ other byte differs = go (eqb byte 10) (eqb-true byte 10)
     go true is = absurd (differs (is refl))
     go false is = refl
 
--- what stands before the first newline is the first line
+-- what comes before the first newline is the first line
 pub line_first : (line rest : List ℕ) → HasNone 10 line → lines_of (line ++ 10 ∷ rest) ≡ line ∷ lines_of rest
 line_first [] rest none = refl
 line_first (byte ∷ line) rest none =

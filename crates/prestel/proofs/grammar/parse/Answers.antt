@@ -4,12 +4,12 @@ use Rattle.pv_network.specs.declared.event.Event.{Event}
 use Rattle.prestel.specs.declared.grammar.Command.{Command}
 use Rattle.prestel.specs.declared.grammar.Command.TheVariants.{Nothing, Do}
 use Rattle.prestel.specs.declared.grammar.TheConstants.{COMMENT}
-use Rattle.prestel.specs.Grammar.{Asks, Reads}
+use Rattle.prestel.specs.Grammar.{Asks, ReadsLine}
 use Rattle.prestel.proofs.grammar.parse.Goals as goal
 
 -- a line that is not empty and no comment reads as the event that it asks for
 asked : (centres : ℕ) (line : List ℕ) (found : Option Event) → (line ≡ [] → ⊥) → ((comment : List ℕ) → line ≡ COMMENT ∷ comment → ⊥)
-    → ((event : Event) → Asks centres line event → found ≡ Some event) → (command : Command) → Reads centres line command → option_map Do found ≡ Some command
+    → ((event : Event) → Asks centres line event → found ≡ Some event) → (command : Command) → ReadsLine centres line command → option_map Do found ≡ Some command
 asked centres line found some other only Nothing (inl empty) = absurd (some empty)
 asked centres line found some other only Nothing (inr comment) = absurd (other comment.0 comment.1)
 asked centres line found some other only (Do event) asks = ap (option_map Do) (only event asks)
