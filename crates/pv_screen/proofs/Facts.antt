@@ -31,7 +31,9 @@ pub blank_screen : painting_of (replicate 24 (replicate 40 32)) ≡ 12 ∷ line_
 blank_screen = refl
 
 -- a title is a line, a full row has no line end, and neither has the last row
-pub three_rows : painting_of ((codes "TITLE" ++ replicate 35 32) ∷ replicate 40 88 ∷ (replicate 21 (replicate 40 32) ++ (codes "END" ++ replicate 37 32) ∷ [])) ≡ codes "\u{c}TITLE\r\n" ++ replicate 40 88 ++ line_ends 21 ++ codes "END"
+pub three_rows : painting_of
+    ((codes "TITLE" ++ replicate 35 32) ∷ replicate 40 88 ∷ (replicate 21 (replicate 40 32) ++ (codes "END" ++ replicate 37 32) ∷ []))
+    ≡ codes "\u{c}TITLE\r\n" ++ replicate 40 88 ++ line_ends 21 ++ codes "END"
 three_rows = refl
 
 -- a message goes home and up, and sends all its cells
@@ -72,17 +74,20 @@ unfolding digits
 free_heading = refl
 
 -- a price stands at its right end
-pub dear_heading : heading (record frames.blank_frame { price = 99 }) (record { page = 1; letter = 97 }) ≡ replicate 25 32 ++ codes "1a" ++ replicate 10 32 ++ codes "99p"
+pub dear_heading : heading (record frames.blank_frame { price = 99 }) (record { page = 1; letter = 97 }) ≡ replicate 25 32 ++ codes "1a"
+    ++ replicate 10 32 ++ codes "99p"
 unfolding digits
 dear_heading = refl
 
 -- the longest title and the longest name have one space between them, and a price fits behind them
-pub longest_heading : heading (record frames.blank_frame { title = replicate 24 84; price = 5 }) (record { page = 999999999; letter = 122 }) ≡ replicate 24 84 ++ codes " 999999999z   5p"
+pub longest_heading : heading (record frames.blank_frame { title = replicate 24 84; price = 5 })
+    (record { page = 999999999; letter = 122 }) ≡ replicate 24 84 ++ codes " 999999999z   5p"
 unfolding digits
 longest_heading = refl
 
 -- the screen of a blank frame
-pub blank_frame : painting_of (composed_grid frames.blank_frame (record { page = 1; letter = 97 })) ≡ 12 ∷ (replicate 25 32 ++ codes "1a") ++ line_ends 23
+pub blank_frame : painting_of (composed_grid frames.blank_frame (record { page = 1; letter = 97 })) ≡ 12 ∷
+    (replicate 25 32 ++ codes "1a") ++ line_ends 23
 unfolding digits
 blank_frame = refl
 
@@ -101,6 +106,7 @@ pub colours : ALPHA_RED ∷ ALPHA_GREEN ∷ ALPHA_YELLOW ∷ ALPHA_BLUE ∷ ALPH
 colours = refl
 
 -- the codes of the other attributes
-pub effects : FLASH ∷ STEADY ∷ NORMAL_HEIGHT ∷ DOUBLE_HEIGHT ∷ CONCEAL ∷ CONTIGUOUS ∷ SEPARATED ∷ BLACK_BACKGROUND ∷ NEW_BACKGROUND ∷ HOLD ∷ RELEASE ∷ []
+pub effects : FLASH ∷ STEADY ∷ NORMAL_HEIGHT ∷ DOUBLE_HEIGHT ∷ CONCEAL ∷ CONTIGUOUS ∷ SEPARATED ∷ BLACK_BACKGROUND ∷ NEW_BACKGROUND ∷
+    HOLD ∷ RELEASE ∷ []
     ≡ 8 ∷ 9 ∷ 12 ∷ 13 ∷ 24 ∷ 25 ∷ 26 ∷ 28 ∷ 29 ∷ 30 ∷ 31 ∷ []
 effects = refl

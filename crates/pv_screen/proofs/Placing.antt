@@ -1,9 +1,9 @@
 -- Lemmas on rows that are put together from texts and spaces, and on bodies cut into rows.
-use Rattle.std.proofs.Common.{◌≡◌, ℕ, zero, suc, ◌+◌, ◌*◌, ◌-◌, ◌<◌, ◌≤◌, Bool, true, false, cond, eqb, ne_eqb, inl, inr, lit≤, lit<, decimal, List, [], ◌∷◌, ◌++◌, length, get_or, set, take, drop, All, refl, sym, ap, subst, ◌∙◌, append_assoc, arith}
+use Rattle.std.proofs.Common.{◌≡◌, ℕ, zero, suc, ◌+◌, ◌*◌, ◌-◌, ◌<◌, ◌≤◌, Bool, true, false, cond, eqb, ne_eqb, inl, inr, lit≤, lit<, decimal, List, [], ◌∷◌, ◌++◌, length, take, drop, All, refl, sym, ap, subst, ◌∙◌, append_assoc, arith}
 use Rattle.std.specs.List.{concat}
 use Rattle.std.specs.Simd.{first_chunks}
-use Rattle.std.proofs.Math.Seq.{drop-cons, take-append-add, drop-append-add, take-append_seam, drop-append_seam}
-use Rattle.std.proofs.lemmas.List.{append-nil, nil_from_length, get_or_default, take_more, take_at, drop_at, set_at, length-append, length-drop, length-take-le, take-append-drop, take-replicate, drop-replicate, length-replicate, replicate-append-replicate}
+use Rattle.std.proofs.Math.Seq.{take-append_seam}
+use Rattle.std.proofs.lemmas.List.{nil_from_length, get_or_default, take_at, drop_at, length-append, length-drop, length-take-le, take-append-drop, length-replicate}
 use Rattle.std.proofs.lemmas.List.Elements.{All-nil, All-cons, All-take, All-drop, All-append, All-replicate}
 use Rattle.std.proofs.lemmas.Fmt.{length-decimal-le, IsAscii-decimal}
 use Rattle.pv_page.specs.Names.{Name, IsName, name_text}
@@ -30,7 +30,8 @@ concat-first_chunks width (suc count) cells all =
     ∙ take-append-drop width cells
 
 -- cells of 0 to 127 are cut into rows of the screen
-pub rows-first_chunks : (count : ℕ) (cells : List ℕ) → count * 40 ≤ length cells → All IsCell cells → All IsRow (first_chunks 40 count cells)
+pub rows-first_chunks : (count : ℕ) (cells : List ℕ) → count * 40 ≤ length cells → All IsCell cells
+    → All IsRow (first_chunks 40 count cells)
 rows-first_chunks zero cells all fits = All-nil IsRow
 rows-first_chunks (suc count) cells all fits =
     All-cons IsRow (take 40 cells) (first_chunks 40 count (drop 40 cells))
@@ -75,7 +76,8 @@ pub heading_is_row : (frame : Content) (name : Name) → HasRanges frame → IsF
 heading_is_row frame name ranges holds is =
     let price = price_text frame.price in
     let text = name_text name in
-    let name-fits : length (decimal name.page) + 1 ≤ 10 = omega (arith, length-name_text name is, length-append (decimal name.page) (name.letter ∷ [])) in
+    let name-fits : length (decimal name.page) + 1 ≤ 10 =
+    omega (arith, length-name_text name is, length-append (decimal name.page) (name.letter ∷ [])) in
     record {
       width = simp (length-append, length-replicate) (omega (arith, holds.title, name-fits, length-price_text frame.price ranges.price));
       seven_bits =
@@ -105,7 +107,8 @@ module _ (frame : Content) (name : Name) (ranges : HasRanges frame) (holds : IsF
       let text = name_text name in
       let price = price_text frame.price in
       let parts : heading frame name ≡ frame.title ++ (spaces 1 ++ (at_left 11 text ++ at_right 4 price)) =
-      append_assoc (frame.title ++ spaces 1) (at_left 11 text) (at_right 4 price) ∙ append_assoc frame.title (spaces 1) (at_left 11 text ++ at_right 4 price) in
+      append_assoc (frame.title ++ spaces 1) (at_left 11 text) (at_right 4 price)
+      ∙ append_assoc frame.title (spaces 1) (at_left 11 text ++ at_right 4 price) in
       ap (λ l. take 24 l) parts ∙ take_at frame.title (spaces 1 ++ (at_left 11 text ++ at_right 4 price)) 24 holds.title
 
   -- it has the name from column 25 on
@@ -139,12 +142,14 @@ module _ (frame : Content) (name : Name) (ranges : HasRanges frame) (holds : IsF
       ∙ concat-first_chunks 40 22 frame.body holds.body
 
 -- a heading, the rows of a body and a blank row are a grid
-pub IsGrid-parts : (heading body : List ℕ) (rows : List (List ℕ)) → IsRow heading → length body ≡ 880 → All IsCell body → rows ≡ body_rows body → IsGrid (heading ∷ (rows ++ spaces 40 ∷ []))
+pub IsGrid-parts : (heading body : List ℕ) (rows : List (List ℕ)) → IsRow heading → length body ≡ 880 → All IsCell body
+    → rows ≡ body_rows body → IsGrid (heading ∷ (rows ++ spaces 40 ∷ []))
 IsGrid-parts heading body rows row size cells are =
     subst (λ rows. IsGrid (heading ∷ (rows ++ spaces 40 ∷ []))) (sym are)
     (record {
       height = refl;
       rows =
           All-cons IsRow heading (body_rows body ++ spaces 40 ∷ []) row
-          (All-append IsRow (body_rows body) (spaces 40 ∷ []) (rows-first_chunks 22 body (omega (arith, size)) cells) (All-cons IsRow (spaces 40) [] IsRow-blank (All-nil IsRow)));
+          (All-append IsRow (body_rows body) (spaces 40 ∷ []) (rows-first_chunks 22 body (omega (arith, size)) cells)
+          (All-cons IsRow (spaces 40) [] IsRow-blank (All-nil IsRow)));
     })

@@ -1,6 +1,6 @@
 -- Spaces at the end of a row, and cells that are their own bytes.
 use Rattle.std.proofs.Common.{◌≡◌, ℕ, zero, suc, ◌+◌, ◌-◌, ◌<◌, ◌≤◌, cond, Bool, true, List, [], ◌∷◌, ◌++◌, length, get_or, take, drop, replicate, eqb, All, refl, sym, ap, ◌∙◌, arith}
-use Rattle.std.specs.List.{suffix_len, list_all, flat_map}
+use Rattle.std.specs.List.{suffix_len, list_all}
 use Rattle.std.proofs.lemmas.Bool.{eq-eqb, leb-true, le-ltb}
 use Rattle.std.proofs.lemmas.List.{get_or-take, get_or-drop, get_or-replicate}
 use Rattle.std.proofs.lemmas.List.Concat.{flat_map-cons}
@@ -15,15 +15,18 @@ is_space cell = eqb cell 32
 -- spaces before an end count towards those at the end
 pub skip : (row : List ℕ) (n count : ℕ) → n ≤ count → count ≤ length row → ((k : ℕ) → count ≤ k + n → k < count → get_or row k 0 ≡ 32)
     → suffix_len is_space (take count row) ≡ n + suffix_len is_space (take (count - n) row)
-skip row zero count few within each = let same : count ≡ count - 0 = omega arith in omega (arith, ap (λ k. suffix_len is_space (take k row)) same)
+skip row zero count few within each = let same : count ≡ count - 0 = omega arith in
+    omega (arith, ap (λ k. suffix_len is_space (take k row)) same)
 skip row (suc n) count few within each =
-    let last = suffix_len-take_yes is_space row count 0 (omega arith) within (eq-eqb (get_or row (count - 1) 0) 32 (each (count - 1) (omega arith) (omega arith))) in
+    let last = suffix_len-take_yes is_space row count 0 (omega arith) within
+    (eq-eqb (get_or row (count - 1) 0) 32 (each (count - 1) (omega arith) (omega arith))) in
     let more = skip row n (count - 1) (omega arith) (omega arith) (λ k from to. each k (omega arith) (omega arith)) in
     let same : count - 1 - n ≡ count - suc n = omega arith in
     omega (arith, last, more, ap (λ k. suffix_len is_space (take k row)) same)
 
 -- each cell of a part that is spaces is a space
-pub space_at : (row : List ℕ) (n count k : ℕ) → take n (drop (count - n) row) ≡ replicate n 32 → n ≤ count → count ≤ k + n → k < count → get_or row k 0 ≡ 32
+pub space_at : (row : List ℕ) (n count k : ℕ) → take n (drop (count - n) row) ≡ replicate n 32 → n ≤ count → count ≤ k + n → k < count
+    → get_or row k 0 ≡ 32
 space_at row n count k is few from to =
     let place : count - n + (k + n - count) ≡ k = omega arith in
     ap (λ k. get_or row k 0) (sym place)

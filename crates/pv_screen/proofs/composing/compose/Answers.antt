@@ -17,13 +17,21 @@ whole c =
     ∙ ap (λ (f : Content). heading c.args.frame.now c.args.name ∷ (body_rows f.body ++ spaces 40 ∷ [])) c.frame.view_is
 
 pub returns-clause-title : goal.returns-clause-title
-returns-clause-title c = ap (λ grid. take 24 (get_or grid 0 [])) (whole c) ∙ title_stands c.args.frame.now c.args.name c.requires (subst IsFrame c.frame.view_is c.frame.invariant.holds) (subst IsRow c.heading.ensures.value c.heading.ensures.row)
+returns-clause-title c = ap (λ grid. take 24 (get_or grid 0 [])) (whole c)
+    ∙ title_stands c.args.frame.now c.args.name c.requires (subst IsFrame c.frame.view_is c.frame.invariant.holds)
+    (subst IsRow c.heading.ensures.value c.heading.ensures.row)
 
 pub returns-clause-name : goal.returns-clause-name
-returns-clause-name c = ap (λ grid. take (length (name_text c.args.name)) (drop 25 (get_or grid 0 []))) (whole c) ∙ name_stands c.args.frame.now c.args.name c.requires (subst IsFrame c.frame.view_is c.frame.invariant.holds) (subst IsRow c.heading.ensures.value c.heading.ensures.row)
+returns-clause-name c = ap (λ grid. take (length (name_text c.args.name)) (drop 25 (get_or grid 0 []))) (whole c)
+    ∙ name_stands c.args.frame.now c.args.name c.requires (subst IsFrame c.frame.view_is c.frame.invariant.holds)
+    (subst IsRow c.heading.ensures.value c.heading.ensures.row)
 
 pub returns-clause-price : goal.returns-clause-price
-returns-clause-price c = ap (λ grid. drop (40 - length (price_text c.args.frame.now.price)) (get_or grid 0 [])) (whole c) ∙ price_stands c.args.frame.now c.args.name c.requires (subst IsFrame c.frame.view_is c.frame.invariant.holds) (subst IsRow c.heading.ensures.value c.heading.ensures.row)
+returns-clause-price c = ap (λ grid. drop (40 - length (price_text c.args.frame.now.price)) (get_or grid 0 [])) (whole c)
+    ∙ price_stands c.args.frame.now c.args.name c.requires (subst IsFrame c.frame.view_is c.frame.invariant.holds)
+    (subst IsRow c.heading.ensures.value c.heading.ensures.row)
 
 pub returns-clause-body : goal.returns-clause-body
-returns-clause-body c = ap (λ grid. concat (slice_range grid 1 23)) (whole c) ∙ body_stands c.args.frame.now c.args.name c.requires (subst IsFrame c.frame.view_is c.frame.invariant.holds) (subst IsRow c.heading.ensures.value c.heading.ensures.row)
+returns-clause-body c = ap (λ grid. concat (slice_range grid 1 23)) (whole c)
+    ∙ body_stands c.args.frame.now c.args.name c.requires (subst IsFrame c.frame.view_is c.frame.invariant.holds)
+    (subst IsRow c.heading.ensures.value c.heading.ensures.row)

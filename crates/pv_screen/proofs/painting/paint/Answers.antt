@@ -9,7 +9,9 @@ use Rattle.pv_screen.proofs.painting.paint.Goals as goal
 use Rattle.pv_screen.proofs.painting.paint.Goals.{After-written}
 
 -- the bytes that are written
-text : (c : After-written) → (take c.written.result c.put_screen.new.out.into.now ≡ painting_of c.args.grid.now) × (c.written.result ≡ length (painting_of c.args.grid.now))
+text : (c : After-written)
+    → (take c.written.result c.put_screen.new.out.into.now ≡ painting_of c.args.grid.now)
+    × (c.written.result ≡ length (painting_of c.args.grid.now))
 text c =
     let bytes = painting_of c.args.grid.now in
     let holds = slice_after c.new-out.result c.put_screen.new.out bytes c.new-out.ensures.empty c.put_screen.ensures.bytes in

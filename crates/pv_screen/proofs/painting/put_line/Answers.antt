@@ -1,4 +1,4 @@
-use Rattle.std.proofs.Common.{◌≡◌, ◌<◌, ◌++◌, length, ap, subst, sym, arith}
+use Rattle.std.proofs.Common.{◌<◌, ◌++◌, length, ap, subst, sym, arith}
 use Rattle.pv_fields.specs.Out.{Appends}
 use Rattle.pv_fields.proofs.CallerLemmas.{appends_then}
 use Rattle.pv_screen.specs.Painting.{shown_cells, row_bytes}
@@ -13,4 +13,5 @@ pub returns-then-shown_cells-lt-COLUMNS : goal.returns-then-shown_cells-lt-COLUM
 returns-then-shown_cells-lt-COLUMNS c =
     let row = c.args.row.now in
     let short : length (shown_cells row) < 40 = omega (arith, ap length c.shown_cells.ensures) in
-    subst (Appends c.args.out.now c.put_run.new.self) (ap (λ end. row_bytes row ++ end) (sym (line_end_short row short))) (appends_then c.put_row.ensures c.put_run.ensures.appends)
+    subst (Appends c.args.out.now c.put_run.new.self) (ap (λ end. row_bytes row ++ end) (sym (line_end_short row short)))
+    (appends_then c.put_row.ensures c.put_run.ensures.appends)

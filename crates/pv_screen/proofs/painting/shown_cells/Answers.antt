@@ -18,7 +18,10 @@ loop-count-preserved c =
     let count = c.loop-count.count in
     let eight : count - (count - 8) ≡ 8 = omega (arith, c.loop-count-test.true) in
     let cells = take (count - (count - 8)) (drop (count - 8) row) in
-    let same : cells ≡ replicate 8 32 = (slice_eq-Decides {E = eqb} (λ a b. (eqb-true a b, eq-eqb a b)) cells (replicate 8 32) c.eq.result c.eq.ensures).0 c.if-eq.true in
+    let same : cells ≡ replicate 8 32 =
+    (slice_eq-Decides {E = eqb} (λ a b. (eqb-true a b, eq-eqb a b)) cells (replicate 8 32) c.eq.result c.eq.ensures).0 c.if-eq.true in
     let spaces : take 8 (drop (count - 8) row) ≡ replicate 8 32 = ap (λ n. take n (drop (count - 8) row)) (sym eight) ∙ same in
-    let passed = skip row 8 count c.loop-count-test.true (omega (arith, c.told-row, c.loop-count.invariant.within)) (λ k from to. space_at row 8 count k spaces c.loop-count-test.true from to) in
+    let passed =
+    skip row 8 count c.loop-count-test.true (omega (arith, c.told-row, c.loop-count.invariant.within))
+    (λ k from to. space_at row 8 count k spaces c.loop-count-test.true from to) in
     record { within = omega (arith, c.loop-count.invariant.within); passed = omega (arith, c.loop-count.invariant.passed, passed) }

@@ -1,4 +1,4 @@
-use Rattle.std.proofs.Common.{subst, sym, ap, ◌/◌, arith, ◌∙◌}
+use Rattle.std.proofs.Common.{ap, ◌/◌, ◌∙◌}
 use Rattle.std.specs.Simd.{first_chunks}
 use Rattle.pv_screen.proofs.Placing.{IsGrid-parts}
 use Rattle.pv_screen.proofs.grid.Grid.of_parts.Goals as goal

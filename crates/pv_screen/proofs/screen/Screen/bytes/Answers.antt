@@ -16,4 +16,5 @@ pub returns-in-Row-clause-screen : goal.returns-in-Row-clause-screen
 returns-in-Row-clause-screen c = λ has.
     let fits = subst HasCells c.in-Row.is has in
     let after = c.message.ensures.ready fits new_display IsReady-new in
-    subst IsScreen (sym c.in-Row.is) (IsRow-last blank_grid c.in-Row.cells refl (subst IsGrid (c.message.ensures.shows fits new_display IsReady-new) after.cells))
+    subst IsScreen (sym c.in-Row.is)
+    (IsRow-last blank_grid c.in-Row.cells refl (subst IsGrid (c.message.ensures.shows fits new_display IsReady-new) after.cells))
