@@ -1,57 +1,26 @@
--- How a play ended that ran nothing.
-use Rattle.std.proofs.Common.{◌≡◌, ℕ, Bool, List, [], length, Option, refl, sym, ap, subst, arith}
+-- How a play ended that did not run its whole text.
+use Rattle.std.proofs.Common.{◌≡◌, ℕ, Bool, List, [], length, Option, None, refl, ap, arith}
 use Rattle.pv_outside.specs.declared.status.Status.{Status}
-use Rattle.pv_outside.specs.declared.status.Status.TheVariants.{Done, Usage, BadLine, ReadFault, WriteFault, Memory, TooLong}
-use Rattle.pv_network.specs.Standing.{State}
-use Rattle.prestel.specs.Parts.{IsReadEnd}
-use Rattle.prestel.specs.Play.{IsPlayOf}
-use Rattle.prestel.proofs.Running.{front_of_nothing}
+use Rattle.pv_network.specs.World.{World}
+use Rattle.prestel.specs.declared.ends.ReadEnd.{ReadEnd}
+use Rattle.prestel.specs.declared.ends.ReadEnd.TheVariants as reads
+use Rattle.prestel.specs.declared.ends.AnswerEnd.TheVariants as answering
+use Rattle.prestel.specs.declared.ends.RunEnd.{RunEnd}
+use Rattle.prestel.specs.declared.ends.RunEnd.TheVariants.{BadLine, Unanswered}
+use Rattle.prestel.specs.Ends.{IsReadEnd, IsRunEnd, read_status, run_status}
+use Rattle.prestel.specs.Play.{IsReadWhole, IsPlayOf}
+use Rattle.prestel.proofs.Running.{stops_at_once}
 
--- the words were refused: nothing was read, and nothing else is claimed
-pub refused : (status : Status) (network : Option State) (left : Option (List ℕ)) (ended : Bool) (before now : Option (List ℕ)) → status ≡ Usage → IsPlayOf [] status network left ended before now
-refused status network left ended before now is = record {
-  within = omega arith;
-  too_long = ((λ long. absurd cc), (λ long. absurd (omega (arith, long))));
-  done = λ done. absurd cc;
-  bad_line = λ number bad. absurd cc;
-  write_fault = λ fault. absurd cc;
-  memory = λ memory. absurd cc;
-}
+module _ (centres : ℕ) (first : World) (text : List ℕ) (left : Option (List ℕ)) (ended : Bool) (before now : Option (List ℕ)) (faults_before faults_now : ℕ) where
+  -- the script was not read to its end
+  pub not_read : (end : ReadEnd) → IsReadEnd text faults_before faults_now end → IsPlayOf centres first text None left ended before before (read_status end)
+  not_read reads.TooLong is = is
+  not_read reads.Fault is = is.0
+  not_read reads.Memory is = (omega (arith, ap length is), stops_at_once centres first text before)
 
--- the script was not read to its end
-not_read : (text : List ℕ) (status : Status) (network : Option State) (left : Option (List ℕ)) (ended : Bool) (faults_before faults_now : ℕ) (before : Option (List ℕ)) → IsReadEnd text faults_before faults_now status → IsPlayOf text status network left ended before before
-not_read text TooLong network left ended faults_before faults_now before end = record {
-  within = omega (arith, end);
-  too_long = ((λ long. end), (λ long. refl));
-  done = λ done. absurd cc;
-  bad_line = λ number bad. absurd cc;
-  write_fault = λ fault. absurd cc;
-  memory = λ memory. absurd cc;
-}
-not_read text ReadFault network left ended faults_before faults_now before end = record {
-  within = omega (arith, end.0);
-  too_long = ((λ long. absurd cc), (λ long. absurd (omega (arith, end.0, long))));
-  done = λ done. absurd cc;
-  bad_line = λ number bad. absurd cc;
-  write_fault = λ fault. absurd cc;
-  memory = λ memory. absurd cc;
-}
-not_read text Memory network left ended faults_before faults_now before end =
-    let none : length text ≡ 0 = ap length end in
-    record {
-      within = omega (arith, none);
-      too_long = ((λ long. absurd cc), (λ long. absurd (omega (arith, none, long))));
-      done = λ done. absurd cc;
-      bad_line = λ number bad. absurd cc;
-      write_fault = λ fault. absurd cc;
-      memory = λ memory. front_of_nothing text before before refl;
-    }
-not_read text Done network left ended faults_before faults_now before end = absurd end
-not_read text Usage network left ended faults_before faults_now before end = absurd end
-not_read text (BadLine number) network left ended faults_before faults_now before end = absurd end
-not_read text WriteFault network left ended faults_before faults_now before end = absurd end
-
--- what was told is why
-pub not_read_as : (text : List ℕ) (status told : Status) (network : Option State) (left : Option (List ℕ)) (ended : Bool) (faults_before faults_now : ℕ) (before : Option (List ℕ)) → told ≡ status → IsReadEnd text faults_before faults_now status → IsPlayOf text told network left ended before before
-not_read_as text status told network left ended faults_before faults_now before is end =
-    subst (λ (s : Status). IsPlayOf text s network left ended before before) (sym is) (not_read text status network left ended faults_before faults_now before end)
+  -- its lines were not all run
+  pub not_run : (end : RunEnd) → IsReadWhole text left ended → IsRunEnd centres first text before now faults_before faults_now end
+      → IsPlayOf centres first text None left ended before now (run_status end)
+  not_run (BadLine number) read is = (read, is)
+  not_run (Unanswered answering.Fault) read is = (read, is.1)
+  not_run (Unanswered answering.Memory) read is = (read.within, is)

@@ -1,55 +1,56 @@
--- How a run ended, from how its play ended and what the flush behind it did.
-use Rattle.std.proofs.Common.{◌≡◌, ℕ, ◌⊎◌, Bool, List, [], ◌∷◌, ◌++◌, length, take, Option, Some, None, sym, ap, subst, ◌∙◌, inl, inr}
-use Rattle.std.specs.Prelude.{IsTrue, IsSomeAnd}
+-- How a run ended, from how its play ended and what the flush after it did.
+use Rattle.std.proofs.Common.{◌≡◌, ℕ, ◌≤◌, ◌⊎◌, Bool, List, [], ◌∷◌, ◌++◌, length, take, Option, Some, None, Result, Ok, Err, refl, sym, ap, subst, ◌∙◌, inl, inr, arith}
+use Rattle.std.specs.Prelude.{IsSomeAnd, IsErr, OnOk}
 use Rattle.std.specs.Io.KnownBytes.{Appends, Keeps, append_known}
 use Rattle.std.proofs.lemmas.List.{append-nil}
 use Rattle.std.proofs.Math.Seq.{take-length}
+use Rattle.pv_outside.specs.Counts.{Rose}
 use Rattle.pv_outside.specs.declared.status.Status.{Status}
-use Rattle.pv_outside.specs.declared.status.Status.TheVariants.{Done, BadLine, WriteFault, TooLong}
+use Rattle.pv_outside.specs.declared.status.Status.TheVariants.{Done, Usage, BadLine, ReadFault, WriteFault, Memory, TooLong}
+use Rattle.pv_words.specs.Lines.{lines_of}
 use Rattle.pv_network.specs.Standing.{State}
+use Rattle.pv_network.specs.World.{World}
 use Rattle.prestel.specs.declared.streams.StandardOutput.{StandardOutput}
-use Rattle.prestel.specs.Grammar.{lines_of, events_of}
-use Rattle.prestel.specs.Transcript.{answers}
-use Rattle.prestel.specs.Output.{given, passed_on, waiting}
-use Rattle.prestel.specs.Play.{first_world, IsWhole, IsTranscript, IsCutShort, IsBrokenOff, IsFront, IsPlayOf}
+use Rattle.prestel.specs.Output.{written_bytes, flushed_bytes, buffered_bytes}
+use Rattle.prestel.specs.Play.{IsTranscript, StopsAtBadLine, StopsInAnswers, StopsAfterLine, IsPlayOf}
 use Rattle.prestel.specs.Program.{IsRunOf}
+use Rattle.prestel.specs.Transcript.{answers}
 use Rattle.prestel.proofs.Reading.{Appends-kept}
 
 -- ---- what was written stays written
 
--- where nothing waits, the writer itself has all that was written
-all_passed : (a b : Option (List ℕ)) (buffer : List ℕ) → Keeps a (append_known b buffer) → buffer ≡ [] → Keeps a b
-all_passed None b buffer kept none = tt
-all_passed (Some x) None buffer kept none = absurd kept
-all_passed (Some x) (Some y) buffer kept none = sym (append-nil y) ∙ ap (λ (l : List ℕ). y ++ l) (sym none) ∙ kept
+-- if nothing is in the buffer, the writer itself has all that was written
+all_flushed : (a b : Option (List ℕ)) (buffer : List ℕ) → Keeps a (append_known b buffer) → buffer ≡ [] → Keeps a b
+all_flushed None b buffer kept none = tt
+all_flushed (Some x) None buffer kept none = absurd kept
+all_flushed (Some x) (Some y) buffer kept none = sym (append-nil y) ∙ ap (λ (l : List ℕ). y ++ l) (sym none) ∙ kept
 
--- a transcript that was written stays so
-transcript_kept : (lines : List (List ℕ)) (a b c : Option (List ℕ)) → IsTranscript lines a b → Keeps b c → IsTranscript lines a c
-transcript_kept lines a b c t kept = record { commands = t.commands; read = t.read; written = Appends-kept a b c _ t.written kept }
+-- a text that was written whole is a prefix of itself, and stays so
+pub whole_is_prefix : (a b c : Option (List ℕ)) (text : List ℕ) → Appends a b text → Keeps b c → (count : ℕ) × Appends a c (take count text)
+whole_is_prefix a b c text written kept = (length text, subst (λ (l : List ℕ). Appends a c l) (sym (take-length text)) (Appends-kept a b c text written kept))
 
--- the answers before a bad line stay written
-cut_short_kept : (text : List ℕ) (number : ℕ) (a b c : Option (List ℕ)) → IsCutShort text number a b → Keeps b c → IsCutShort text number a c
-cut_short_kept text number a b c p kept = record { run = p.run; bad = p.bad; behind = p.behind; lines = p.lines; place = p.place; none = p.none; transcript = transcript_kept p.run a b c p.transcript kept }
+module _ (centres : ℕ) (first : World) (a b c : Option (List ℕ)) (kept : Keeps b c) where
+  -- a transcript that was written stays so
+  transcript_kept : (lines : List (List ℕ)) → IsTranscript centres first lines a b → IsTranscript centres first lines a c
+  transcript_kept lines t = record { runs = t.runs; read = t.read; written = Appends-kept a b c _ t.written kept }
 
--- a front of the answers stays written
-broken_off_kept : (text : List ℕ) (a b c : Option (List ℕ)) → IsBrokenOff text a b → Keeps b c → IsBrokenOff text a c
-broken_off_kept text a b c p kept = record { run = p.run; behind = p.behind; commands = p.commands; lines = p.lines; read = p.read; count = p.count; written = Appends-kept a b c _ p.written kept }
+  -- the answers before a bad line stay written
+  bad_line_kept : (text : List ℕ) (number : ℕ) → StopsAtBadLine centres first text number a b → StopsAtBadLine centres first text number a c
+  bad_line_kept text number p = record { run = p.run; bad = p.bad; later = p.later; lines = p.lines; place = p.place; none = p.none; transcript = transcript_kept p.run p.transcript }
 
--- the answers of the lines at the front stay written
-front_kept : (text : List ℕ) (a b c : Option (List ℕ)) → IsFront text a b → Keeps b c → IsFront text a c
-front_kept text a b c p kept = record { run = p.run; behind = p.behind; lines = p.lines; transcript = transcript_kept p.run a b c p.transcript kept }
+  -- a prefix of the answers stays written
+  in_answers_kept : (text : List ℕ) → StopsInAnswers centres first text a b → StopsInAnswers centres first text a c
+  in_answers_kept text p = record { run = p.run; later = p.later; runs = p.runs; lines = p.lines; read = p.read; count = p.count; written = Appends-kept a b c _ p.written kept }
 
--- ---- all is a front
+  -- the answers of the first lines stay written
+  after_line_kept : (text : List ℕ) → StopsAfterLine centres first text a b → StopsAfterLine centres first text a c
+  after_line_kept text p = record { run = p.run; later = p.later; lines = p.lines; transcript = transcript_kept p.run p.transcript }
 
--- the answers of the lines at the front are a front of all
-transcript_is_front : (text : List ℕ) (run behind : List (List ℕ)) (a b : Option (List ℕ)) → lines_of text ≡ run ++ behind → IsTranscript run a b → IsBrokenOff text a b
-transcript_is_front text run behind a b lines t =
-    let all = answers first_world (events_of t.commands) in
-    record { run = run; behind = behind; commands = t.commands; lines = lines; read = t.read; count = length all; written = subst (λ (l : List ℕ). Appends a b l) (sym (take-length all)) t.written }
-
--- a text that was written whole is a front of itself, and stays so
-pub whole_is_front : (a b c : Option (List ℕ)) (text : List ℕ) → Appends a b text → Keeps b c → (count : ℕ) × Appends a c (take count text)
-whole_is_front a b c text written kept = (length text, subst (λ (l : List ℕ). Appends a c l) (sym (take-length text)) (Appends-kept a b c text written kept))
+  -- the answers of the first lines are a prefix of all, and stay so
+  transcript_is_prefix : (text : List ℕ) (run later : List (List ℕ)) → lines_of text ≡ run ++ later → IsTranscript centres first run a b → StopsInAnswers centres first text a c
+  transcript_is_prefix text run later lines t =
+      let prefix = whole_is_prefix a b c (answers first t.runs) t.written kept in
+      record { run = run; later = later; runs = t.runs; lines = lines; read = t.read; count = prefix.0; written = prefix.1 }
 
 -- ---- the end of a run
 
@@ -58,38 +59,40 @@ some_network : (network : Option State) (P : State → Type 0) → IsSomeAnd net
 some_network None P is = absurd is
 some_network (Some n) P is = (n, is)
 
--- what waited was passed on: the run ended as its play did
-pub passed : {W : Type 0} (contents : W → Option (List ℕ)) (text : List ℕ) (status : Status) (network : Option State) (left : Option (List ℕ)) (ended : Bool) (before mid now : StandardOutput W)
-    → IsPlayOf text status network left ended (given contents before) (given contents mid) → Keeps (given contents mid) (given contents now) → waiting now ≡ []
-    → IsRunOf contents text status left ended before now
-passed contents text status network left ended before mid now p kept none =
-    let arrived : Keeps (given contents mid) (passed_on contents now) = all_passed _ _ (waiting now) kept none in
-    record {
-      within = p.within;
-      too_long = p.too_long;
-      done = λ is. let d = p.done is in let n = some_network network _ d.2 in (d.0, d.1, transcript_kept (lines_of text) _ _ _ n.1.transcript arrived, none);
-      bad_line = λ number is. let b = p.bad_line number is in (b.0, b.1, cut_short_kept text number _ _ _ b.2 arrived, none);
-      write_fault = λ is. let f = p.write_fault is in (f.0, f.1, broken_off_kept text _ _ _ f.2 kept);
-      memory = λ is. (front_kept text _ _ _ (p.memory is) kept, inl none);
-    }
+-- the bytes were flushed, or the faults rose, at the latest now
+which : {T E : Type 0} (flush : Result T E) (buffer : List ℕ) (before mid now : ℕ) → OnOk flush (buffer ≡ []) → (IsErr flush → Rose mid now) → before ≤ mid → (buffer ≡ []) ⊎ Rose before now
+which (Ok done) buffer before mid now none rose counted = inl none
+which (Err failed) buffer before mid now none rose counted = inr (let more = rose refl in omega (arith, more, counted))
 
--- the whole script was run, or up to a bad line, and the answers could not be passed on
-pub not_passed : {W : Type 0} (contents : W → Option (List ℕ)) (text : List ℕ) (told : Status) (network : Option State) (left : Option (List ℕ)) (ended : Bool) (before mid now : StandardOutput W)
-    → IsPlayOf text told network left ended (given contents before) (given contents mid) → Keeps (given contents mid) (given contents now) → (told ≡ Done) ⊎ ((number : ℕ) × (told ≡ BadLine number))
-    → IsRunOf contents text WriteFault left ended before now
-not_passed contents text told network left ended before mid now p kept which = record {
-  within = p.within;
-  too_long = ((λ is. absurd cc), (λ long. absurd (never (p.too_long.1 long) which)));
-  done = λ is. absurd cc;
-  bad_line = λ number is. absurd cc;
-  write_fault = λ is. let f = front which in (f.0, f.1, broken_off_kept text _ _ _ f.2 kept);
-  memory = λ is. absurd cc;
-}
-  where
-    never : told ≡ TooLong → (told ≡ Done) ⊎ ((number : ℕ) × (told ≡ BadLine number)) → ⊥
-    never long (inl done) = let e : TooLong ≡ Done = sym long ∙ done in cc
-    never long (inr bad) = let e : TooLong ≡ BadLine bad.0 = sym long ∙ bad.1 in cc
+module _ {W : Type 0} (contents : W → Option (List ℕ)) (centres : ℕ) (first : World) (text : List ℕ) (network : Option State) (left : Option (List ℕ)) (ended : Bool)
+    (before mid now : StandardOutput W) (kept : Keeps (written_bytes contents mid) (written_bytes contents now)) where
+  -- the buffer was flushed: the run ended as its play did
+  pub flushed : (status : Status) → IsPlayOf centres first text network left ended (written_bytes contents before) (written_bytes contents mid) status → buffered_bytes now ≡ []
+      → IsRunOf contents centres first text left ended before now status
+  flushed Done p none =
+      let n = some_network network _ p.1 in
+      (p.0, transcript_kept centres first _ _ _ (all_flushed _ _ (buffered_bytes now) kept none) (lines_of text) n.1.transcript, none)
+  flushed Usage p none = p
+  flushed (BadLine number) p none = (p.0, bad_line_kept centres first _ _ _ (all_flushed _ _ (buffered_bytes now) kept none) text number p.1, none)
+  flushed ReadFault p none = p
+  flushed WriteFault p none = (p.0, in_answers_kept centres first _ _ _ kept text p.1)
+  flushed Memory p none = (p.0, after_line_kept centres first _ _ _ kept text p.1, inl none)
+  flushed TooLong p none = p
 
-    front : (told ≡ Done) ⊎ ((number : ℕ) × (told ≡ BadLine number)) → IsTrue ended × IsWhole left text × IsBrokenOff text (given contents before) (given contents mid)
-    front (inl done) = let d = p.done done in let n = some_network network _ d.2 in (d.0, d.1, transcript_is_front text (lines_of text) [] _ _ (sym (append-nil (lines_of text))) n.1.transcript)
-    front (inr bad) = let b = p.bad_line bad.0 bad.1 in (b.0, b.1, transcript_is_front text b.2.run (b.2.bad ∷ b.2.behind) _ _ b.2.lines b.2.transcript)
+  -- memory ran out, whether the buffer could be flushed or not
+  pub out_of_memory : {T E : Type 0} (status : Status) (flush : Result T E) → IsPlayOf centres first text network left ended (written_bytes contents before) (written_bytes contents mid) status → status ≡ Memory
+      → OnOk flush (buffered_bytes now ≡ []) → (IsErr flush → Rose mid.faults now.faults) → before.faults ≤ mid.faults → IsRunOf contents centres first text left ended before now status
+  out_of_memory status flush p is none rose counted =
+      let q = rw is at p in
+      rw is (q.0, after_line_kept centres first _ _ _ kept text q.1, which flush _ before.faults mid.faults now.faults none rose counted)
+
+  -- the whole script was run, or up to a bad line, and the buffer could not be flushed
+  pub not_flushed : (status : Status) → IsPlayOf centres first text network left ended (written_bytes contents before) (written_bytes contents mid) status
+      → (status ≡ Done) ⊎ ((number : ℕ) × (status ≡ BadLine number)) → IsRunOf contents centres first text left ended before now WriteFault
+  not_flushed status p (inl is) =
+      let q = rw is at p in
+      let n = some_network network _ q.1 in
+      (q.0, transcript_is_prefix centres first _ _ _ kept text (lines_of text) [] (sym (append-nil (lines_of text))) n.1.transcript)
+  not_flushed status p (inr is) =
+      let q = rw is.1 at p in
+      (q.0, transcript_is_prefix centres first _ _ _ kept text q.1.run (q.1.bad ∷ q.1.later) q.1.lines q.1.transcript)

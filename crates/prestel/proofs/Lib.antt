@@ -1,9 +1,6 @@
 pub mod Ending
 pub mod Facts
 pub mod Flushing
-pub mod Forms
-pub mod Lines
-pub mod Notations
+pub mod Happening
 pub mod Reading
 pub mod Running
-pub mod Words

@@ -69,12 +69,12 @@ pub given_from : (r : Result ℕ Failed) (tb tn lb ln : Option (List ℕ)) (at :
     → IfOk r (λ count. (given : List ℕ) × HasRead tb tn lb ln given × (length given ≡ count) × (take (at + count) (put_mid at (length into - at) into part) ≡ take at into ++ given))
 given_from (Err e) tb tn lb ln at into part within fits takes leaves = tt
 given_from (Ok n) tb tn lb ln at into part within fits takes leaves =
-    let front : length (take at into) ≡ at = length-take-le at into within in
+    let prefix : length (take at into) ≡ at = length-take-le at into within in
     let rest = post_of at (length into - at) into in (
       take n part,
       record { taken = takes; left = leaves },
       length-take-le n part fits,
-      ap (λ (k : ℕ). take (k + n) (take at into ++ (part ++ rest))) (sym front) ∙ take-append-add (take at into) (part ++ rest) n
+      ap (λ (k : ℕ). take (k + n) (take at into ++ (part ++ rest))) (sym prefix) ∙ take-append-add (take at into) (part ++ rest) n
           ∙ ap (λ (l : List ℕ). take at into ++ l) (take-append-le n part rest fits),
     )
 

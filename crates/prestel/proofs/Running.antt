@@ -1,126 +1,133 @@
 -- What was run and written, line by line.
-use Rattle.std.proofs.Common.{◌≡◌, ℕ, ◌+◌, List, [], ◌∷◌, ◌++◌, length, take, Option, refl, sym, ap, subst, ◌∙◌, append_assoc, arith}
+use Rattle.std.proofs.Common.{◌≡◌, ℕ, ◌+◌, ◌≤◌, Bool, List, [], ◌∷◌, ◌++◌, length, take, Option, refl, sym, ap, subst, ◌∙◌, append_assoc, arith}
 use Rattle.std.specs.Io.KnownBytes.{Appends}
 use Rattle.std.proofs.lemmas.List.{append-nil, length-append}
 use Rattle.std.proofs.Math.Seq.{take-append-add}
-use Rattle.pv_network.specs.declared.event.Event.{Event}
+use Rattle.pv_words.specs.Lines.{lines_of}
 use Rattle.pv_network.specs.World.{World}
-use Rattle.pv_network.specs.Step.{happens, after}
 use Rattle.pv_network.specs.Standing.{State, StandsFor}
+use Rattle.prestel.specs.declared.ends.AnswerEnd.TheVariants as answering
+use Rattle.prestel.specs.declared.ends.RunEnd.{RunEnd}
+use Rattle.prestel.specs.declared.ends.RunEnd.TheVariants.{BadLine, Unanswered}
 use Rattle.prestel.specs.declared.grammar.Command.{Command}
-use Rattle.prestel.specs.declared.grammar.Command.TheVariants.{Nothing, Do}
-use Rattle.prestel.specs.declared.play.TheConstants.{CENTRES}
-use Rattle.prestel.specs.Grammar.{lines_of, Reads, AreCommands, events_of}
-use Rattle.prestel.specs.Transcript.{answer_text, answers}
-use Rattle.prestel.specs.Play.{first_world, IsTranscript, IsPlayed, IsBrokenOff, IsFront}
-use Rattle.prestel.specs.Parts.{HasRun, HasBegun}
+use Rattle.prestel.specs.Ends.{HasRun, IsLineEnd, IsRunEnd}
+use Rattle.prestel.specs.Grammar.{ReadsLine, AreRead}
+use Rattle.prestel.specs.Play.{IsTranscript, IsPlayed, StopsAfterLine}
+use Rattle.prestel.specs.Transcript.{answer_to, answers, world_after, world_after_all}
 use Rattle.prestel.proofs.Reading.{Appends-none, Appends-more}
 
--- ---- events, one list after another
+-- ---- one command more
 
--- the events of two lists of commands follow one another
-events_of-append : (cs ds : List Command) → events_of (cs ++ ds) ≡ events_of cs ++ events_of ds
-events_of-append [] ds = refl
-events_of-append (Nothing ∷ cs) ds = events_of-append cs ds
-events_of-append (Do event ∷ cs) ds = ap (λ (l : List Event). event ∷ l) (events_of-append cs ds)
+-- the world after one command more
+world_after-push : (w : World) (runs : List (Command × Bool)) (run : Command × Bool) → world_after_all w (runs ++ run ∷ []) ≡ world_after (world_after_all w runs) run.0 run.1
+world_after-push w [] run = refl
+world_after-push w (first ∷ runs) run = world_after-push (world_after w first.0 first.1) runs run
 
--- a world after two lists of events is the world after the second, begun where the first ended
-after-append : (w : World) (es fs : List Event) → after w (es ++ fs) ≡ after (after w es) fs
-after-append w [] fs = refl
-after-append w (e ∷ es) fs = after-append (happens w e).0 es fs
-
--- the answers to two lists of events follow one another, the second from the world where the first ended
-answers-append : (w : World) (es fs : List Event) → answers w (es ++ fs) ≡ answers w es ++ answers (after w es) fs
-answers-append w [] fs = refl
-answers-append w (e ∷ es) fs =
-    ap (λ (l : List ℕ). answer_text (happens w e).1 ++ l) (answers-append (happens w e).0 es fs)
-    ∙ sym (append_assoc (answer_text (happens w e).1) (answers (happens w e).0 es) (answers (after (happens w e).0 es) fs))
+-- what is written for one command more
+answers-push : (w : World) (runs : List (Command × Bool)) (run : Command × Bool) → answers w (runs ++ run ∷ []) ≡ answers w runs ++ answer_to (world_after_all w runs) run.0 run.1
+answers-push w [] run = append-nil (answer_to w run.0 run.1)
+answers-push w (first ∷ runs) run =
+    ap (λ (l : List ℕ). answer_to w first.0 first.1 ++ l) (answers-push (world_after w first.0 first.1) runs run)
+    ∙ sym (append_assoc (answer_to w first.0 first.1) _ _)
 
 -- one line more reads as one command more
-commands-push : (lines : List (List ℕ)) (commands : List Command) (line : List ℕ) (command : Command) → AreCommands CENTRES lines commands → Reads CENTRES line command → AreCommands CENTRES (lines ++ line ∷ []) (commands ++ command ∷ [])
-commands-push [] [] line command read reads = (reads, tt)
-commands-push [] (c ∷ cs) line command read reads = absurd read
-commands-push (l ∷ ls) [] line command read reads = absurd read
-commands-push (l ∷ ls) (c ∷ cs) line command read reads = (read.0, commands-push ls cs line command read.1 reads)
+read-push : (centres : ℕ) (lines : List (List ℕ)) (runs : List (Command × Bool)) (line : List ℕ) (run : Command × Bool)
+    → AreRead centres lines runs → ReadsLine centres line run.0 → AreRead centres (lines ++ line ∷ []) (runs ++ run ∷ [])
+read-push centres [] [] line run read reads = (reads, tt)
+read-push centres [] (c ∷ cs) line run read reads = absurd read
+read-push centres (l ∷ ls) [] line run read reads = absurd read
+read-push centres (l ∷ ls) (c ∷ cs) line run read reads = (read.0, read-push centres ls cs line run read.1 reads)
 
 -- ---- the run so far
 
--- the lines before the rest were read as commands, the network stands for the world after them, and their answers were written
-pub record Progress (text rest : List ℕ) (number : ℕ) (network : State) (before now : Option (List ℕ)) : Type 0 where
-  pub done : List (List ℕ)
-  pub lines : lines_of text ≡ done ++ lines_of rest
-  pub count : length done ≡ number
-  pub transcript : IsTranscript done before now
-  pub stands : StandsFor network (after first_world (events_of transcript.commands))
+module _ (centres : ℕ) (first : World) (text : List ℕ) (before : Option (List ℕ)) where
+  -- the lines before the rest were run, the network stands for the world after them, and their answers were written
+  pub record Progress (rest : List ℕ) (number : ℕ) (network : State) (now : Option (List ℕ)) : Type 0 where
+    pub done : List (List ℕ)
+    pub lines : lines_of text ≡ done ++ lines_of rest
+    pub count : length done ≡ number
+    pub transcript : IsTranscript centres first done before now
+    pub stands : StandsFor network (world_after_all first transcript.runs)
 
--- no line has no answer
-nothing_written : (before : Option (List ℕ)) → IsTranscript [] before before
-nothing_written before = record { commands = []; read = tt; written = Appends-none before }
+  -- no line has no answer
+  nothing_written : IsTranscript centres first [] before before
+  nothing_written = record { runs = []; read = tt; written = Appends-none before }
 
--- before the first line nothing was run or written
-pub begins : (text : List ℕ) (network : State) (before : Option (List ℕ)) → StandsFor network first_world → Progress text text 0 network before before
-unfolding nothing_written
-begins text network before stands = record { done = []; lines = refl; count = refl; transcript = nothing_written before; stands = stands }
+  -- before the first line nothing was run or written
+  pub begins : (network : State) → StandsFor network first → Progress text 0 network before
+  unfolding nothing_written
+  begins network stands = record { done = []; lines = refl; count = refl; transcript = nothing_written; stands = stands }
 
--- one line more was run
-pub goes_on : (text rest line behind : List ℕ) (number : ℕ) (old new : State) (before mid now : Option (List ℕ)) → Progress text rest number old before mid → lines_of rest ≡ line ∷ lines_of behind → HasRun line old new mid now → Progress text behind (number + 1) new before now
-goes_on text rest line behind number old new before mid now p is run =
-    let commands = p.transcript.commands in
-    let command = run.0 in
-    let step = run.2 (after first_world (events_of commands)) p.stands in
-    let events = events_of-append commands (command ∷ []) in
-    record {
-      done = p.done ++ line ∷ [];
-      lines = p.lines ∙ ap (λ (l : List (List ℕ)). p.done ++ l) is ∙ sym (append_assoc p.done (line ∷ []) (lines_of behind));
-      count = omega (arith, length-append p.done (line ∷ []), p.count);
-      transcript = record {
-        commands = commands ++ command ∷ [];
-        read = commands-push p.done commands line command p.transcript.read run.1;
-        written = subst (λ (l : List ℕ). Appends before now l) (sym (ap (answers first_world) events ∙ answers-append first_world (events_of commands) (events_of (command ∷ []))))
-            (Appends-more before mid now (answers first_world (events_of commands)) (answers (after first_world (events_of commands)) (events_of (command ∷ []))) p.transcript.written step.1);
-      };
-      stands = subst (λ (w : World). StandsFor new w) (sym (ap (after first_world) events ∙ after-append first_world (events_of commands) (events_of (command ∷ [])))) step.0;
+  -- nothing was run yet
+  pub stops_at_once : StopsAfterLine centres first text before before
+  stops_at_once = record { run = []; later = lines_of text; lines = refl; transcript = nothing_written }
+
+  -- no line is left
+  pub all_played : (rest : List ℕ) (number : ℕ) (network : State) (now : Option (List ℕ)) → Progress rest number network now → length rest ≡ 0 → IsPlayed centres first text network before now
+  all_played (byte ∷ rest) number network now p none = absurd (omega (arith, none))
+  all_played [] number network now p none =
+      let t = p.transcript in
+      let all : p.done ≡ lines_of text = sym (append-nil p.done) ∙ sym p.lines in
+      record {
+        transcript = record { runs = t.runs; read = subst (λ (l : List (List ℕ)). AreRead centres l t.runs) all t.read; written = t.written };
+        stands = p.stands;
+        one_list = p.stands.sound.law;
+      }
+
+  module _ (rest line later : List ℕ) (number : ℕ) (old : State) (mid now : Option (List ℕ)) (p : Progress rest number old mid) (is : lines_of rest ≡ line ∷ lines_of later) where
+    -- the lines with the next one
+    longer : lines_of text ≡ (p.done ++ line ∷ []) ++ lines_of later
+    longer = p.lines ∙ ap (λ (l : List (List ℕ)). p.done ++ l) is ∙ sym (append_assoc p.done (line ∷ []) (lines_of later))
+
+    -- one line more was run
+    pub goes_on : (new : State) → HasRun centres line old new mid now → Progress later (number + 1) new now
+    goes_on new run =
+        let runs = p.transcript.runs in
+        let next : Command × Bool = (run.0, run.2.0) in
+        let step = run.2.1 (world_after_all first runs) p.stands in
+        record {
+          done = p.done ++ line ∷ [];
+          lines = longer;
+          count = omega (arith, length-append p.done (line ∷ []), p.count);
+          transcript = record {
+            runs = runs ++ next ∷ [];
+            read = read-push centres p.done runs line next p.transcript.read run.1;
+            written = subst (λ (l : List ℕ). Appends before now l) (sym (answers-push first runs next)) (Appends-more before mid now (answers first runs) _ p.transcript.written step.1);
+          };
+          stands = subst (λ (w : World). StandsFor new w) (sym (world_after-push first runs next)) step.0;
+        }
+
+    -- the next line was not run
+    pub stops : (faults_before faults_mid faults_now : ℕ) (end : RunEnd) → faults_before ≤ faults_mid → IsLineEnd centres line (number + 1) old mid now faults_mid faults_now end
+        → IsRunEnd centres first text before now faults_before faults_now end
+    stops faults_before faults_mid faults_now (BadLine bad) counted end = record {
+      run = p.done;
+      bad = line;
+      later = lines_of later;
+      lines = p.lines ∙ ap (λ (l : List (List ℕ)). p.done ++ l) is;
+      place = omega (arith, p.count, end.0);
+      none = end.1;
+      transcript = subst (λ (k : Option (List ℕ)). IsTranscript centres first p.done before k) (sym end.2) p.transcript;
     }
-
--- nothing was run yet
-pub front_of_nothing : (text : List ℕ) (before now : Option (List ℕ)) → now ≡ before → IsFront text before now
-front_of_nothing text before now same = record {
-  run = [];
-  behind = lines_of text;
-  lines = refl;
-  transcript = subst (λ (k : Option (List ℕ)). IsTranscript [] before k) (sym same) (nothing_written before);
-}
-
--- the next line's answer could not be written
-pub broken_off : (text rest line behind : List ℕ) (number : ℕ) (old : State) (before mid now : Option (List ℕ)) → Progress text rest number old before mid → lines_of rest ≡ line ∷ lines_of behind → HasBegun line old mid now → IsBrokenOff text before now
-broken_off text rest line behind number old before mid now p is begun =
-    let commands = p.transcript.commands in
-    let command = begun.0 in
-    let events = events_of commands in
-    let more = events_of (command ∷ []) in
-    let w = after first_world events in
-    let step = begun.2 w p.stands in
-    record {
-      run = p.done ++ line ∷ [];
-      behind = lines_of behind;
-      commands = commands ++ command ∷ [];
-      lines = p.lines ∙ ap (λ (l : List (List ℕ)). p.done ++ l) is ∙ sym (append_assoc p.done (line ∷ []) (lines_of behind));
-      read = commands-push p.done commands line command p.transcript.read begun.1;
-      count = length (answers first_world events) + step.0;
-      written =
-          let parts : answers first_world (events_of (commands ++ command ∷ [])) ≡ answers first_world events ++ answers w more =
-          ap (answers first_world) (events_of-append commands (command ∷ [])) ∙ answers-append first_world events more in
-          let front = ap (take (length (answers first_world events) + step.0)) parts ∙ take-append-add (answers first_world events) (answers w more) step.0 in
-          subst (λ (l : List ℕ). Appends before now l) (sym front) (Appends-more before mid now (answers first_world events) (take step.0 (answers w more)) p.transcript.written step.1);
-    }
-
--- no line is left
-pub all_played : (text rest : List ℕ) (number : ℕ) (network : State) (before now : Option (List ℕ)) → Progress text rest number network before now → length rest ≡ 0 → IsPlayed text network before now
-all_played text (byte ∷ rest) number network before now p none = absurd (omega (arith, none))
-all_played text [] number network before now p none =
-    let t = p.transcript in
-    let all : p.done ≡ lines_of text = sym (append-nil p.done) ∙ sym p.lines in
-    record {
-      transcript = record { commands = t.commands; read = subst (λ (l : List (List ℕ)). AreCommands CENTRES l t.commands) all t.read; written = t.written };
-      stands = p.stands;
+    stops faults_before faults_mid faults_now (Unanswered answering.Fault) counted end =
+        let runs = p.transcript.runs in
+        let next : Command × Bool = (end.0, end.2.1.0) in
+        let step = end.2.1.1 (world_after_all first runs) p.stands in
+        let prefix = ap (take (length (answers first runs) + step.0)) (answers-push first runs next) ∙ take-append-add (answers first runs) _ step.0 in (
+          omega (arith, counted, end.2.0),
+          record {
+            run = p.done ++ line ∷ [];
+            later = lines_of later;
+            runs = runs ++ next ∷ [];
+            lines = longer;
+            read = read-push centres p.done runs line next p.transcript.read end.1;
+            count = length (answers first runs) + step.0;
+            written = subst (λ (l : List ℕ). Appends before now l) (sym prefix) (Appends-more before mid now (answers first runs) _ p.transcript.written step.1);
+          },
+        )
+    stops faults_before faults_mid faults_now (Unanswered answering.Memory) counted end = record {
+      run = p.done;
+      later = line ∷ lines_of later;
+      lines = p.lines ∙ ap (λ (l : List (List ℕ)). p.done ++ l) is;
+      transcript = subst (λ (k : Option (List ℕ)). IsTranscript centres first p.done before k) (sym end.2) p.transcript;
     }

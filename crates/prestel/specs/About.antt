@@ -1,4 +1,4 @@
--- What the program tells of itself, and the words that ask for it.
+-- The help and the version of the program, and the words that ask for them.
 use Rattle.std.specs.Prelude.{ℕ, List, [], ◌∷◌, codes}
 use Rattle.prestel.specs.declared.about.About.{About}
 use Rattle.prestel.specs.declared.about.About.TheVariants.{Help, Version}
@@ -14,9 +14,9 @@ version_text = codes "prestel 0.1.0\n"
 
 -- how it is used
 abbrev pub help_text : List ℕ
-help_text = codes "usage: prestel play 1 < SCRIPT\n       prestel --help\n       prestel --version\n\nRuns the script that standard input holds on a viewdata network of one\nretrieval centre, and writes an answer to each of its events. The 1 is the\nnumber of centres; no other is taken so far.\n\nExit status:\n  0  all was done\n  2  the words are none of those above\n  3  a line is none of the script's forms\n  4  standard input could not be read\n  5  standard output could not be written\n  6  memory ran out\n  7  the script is longer than 1048576 bytes\n"
+help_text = codes "usage: prestel play 1 < SCRIPT\n       prestel --help\n       prestel --version\n\nRuns the script on standard input on a viewdata network of one retrieval\ncentre, and writes an answer to each event. The 1 is the number of centres;\nno other number is accepted yet.\n\nExit status:\n  0  everything was done\n  2  the words are none of those above\n  3  a line of the script has none of its forms\n  4  standard input could not be read\n  5  standard output could not be written\n  6  out of memory\n  7  the script is longer than 1048576 bytes\n"
 
--- the text that tells each
+-- the text of each
 abbrev pub about_text : About → List ℕ
 about_text Help = help_text
 about_text Version = version_text

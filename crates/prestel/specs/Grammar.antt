@@ -1,65 +1,41 @@
--- The script: its lines, and what each of them asks for.
-use Rattle.std.specs.Prelude.{◌≡◌, ℕ, ◌^◌, ◌<◌, ◌⊎◌, ◌==◌, List, [], ◌∷◌, ◌++◌, Ok, codes, decimal, if◌then◌else◌}
-use Rattle.std.specs.List.{AllByRecursion, AllZip}
-use Rattle.pv_page.specs.Names.{IsName, name_text, space}
-use Rattle.pv_cells.specs.Row.{TellsRow}
+-- The lines of the script, and what each of them asks for.
+use Rattle.std.specs.Prelude.{◌≡◌, ℕ, ◌⊎◌, Bool, List, [], ◌∷◌, Some}
+use Rattle.std.specs.List.{AllZip}
+use Rattle.pv_words.specs.Numbers.{IsNumber, IsBelow}
+use Rattle.pv_words.specs.Parts.{IsOne, AreTwo, Gives, GivesAlone}
+use Rattle.pv_words.specs.Split.{IsSplit}
 use Rattle.pv_network.specs.declared.event.Event.{Event}
-use Rattle.pv_network.specs.declared.event.Event.TheVariants.{Seed, Send, Deliver, View}
+use Rattle.pv_network.specs.declared.event.Event.TheVariants as events
 use Rattle.prestel.specs.declared.grammar.Command.{Command}
 use Rattle.prestel.specs.declared.grammar.Command.TheVariants.{Nothing, Do}
-use Rattle.prestel.specs.declared.grammar.TheConstants.{REMARK}
+use Rattle.prestel.specs.declared.grammar.TheConstants.{COMMENT}
+use Rattle.prestel.specs.declared.word.Word.{Word}
+use Rattle.prestel.specs.declared.word.Word.TheVariants as words
+use Rattle.prestel.specs.Readers.{IsFrameText, IsRowText}
+use Rattle.prestel.specs.Words.{word_named}
 
--- ---- parts of a text
+-- a word and the tail after it ask for the event, in a play of this many centres: a row for each form
+abbrev pub AsksAs : ℕ → Word → List ℕ → Event → Type 0
+AsksAs centres words.Seed tail = Gives (AreTwo IsFrameText IsRowText) (λ parts. events.Seed parts.0 parts.1) tail
+AsksAs centres words.Send tail = Gives (IsOne (IsBelow centres)) (λ centre. events.Send centre) tail
+AsksAs centres words.Deliver tail = Gives (AreTwo (IsBelow centres) IsNumber) (λ parts. events.Deliver parts.0 parts.1) tail
+AsksAs centres words.View tail = Gives (AreTwo (IsBelow centres) IsFrameText) (λ parts. events.View parts.0 parts.1) tail
+AsksAs centres words.At tail = Gives (IsOne (IsBelow centres)) (λ centre. events.At centre) tail
+AsksAs centres words.List tail = GivesAlone events.List tail
 
--- the byte is not among these
-abbrev pub HasNone : ℕ → List ℕ → Type 0
-HasNone byte bytes = AllByRecursion (λ other. other ≡ byte → ⊥) bytes
-
--- the text is cut at the first such byte
-pub record IsCutAt (byte : ℕ) (text first rest : List ℕ) : Type 0 where
-  pub parts : text ≡ first ++ byte ∷ rest
-  pub before : HasNone byte first
-
--- ---- lines
-
--- a byte goes to the front of the first line
-abbrev pub before_first_line : ℕ → List (List ℕ) → List (List ℕ)
-before_first_line byte [] = (byte ∷ []) ∷ []
-before_first_line byte (line ∷ lines) = (byte ∷ line) ∷ lines
-
--- the lines of a text: each ends with a newline, which the last may lack
-abbrev pub lines_of : List ℕ → List (List ℕ)
-lines_of [] = []
-lines_of (byte ∷ bytes) = if byte == 10 then [] ∷ lines_of bytes else before_first_line byte (lines_of bytes)
-
--- ---- what a line asks for
-
--- the text is the notation of at most 40 cells, which with spaces behind them are the row
-abbrev pub SpellsRow : List ℕ → List ℕ → Type 0
-SpellsRow text row = TellsRow 40 text (Ok row)
-
--- bytes with no space among them
-abbrev pub IsWord : List ℕ → Type 0
-IsWord bytes = HasNone space bytes
-
--- a line's words for an event, in a play of so many centres
+-- a line asks for the event, by its first word and its tail
 abbrev pub Asks : ℕ → List ℕ → Event → Type 0
-Asks centres line (Seed name row) = (text : List ℕ) × IsName name × SpellsRow text row × (line ≡ codes "seed " ++ name_text name ++ space ∷ text)
-Asks centres line (Send centre) = (centre < centres) × (line ≡ codes "send " ++ decimal centre)
-Asks centres line (Deliver centre index) = (centre < centres) × (index < 2 ^ 64) × (line ≡ codes "deliver " ++ decimal centre ++ space ∷ decimal index)
-Asks centres line (View centre name) = (centre < centres) × IsName name × (line ≡ codes "view " ++ decimal centre ++ space ∷ name_text name)
+Asks centres line event = (first tail : List ℕ) × (word : Word) × IsSplit line first tail × (word_named first ≡ Some word) × AsksAs centres word tail event
 
--- an empty line and a remark ask for nothing
-abbrev pub Reads : ℕ → List ℕ → Command → Type 0
-Reads centres line Nothing = (line ≡ []) ⊎ ((remark : List ℕ) × (line ≡ REMARK ∷ remark))
-Reads centres line (Do event) = Asks centres line event
+-- an empty line and a comment ask for nothing
+abbrev pub ReadsLine : ℕ → List ℕ → Command → Type 0
+ReadsLine centres line Nothing = (line ≡ []) ⊎ ((comment : List ℕ) × (line ≡ COMMENT ∷ comment))
+ReadsLine centres line (Do event) = Asks centres line event
 
--- the lines read as these commands, one for each
-abbrev pub AreCommands : ℕ → List (List ℕ) → List Command → Type 0
-AreCommands centres lines commands = AllZip (Reads centres) lines commands
+-- the line has none of the forms
+abbrev pub HasNoForm : ℕ → List ℕ → Type 0
+HasNoForm centres line = (command : Command) → ReadsLine centres line command → ⊥
 
--- the events that commands ask for
-abbrev pub events_of : List Command → List Event
-events_of [] = []
-events_of (Nothing ∷ commands) = events_of commands
-events_of (Do event ∷ commands) = event ∷ events_of commands
+-- the lines read as the commands that were run, one for each; beside a command stands what a stop in it kept
+abbrev pub AreRead : ℕ → List (List ℕ) → List (Command × Bool) → Type 0
+AreRead centres lines runs = AllZip (λ line run. ReadsLine centres line run.0) lines runs

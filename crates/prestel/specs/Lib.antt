@@ -1,7 +1,9 @@
 pub mod About
+pub mod Ends
 pub mod Grammar
 pub mod Output
-pub mod Parts
 pub mod Play
 pub mod Program
+pub mod Readers
 pub mod Transcript
+pub mod Words

@@ -1,15 +1,15 @@
 -- How a play may end, and what then was read and written.
-use Rattle.std.specs.Prelude.{◌≡◌, ℕ, ◌+◌, ◌≤◌, ◌↔◌, Bool, IsTrue, List, [], ◌∷◌, ◌++◌, length, take, Option, Some, None, IsSomeAnd, codes}
+use Rattle.std.specs.Prelude.{◌≡◌, ℕ, ◌+◌, ◌≤◌, Bool, IsTrue, List, [], ◌∷◌, ◌++◌, length, take, Option, Some, None, IsSomeAnd, codes}
 use Rattle.std.specs.Io.KnownBytes.{Appends, Consumes}
 use Rattle.pv_outside.specs.declared.status.Status.{Status}
 use Rattle.pv_outside.specs.declared.status.Status.TheVariants.{Done, Usage, BadLine, ReadFault, WriteFault, Memory, TooLong}
-use Rattle.pv_network.specs.World.{World, start}
-use Rattle.pv_network.specs.Step.{after}
+use Rattle.pv_words.specs.Lines.{lines_of}
+use Rattle.pv_network.specs.OneList.{OneList}
 use Rattle.pv_network.specs.Standing.{State, StandsFor}
+use Rattle.pv_network.specs.World.{World, start}
 use Rattle.prestel.specs.declared.grammar.Command.{Command}
-use Rattle.prestel.specs.declared.play.TheConstants.{CENTRES}
-use Rattle.prestel.specs.Grammar.{lines_of, AreCommands, Reads, events_of}
-use Rattle.prestel.specs.Transcript.{answers}
+use Rattle.prestel.specs.Grammar.{AreRead, HasNoForm}
+use Rattle.prestel.specs.Transcript.{answers, world_after_all}
 
 -- the words that ask for a play of one centre
 abbrev pub play_words : List (List ℕ)
@@ -23,72 +23,88 @@ first_world = start 1 2000 10000
 abbrev pub longest_script : ℕ
 longest_script = 1048576
 
+-- ---- what was read
+
 -- the bytes were read, and nothing else
 pub record HasRead (taken_before taken_now left_before left_now : Option (List ℕ)) (text : List ℕ) : Type 0 where
   pub taken : Appends taken_before taken_now text
   pub left : Consumes left_before left_now text
 
--- the text is all that a source had left, where it tells what it has
-abbrev pub IsWhole : Option (List ℕ) → List ℕ → Type 0
-IsWhole None text = Unit {0}
-IsWhole (Some left) text = left ≡ text
+-- the text is all that a source had left, if it reports what it has
+abbrev pub IsAllLeft : Option (List ℕ) → List ℕ → Type 0
+IsAllLeft None text = Unit {0}
+IsAllLeft (Some left) text = left ≡ text
 
--- every one of the lines reads as a command, and what was appended is the answers to these
-pub record IsTranscript (lines : List (List ℕ)) (written_before written_now : Option (List ℕ)) : Type 0 where
-  pub commands : List Command
-  pub read : AreCommands CENTRES lines commands
-  pub written : Appends written_before written_now (answers first_world (events_of commands))
+-- ---- what was run and written, of a play of this many centres that begins in this world
 
--- every line of the text was read and run: what was written is the answers, and the network stands for the world after them
-pub record IsPlayed (text : List ℕ) (network : State) (written_before written_now : Option (List ℕ)) : Type 0 where
-  pub transcript : IsTranscript (lines_of text) written_before written_now
-  pub stands : StandsFor network (after first_world (events_of transcript.commands))
+-- every one of the lines was read as a command and run, and what was written is the answers to them
+pub record IsTranscript (centres : ℕ) (first : World) (lines : List (List ℕ)) (written_before written_now : Option (List ℕ)) : Type 0 where
+  pub runs : List (Command × Bool)
+  pub read : AreRead centres lines runs
+  pub written : Appends written_before written_now (answers first runs)
 
--- the line of this number is the first of the text that is none of the forms: those before it were read and run, and what
--- was written is their answers
-pub record IsCutShort (text : List ℕ) (number : ℕ) (written_before written_now : Option (List ℕ)) : Type 0 where
+-- Every line of the text was run: what was written is the answers, and the network stands for the world after them, in which
+-- the law of the one list holds.
+pub record IsPlayed (centres : ℕ) (first : World) (text : List ℕ) (network : State) (written_before written_now : Option (List ℕ)) : Type 0 where
+  pub transcript : IsTranscript centres first (lines_of text) written_before written_now
+  pub stands : StandsFor network (world_after_all first transcript.runs)
+  pub one_list : OneList (world_after_all first transcript.runs)
+
+-- the line of this number is the first of the text that has none of the forms: those before it were run, and what was
+-- written is their answers
+pub record StopsAtBadLine (centres : ℕ) (first : World) (text : List ℕ) (number : ℕ) (written_before written_now : Option (List ℕ)) : Type 0 where
   pub run : List (List ℕ)
   pub bad : List ℕ
-  pub behind : List (List ℕ)
-  pub lines : lines_of text ≡ run ++ bad ∷ behind
+  pub later : List (List ℕ)
+  pub lines : lines_of text ≡ run ++ bad ∷ later
   pub place : length run + 1 ≡ number
-  pub none : (command : Command) → Reads CENTRES bad command → ⊥
-  pub transcript : IsTranscript run written_before written_now
+  pub none : HasNoForm centres bad
+  pub transcript : IsTranscript centres first run written_before written_now
 
--- some lines at the front were read, and what was written is a front of their answers
-pub record IsBrokenOff (text : List ℕ) (written_before written_now : Option (List ℕ)) : Type 0 where
+-- the first lines were read, and what was written is a prefix of their answers
+pub record StopsInAnswers (centres : ℕ) (first : World) (text : List ℕ) (written_before written_now : Option (List ℕ)) : Type 0 where
   pub run : List (List ℕ)
-  pub behind : List (List ℕ)
-  pub commands : List Command
-  pub lines : lines_of text ≡ run ++ behind
-  pub read : AreCommands CENTRES run commands
+  pub later : List (List ℕ)
+  pub runs : List (Command × Bool)
+  pub lines : lines_of text ≡ run ++ later
+  pub read : AreRead centres run runs
   pub count : ℕ
-  pub written : Appends written_before written_now (take count (answers first_world (events_of commands)))
+  pub written : Appends written_before written_now (take count (answers first runs))
 
--- some lines at the front were read and run, and what was written is their answers
-pub record IsFront (text : List ℕ) (written_before written_now : Option (List ℕ)) : Type 0 where
+-- the first lines were run, and what was written is their answers
+pub record StopsAfterLine (centres : ℕ) (first : World) (text : List ℕ) (written_before written_now : Option (List ℕ)) : Type 0 where
   pub run : List (List ℕ)
-  pub behind : List (List ℕ)
-  pub lines : lines_of text ≡ run ++ behind
-  pub transcript : IsTranscript run written_before written_now
+  pub later : List (List ℕ)
+  pub lines : lines_of text ≡ run ++ later
+  pub transcript : IsTranscript centres first run written_before written_now
 
--- What a play made of the text that it read: too long is exactly a text of one byte more than a script may have, done
--- says that all the source had was read and run, a bad line is the first that is none of the forms, a fault of the
--- output leaves a front of the answers, and where memory ran out some lines at the front were run.
-pub record IsPlayOf (text : List ℕ) (status : Status) (network : Option State) (left : Option (List ℕ)) (ended : Bool) (written_before written_now : Option (List ℕ)) : Type 0 where
-  pub within : length text ≤ longest_script + 1
-  pub too_long : (status ≡ TooLong) ↔ (length text ≡ longest_script + 1)
-  pub done : status ≡ Done → IsTrue ended × IsWhole left text × IsSomeAnd network (λ n. IsPlayed text n written_before written_now)
-  pub bad_line : (number : ℕ) → status ≡ BadLine number → IsTrue ended × IsWhole left text × IsCutShort text number written_before written_now
-  pub write_fault : status ≡ WriteFault → IsTrue ended × IsWhole left text × IsBrokenOff text written_before written_now
-  pub memory : status ≡ Memory → IsFront text written_before written_now
+-- ---- all
+
+-- the text fits, and was read to the end of its source
+pub record IsReadWhole (text : List ℕ) (left : Option (List ℕ)) (ended : Bool) : Type 0 where
+  pub within : length text ≤ longest_script
+  pub at_end : IsTrue ended
+  pub all : IsAllLeft left text
+
+-- What a play made of the text that it read, by the status that it ended with. Done says that the whole text was run. A bad
+-- line is the first that has none of the forms. A fault of the output leaves a prefix of the answers. If memory ran out, the
+-- first lines were run. A text is too long exactly if it has one byte more than a script may have.
+abbrev pub IsPlayOf : ℕ → World → List ℕ → Option State → Option (List ℕ) → Bool → Option (List ℕ) → Option (List ℕ) → Status → Type 0
+IsPlayOf centres first text network left ended before now Done =
+    IsReadWhole text left ended × IsSomeAnd network (λ n. IsPlayed centres first text n before now)
+IsPlayOf centres first text network left ended before now Usage = text ≡ []
+IsPlayOf centres first text network left ended before now (BadLine number) =
+    IsReadWhole text left ended × StopsAtBadLine centres first text number before now
+IsPlayOf centres first text network left ended before now ReadFault = length text ≤ longest_script
+IsPlayOf centres first text network left ended before now WriteFault =
+    IsReadWhole text left ended × StopsInAnswers centres first text before now
+IsPlayOf centres first text network left ended before now Memory =
+    (length text ≤ longest_script) × StopsAfterLine centres first text before now
+IsPlayOf centres first text network left ended before now TooLong = length text ≡ longest_script + 1
 
 -- nothing was run
 abbrev pub IsNotRun : Status → Type 0
 IsNotRun Usage = Unit {0}
 IsNotRun ReadFault = Unit {0}
 IsNotRun TooLong = Unit {0}
-IsNotRun Done = ⊥
-IsNotRun (BadLine number) = ⊥
-IsNotRun WriteFault = ⊥
-IsNotRun Memory = ⊥
+IsNotRun _ = ⊥

@@ -1,21 +1,22 @@
--- What is written for what came of events.
-use Rattle.std.specs.Prelude.{ℕ, List, [], ◌∷◌, ◌++◌, Option, Some, None, codes, decimal}
+-- What is written for what came of a script's commands.
+use Rattle.std.specs.Prelude.{ℕ, Bool, List, [], ◌∷◌, ◌++◌, Option, Some, None, codes, decimal}
 use Rattle.pv_cells.specs.Notation.{notation_of}
 use Rattle.pv_screen.specs.Painting.{screen_bytes}
-use Rattle.pv_network.specs.declared.event.Event.{Event}
 use Rattle.pv_network.specs.declared.outcome.Why.{Why}
 use Rattle.pv_network.specs.declared.outcome.Why.TheVariants.{Finished, Refused, Spent}
 use Rattle.pv_network.specs.declared.outcome.Why.TheVariants as why
 use Rattle.pv_network.specs.declared.outcome.Outcome.{Outcome}
-use Rattle.pv_network.specs.declared.outcome.Outcome.TheVariants.{Reply, Shown, Idle, PacketsFull, NoPacket, SentRecord, Taken, Old, Early, Full, NotHeld}
+use Rattle.pv_network.specs.declared.outcome.Outcome.TheVariants as outcomes
 use Rattle.pv_network.specs.World.{World}
 use Rattle.pv_network.specs.Step.{happens}
+use Rattle.prestel.specs.declared.grammar.Command.{Command}
+use Rattle.prestel.specs.declared.grammar.Command.TheVariants.{Nothing, Do}
 
 -- the end of a line
 abbrev pub newline : List ℕ
 newline = 10 ∷ []
 
--- the line that tells why a call ended, where one did
+-- the line that says why a call ended, if it did
 abbrev pub end_text : Option Why → List ℕ
 end_text None = []
 end_text (Some Finished) = codes "ended finished" ++ newline
@@ -23,26 +24,45 @@ end_text (Some Refused) = codes "ended refused" ++ newline
 end_text (Some Spent) = codes "ended spent" ++ newline
 end_text (Some why.Full) = codes "ended full" ++ newline
 
--- the index of an acknowledgement, or a dash where none was made
+-- the index of an acknowledgement, or a dash if none was made
 abbrev pub ack_text : Option ℕ → List ℕ
 ack_text None = codes " ack -"
 ack_text (Some index) = codes " ack " ++ decimal index
 
 -- what is written for an outcome
 abbrev pub answer_text : Outcome → List ℕ
-answer_text (Reply text) = text ++ newline
-answer_text (Shown turn) = codes "screen " ++ notation_of (screen_bytes turn.screen) ++ newline ++ end_text turn.ended
-answer_text Idle = codes "idle" ++ newline
-answer_text PacketsFull = codes "packets full" ++ newline
-answer_text NoPacket = codes "no packet" ++ newline
-answer_text (SentRecord index number) = codes "sent " ++ decimal index ++ codes " record " ++ decimal number ++ newline
-answer_text (Taken number ack) = codes "taken " ++ decimal number ++ ack_text ack ++ newline
-answer_text (Old number ack) = codes "old " ++ decimal number ++ ack_text ack ++ newline
-answer_text (Early number ack) = codes "early " ++ decimal number ++ ack_text ack ++ newline
-answer_text (Full count) = codes "full " ++ decimal count ++ newline
-answer_text NotHeld = codes "-" ++ newline
+answer_text (outcomes.Reply text) = text ++ newline
+answer_text (outcomes.Shown turn) = codes "screen " ++ notation_of (screen_bytes turn.screen) ++ newline ++ end_text turn.ended
+answer_text outcomes.Idle = codes "idle" ++ newline
+answer_text outcomes.PacketsFull = codes "packets full" ++ newline
+answer_text outcomes.NoPacket = codes "no packet" ++ newline
+answer_text (outcomes.SentRecord index number) = codes "sent " ++ decimal index ++ codes " record " ++ decimal number ++ newline
+answer_text (outcomes.Taken number ack) = codes "taken " ++ decimal number ++ ack_text ack ++ newline
+answer_text (outcomes.Old number ack) = codes "old " ++ decimal number ++ ack_text ack ++ newline
+answer_text (outcomes.Early number ack) = codes "early " ++ decimal number ++ ack_text ack ++ newline
+answer_text (outcomes.Full count) = codes "full " ++ decimal count ++ newline
+answer_text outcomes.NotHeld = codes "-" ++ newline
+answer_text (outcomes.Applied count) = codes "applied " ++ decimal count ++ newline
+answer_text (outcomes.Records count) = codes "records " ++ decimal count ++ newline
 
--- what is written for events that happen to a world, one after another
-abbrev pub answers : World → List Event → List ℕ
+-- ---- commands, one after another; beside each stands what a stop in it kept
+
+-- the world after a command
+abbrev pub world_after : World → Command → Bool → World
+world_after w Nothing kept = w
+world_after w (Do event) kept = (happens w event kept).0
+
+-- what is written for a command
+abbrev pub answer_to : World → Command → Bool → List ℕ
+answer_to w Nothing kept = []
+answer_to w (Do event) kept = answer_text (happens w event kept).1
+
+-- the world after commands
+abbrev pub world_after_all : World → List (Command × Bool) → World
+world_after_all w [] = w
+world_after_all w (run ∷ runs) = world_after_all (world_after w run.0 run.1) runs
+
+-- what is written for commands
+abbrev pub answers : World → List (Command × Bool) → List ℕ
 answers w [] = []
-answers w (event ∷ events) = answer_text (happens w event).1 ++ answers (happens w event).0 events
+answers w (run ∷ runs) = answer_to w run.0 run.1 ++ answers (world_after w run.0 run.1) runs

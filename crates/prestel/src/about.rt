@@ -9,21 +9,21 @@ const HELP: &str = "usage: prestel play 1 < SCRIPT
        prestel --help
        prestel --version
 
-Runs the script that standard input holds on a viewdata network of one
-retrieval centre, and writes an answer to each of its events. The 1 is the
-number of centres; no other is taken so far.
+Runs the script on standard input on a viewdata network of one retrieval
+centre, and writes an answer to each event. The 1 is the number of centres;
+no other number is accepted yet.
 
 Exit status:
-  0  all was done
+  0  everything was done
   2  the words are none of those above
-  3  a line is none of the script's forms
+  3  a line of the script has none of its forms
   4  standard input could not be read
   5  standard output could not be written
-  6  memory ran out
+  6  out of memory
   7  the script is longer than 1048576 bytes
 ";
 
-/// What the program may be asked to tell of itself.
+/// What the program may be asked about itself.
 #[derive(Clone, Copy, Debug, PartialEq, Eq)]
 pub enum About {
     /// How it is used.
@@ -33,7 +33,7 @@ pub enum About {
 }
 
 impl About {
-    /// What the words ask for, which are one word then. Other words ask for nothing of this.
+    /// What the words ask for. `None` if they are not one word that asks for the help or the version.
     pub fn asked(words: &[String]) -> Option<About>
         ensures help { (result ≡ Some About.Help) ↔ (map string_bytes words.now ≡ about_words About.Help) }
         ensures version { (result ≡ Some About.Version) ↔ (map string_bytes words.now ≡ about_words About.Version) }
@@ -44,7 +44,7 @@ impl About {
         }
     }
 
-    /// What a word asks for.
+    /// What a word asks for. `None` if it asks for neither.
     fn of_word(word: &str) -> Option<About>
         ensures help { (result ≡ Some About.Help) ↔ (word.now ≡ codes "--help") }
         ensures version { (result ≡ Some About.Version) ↔ (word.now ≡ codes "--version") }
@@ -58,7 +58,7 @@ impl About {
         }
     }
 
-    /// The text that tells it.
+    /// The text that is written for it.
     pub fn text(self) -> &'static str
         ensures { result.now ≡ about_text self }
     {

@@ -1,18 +1,13 @@
-ghost use Rattle.std.specs.Prelude.{◌≡◌, ◌≤◌, ◌++◌, length, OnOk, decimal};
-ghost use Rattle.pv_cells.specs.Notation.{notation_of};
+ghost use Rattle.std.specs.Prelude.{◌≡◌, ◌++◌, OnOk, decimal};
 ghost use Rattle.prestel.specs.Transcript.{answer_text, ack_text, end_text, newline};
 
 use itoa::Buffer;
-use pv_cells::notation;
-use pv_fields::Out;
+use pv_cells::push_notation;
 use pv_network::{Outcome, Turn, Why};
-use pv_screen::{BUFFER, LONGEST};
+use pv_screen::BUFFER;
 use std::alloc::AllocError;
 
-/// The most bytes that the notation of a screen has: three for each byte.
-const LONGEST_NOTATION: usize = 3 * LONGEST;
-
-/// Appends the line or lines that tell an outcome.
+/// Appends the line or lines of an outcome.
 pub fn push_answer(text: &mut Vec<u8>, outcome: &Outcome) -> Result<(), AllocError>
     ensures { OnOk result (text.new.items ≡ text.old.items ++ answer_text outcome.now) }
 {
@@ -33,11 +28,10 @@ pub fn push_answer(text: &mut Vec<u8>, outcome: &Outcome) -> Result<(), AllocErr
         Outcome::Taken { number, ack } => push_arrival(text, b"taken ", *number, *ack),
         Outcome::Old { number, ack } => push_arrival(text, b"old ", *number, *ack),
         Outcome::Early { number, ack } => push_arrival(text, b"early ", *number, *ack),
-        Outcome::Full { count } => {
-            push_number(text, b"full ", *count)?;
-            push_words(text, b"\n")
-        }
+        Outcome::Full { count } => push_line(text, b"full ", *count),
         Outcome::NotHeld => push_words(text, b"-\n"),
+        Outcome::Applied { count } => push_line(text, b"applied ", *count),
+        Outcome::Records { count } => push_line(text, b"records ", *count),
     }
 }
 
@@ -56,14 +50,23 @@ fn push_number(text: &mut Vec<u8>, words: &[u8], number: u64) -> Result<(), Allo
     text.extend_from_slice(Buffer::new().format(number).as_bytes())
 }
 
-/// Appends what became of a record that arrived, and its acknowledgement.
+/// Appends a line of words and then a number in decimal.
+fn push_line(text: &mut Vec<u8>, words: &[u8], number: u64) -> Result<(), AllocError>
+    ensures { OnOk result (text.new.items ≡ text.old.items ++ (words.now ++ decimal number ++ newline)) }
+{
+    push_number(text, words, number)?;
+    push_words(text, b"\n")
+}
+
+/// Appends what happened to a record that arrived, and its acknowledgement.
 fn push_arrival(
     text: &mut Vec<u8>,
     words: &[u8],
     number: u64,
     ack: Option<u64>,
 ) -> Result<(), AllocError>
-    ensures { OnOk result (text.new.items ≡ text.old.items ++ (words.now ++ decimal number ++ ack_text ack ++ newline)) }
+    ensures { OnOk result (text.new.items
+        ≡ text.old.items ++ (words.now ++ decimal number ++ ack_text ack ++ newline)) }
 {
     push_number(text, words, number)?;
     match ack {
@@ -73,31 +76,21 @@ fn push_arrival(
     push_words(text, b"\n")
 }
 
-/// Appends a screen, and the end of the call where it ended.
+/// Appends a screen, and the end of the call if it ended. Its buffer is large, so that it stays apart from the answers that
+/// need none.
+#[inline(never)]
 fn push_turn(text: &mut Vec<u8>, turn: &Turn) -> Result<(), AllocError>
     ensures { OnOk result (text.new.items ≡ text.old.items ++ answer_text (Outcome.Shown turn.now)) }
 {
     let mut bytes = [0; BUFFER];
     let count = turn.screen.bytes(&mut bytes);
     push_words(text, b"screen ")?;
-    push_notation(text, &bytes[..count])?;
+    push_notation(&bytes[..count], text)?;
     push_words(text, b"\n")?;
     push_end(text, turn.ended)
 }
 
-/// Appends the notation of the bytes of a screen.
-fn push_notation(text: &mut Vec<u8>, bytes: &[u8]) -> Result<(), AllocError>
-    requires { length bytes.now ≤ LONGEST }
-    ensures { OnOk result (text.new.items ≡ text.old.items ++ notation_of bytes.now) }
-{
-    let mut buffer = [0; LONGEST_NOTATION];
-    let mut out = Out::new(&mut buffer);
-    notation(bytes, &mut out).unwrap();
-    let count = out.written();
-    text.extend_from_slice(&buffer[..count])
-}
-
-/// Appends why a call ended, where it did.
+/// Appends why a call ended, if it did.
 fn push_end(text: &mut Vec<u8>, ended: Option<Why>) -> Result<(), AllocError>
     ensures { OnOk result (text.new.items ≡ text.old.items ++ end_text ended) }
 {

@@ -1,18 +1,17 @@
-ghost use Rattle.std.specs.Prelude.{◌≡◌, ◌≢◌, ℕ, ◌+◌, ◌<◌, ◌≤◌, ◌↔◌, List, map, length, take, None, Err, IfOk, IfErr, OnOk, IsSome, IsTrue, string_bytes};
-ghost use Rattle.std.specs.Io.KnownBytes.{Appends};
+ghost use Rattle.std.specs.Prelude.{◌≡◌, ◌≢◌, ℕ, ◌+◌, ◌<◌, ◌≤◌, ◌↔◌, List, map, length, None, IfOk, IfErr, OnOk, IsSome, IsTrue, string_bytes};
 ghost use Rattle.pv_outside.specs.Counts.{Rose};
 ghost use Rattle.pv_network.specs.Standing.{StandsFor, CanHappen};
-ghost use Rattle.pv_network.specs.Step.{happens};
-ghost use Rattle.pv_network.specs.World.{World};
-ghost use Rattle.prestel.specs.Play.{play_words, HasRead, IsPlayOf, IsPlayed, IsBrokenOff, IsNotRun, first_world};
-ghost use Rattle.prestel.specs.Parts.{IsRunEnd, IsLineEnd, IsEventEnd, HasRun, HasBegun};
-ghost use Rattle.prestel.specs.Transcript.{answer_text};
+ghost use Rattle.prestel.specs.declared.grammar.Command.TheVariants.{Do};
+ghost use Rattle.prestel.specs.Ends.{HasAnswered, HasRun, IsAnswerEnd, IsLineEnd, IsRunEnd};
+ghost use Rattle.prestel.specs.Play.{play_words, HasRead, IsPlayOf, IsPlayed, IsNotRun, first_world};
 
 use crate::answer::push_answer;
+use crate::ends::{AnswerEnd, RunEnd};
 use crate::grammar::{Command, parse};
-use crate::script::{LONGEST_SCRIPT, first_line, read_script};
+use crate::script::{LONGEST_SCRIPT, read_script};
 use pv_network::{Event, Network};
 use pv_outside::{Limits, Sink, Source, Status};
+use pv_words::first_line;
 use std::alloc::Global;
 
 /// How many retrieval centres a play has.
@@ -24,15 +23,17 @@ pub const FRAMES: u32 = 2_000;
 /// How many records a node of a play may have.
 pub const RECORDS: u32 = 10_000;
 
-/// How a play ended, and the network after it, which is there exactly where all was done.
+/// How a play ended, and the network after it, which is there exactly when all was done.
 #[derive(Debug, Drop)]
 pub struct Played {
+    /// How it ended.
     pub status: Status,
+    /// The network after all lines.
     pub network: Option<Network>,
 }
 
 /// Reads a whole script, runs it on a network of one centre on which nothing has happened, and writes
-/// the transcript, one write for each answer.
+/// the transcript, by one write for each line.
 pub fn play<S: Source, K: Sink>(
     alloc: Global,
     words: &[String],
@@ -40,22 +41,23 @@ pub fn play<S: Source, K: Sink>(
     out: &mut K,
 ) -> Played
     // What was read is a text, and what was made of it is the play of that text.
-    ensures plays { (text : List ℕ) × HasRead (S.taken script.old) (S.taken script.new) (S.left script.old) (S.left script.new) text
-        × IsPlayOf text result.status result.network (S.left script.old) (S.ended script.new) (K.written out.old) (K.written out.new) }
+    ensures plays { (text : List ℕ)
+        × HasRead (S.taken script.old) (S.taken script.new) (S.left script.old) (S.left script.new) text
+        × IsPlayOf CENTRES first_world text result.network (S.left script.old) (S.ended script.new) (K.written out.old) (K.written out.new) result.status }
 
-    // The words are refused exactly where they are others than `play 1`, and then nothing is read.
+    // The words are refused exactly when they are others than `play 1`, and then nothing is read.
     ensures usage { (result.status ≡ Status.Usage) ↔ (map string_bytes words.now ≢ play_words) }
     ensures unread { result.status ≡ Status.Usage → script.new ≡ script.old }
 
-    // Nothing is run, and nothing written, where the words, the reading or the length is at fault.
+    // Nothing is run, and nothing written, if the words, the reading or the length is at fault.
     ensures not_run { IsNotRun result.status → out.new ≡ out.old }
 
-    // A fault of the outside is told only where its count rose.
+    // A fault of the outside comes only if its count rose.
     ensures read_fault { result.status ≡ Status.ReadFault → Rose (S.read_faults script.old) (S.read_faults script.new) }
     ensures write_fault { result.status ≡ Status.WriteFault → Rose (K.write_faults out.old) (K.write_faults out.new) }
     ensures counted { (S.read_faults script.old ≤ S.read_faults script.new) × (K.write_faults out.old ≤ K.write_faults out.new) }
 
-    // The network is there exactly where all was done.
+    // The network is there exactly when all was done.
     ensures network { IsSome result.network ↔ (result.status ≡ Status.Done) }
 {
     if !are_play_words(words) {
@@ -63,14 +65,14 @@ pub fn play<S: Source, K: Sink>(
     }
     let text = match read_script(alloc, script) {
         Ok(text) => text,
-        Err(status) => return ended(status),
+        Err(end) => return ended(end.status()),
     };
     match run(alloc, &text, out) {
         Ok(network) => Played {
             status: Status::Done,
             network: Some(network),
         },
-        Err(status) => ended(status),
+        Err(end) => ended(end.status()),
     }
 }
 
@@ -96,11 +98,11 @@ fn are_play_words(words: &[String]) -> bool
 }
 
 /// Runs a script's text on a new network.
-fn run<K: Sink>(alloc: Global, text: &[u8], out: &mut K) -> Result<Network, Status>
+fn run<K: Sink>(alloc: Global, text: &[u8], out: &mut K) -> Result<Network, RunEnd>
     requires { length text.now ≤ LONGEST_SCRIPT }
-    ensures ok { IfOk result (λ network. IsPlayed text.now network (K.written out.old) (K.written out.new)) }
-    ensures err { IfErr result (IsRunEnd text.now (K.written out.old) (K.written out.new) (K.write_faults out.old) (K.write_faults out.new)) }
-    ensures broken_off { result ≡ Err Status.WriteFault → IsBrokenOff text.now (K.written out.old) (K.written out.new) }
+    ensures ok { IfOk result (λ network. IsPlayed CENTRES first_world text.now network (K.written out.old) (K.written out.new)) }
+    ensures err { IfErr result (IsRunEnd CENTRES first_world text.now
+        (K.written out.old) (K.written out.new) (K.write_faults out.old) (K.write_faults out.new)) }
     ensures counted { K.write_faults out.old ≤ K.write_faults out.new }
 {
     let limits = Limits {
@@ -108,7 +110,7 @@ fn run<K: Sink>(alloc: Global, text: &[u8], out: &mut K) -> Result<Network, Stat
         records: RECORDS,
     };
     let Ok(mut network) = Network::open(alloc, CENTRES, limits) else {
-        return Err(Status::Memory);
+        return Err(RunEnd::Unanswered(AnswerEnd::Memory));
     };
     run_lines(alloc, text, &mut network, out)?;
     Ok(network)
@@ -120,23 +122,23 @@ fn run_lines<K: Sink>(
     text: &[u8],
     network: &mut Network,
     out: &mut K,
-) -> Result<(), Status>
+) -> Result<(), RunEnd>
     requires short { length text.now ≤ LONGEST_SCRIPT }
     requires centres { length network.old.centres ≡ CENTRES }
     requires new { StandsFor network.old first_world }
-    ensures ok { OnOk result (IsPlayed text.now network.new (K.written out.old) (K.written out.new)) }
-    ensures err { IfErr result (IsRunEnd text.now (K.written out.old) (K.written out.new) (K.write_faults out.old) (K.write_faults out.new)) }
-    ensures broken_off { result ≡ Err Status.WriteFault → IsBrokenOff text.now (K.written out.old) (K.written out.new) }
+    ensures ok { OnOk result (IsPlayed CENTRES first_world text.now network.new (K.written out.old) (K.written out.new)) }
+    ensures err { IfErr result (IsRunEnd CENTRES first_world text.now
+        (K.written out.old) (K.written out.new) (K.write_faults out.old) (K.write_faults out.new)) }
     ensures counted { K.write_faults out.old ≤ K.write_faults out.new }
 {
     let mut answer = Vec::new(alloc);
     let mut rest = text;
     let mut number = 0;
     while !rest.is_empty() {
-        let (line, behind) = first_line(rest);
+        let (line, later) = first_line(rest);
         number += 1;
         run_line(line, number, network, &mut answer, out)?;
-        rest = behind;
+        rest = later;
     }
     Ok(())
 }
@@ -148,46 +150,47 @@ fn run_line<K: Sink>(
     network: &mut Network,
     answer: &mut Vec<u8>,
     out: &mut K,
-) -> Result<(), Status>
+) -> Result<(), RunEnd>
     requires { length network.old.centres ≡ CENTRES }
-    ensures ok { OnOk result (HasRun line.now network.old network.new (K.written out.old) (K.written out.new)) }
-    ensures err { IfErr result (IsLineEnd line.now number (K.written out.old) (K.written out.new) (K.write_faults out.old) (K.write_faults out.new)) }
-    ensures begun { result ≡ Err Status.WriteFault → HasBegun line.now network.old (K.written out.old) (K.written out.new) }
+    ensures ok { OnOk result (HasRun CENTRES line.now network.old network.new (K.written out.old) (K.written out.new)) }
+    ensures err { IfErr result (IsLineEnd CENTRES line.now number network.old
+        (K.written out.old) (K.written out.new) (K.write_faults out.old) (K.write_faults out.new)) }
     ensures counted { K.write_faults out.old ≤ K.write_faults out.new }
     ensures centres { length network.new.centres ≡ length network.old.centres }
 {
     match parse(line, CENTRES) {
-        None => Err(Status::BadLine { line: number }),
+        None => Err(RunEnd::BadLine { line: number }),
         Some(Command::Nothing) => Ok(()),
-        Some(Command::Do(event)) => run_event(&event, network, answer, out),
+        Some(Command::Do(event)) => match run_event(&event, network, answer, out) {
+            Ok(()) => Ok(()),
+            Err(end) => Err(RunEnd::Unanswered(end)),
+        },
     }
 }
 
-/// Lets an event happen and writes the answer.
+/// Lets an event happen, and writes the answer by one write.
 fn run_event<K: Sink>(
     event: &Event,
     network: &mut Network,
     answer: &mut Vec<u8>,
     out: &mut K,
-) -> Result<(), Status>
+) -> Result<(), AnswerEnd>
     requires { CanHappen network.old event.now }
-    ensures ok { OnOk result ((w : World) → StandsFor network.old w →
-        StandsFor network.new (happens w event.now).0 × Appends (K.written out.old) (K.written out.new) (answer_text (happens w event.now).1)) }
-    ensures err { IfErr result (IsEventEnd (K.written out.old) (K.written out.new) (K.write_faults out.old) (K.write_faults out.new)) }
-    ensures begun { result ≡ Err Status.WriteFault → (w : World) → StandsFor network.old w →
-        (count : ℕ) × Appends (K.written out.old) (K.written out.new) (take count (answer_text (happens w event.now).1)) }
+    ensures ok { OnOk result (HasAnswered (Do event.now) network.old network.new (K.written out.old) (K.written out.new)) }
+    ensures err { IfErr result (IsAnswerEnd (Do event.now) network.old
+        (K.written out.old) (K.written out.new) (K.write_faults out.old) (K.write_faults out.new)) }
     ensures counted { K.write_faults out.old ≤ K.write_faults out.new }
     ensures centres { length network.new.centres ≡ length network.old.centres }
 {
     let Ok(outcome) = network.step(event) else {
-        return Err(Status::Memory);
+        return Err(AnswerEnd::Memory);
     };
     answer.clear();
     if push_answer(answer, &outcome).is_err() {
-        return Err(Status::Memory);
+        return Err(AnswerEnd::Memory);
     }
     if out.write_all(answer).is_err() {
-        return Err(Status::WriteFault);
+        return Err(AnswerEnd::Fault);
     }
     Ok(())
 }

@@ -1,8 +1,9 @@
 ghost use Rattle.std.specs.Prelude.{◌≡◌, ◌≢◌, ℕ, ◌≤◌, ◌↔◌, List, map, string_bytes};
 ghost use Rattle.pv_outside.specs.Counts.{Rose};
 ghost use Rattle.prestel.specs.About.{about_words, about_text};
-ghost use Rattle.prestel.specs.Play.{play_words, HasRead, IsNotRun};
-ghost use Rattle.prestel.specs.Program.{IsToldOf, IsRunOf};
+ghost use Rattle.prestel.specs.Play.{play_words, first_world, HasRead, IsNotRun};
+ghost use Rattle.prestel.specs.Program.{IsWritten, IsRunOf};
+ghost use Rattle.prestel.specs.declared.play.TheConstants.{CENTRES};
 ghost use Rattle.prestel.specs.declared.about.About.{About};
 
 use crate::about::About;
@@ -12,43 +13,45 @@ use pv_outside::{Failed, Sink, Source, Status};
 use std::alloc::Global;
 use std::io::Write;
 
-/// Does what the words ask for: tells of the program, or plays the script. All that the program does is
-/// this.
+/// Does what the words ask for: prints the help or the version, or plays the script. All that the program
+/// does is this.
 pub fn run_program<S: Source, W: Write + Drop>(
     alloc: Global,
     words: &[String],
     script: &mut S,
     out: &mut StandardOutput<W>,
 ) -> Status
-    // Help and the version are told to the writer itself, and nothing is read then.
-    ensures tells { (about : About) → map string_bytes words.now ≡ about_words about → IsToldOf W.contents (about_text about) result out.old out.new × (script.new ≡ script.old) }
+    // The help and the version are written to the writer itself, and nothing is read then.
+    ensures about { (about : About) → map string_bytes words.now ≡ about_words about
+        → IsWritten W.contents (about_text about) out.old out.new result × (script.new ≡ script.old) }
 
     // Otherwise what was read is a text, and what the writer has now is what a run of that text makes of it.
     ensures runs { ((about : About) → map string_bytes words.now ≢ about_words about) → (text : List ℕ)
         × HasRead (S.taken script.old) (S.taken script.new) (S.left script.old) (S.left script.new) text
-        × IsRunOf W.contents text result (S.left script.old) (S.ended script.new) out.old out.new }
+        × IsRunOf W.contents CENTRES first_world text (S.left script.old) (S.ended script.new) out.old out.new result }
 
-    // The words are refused exactly where they are none of those, and then nothing is read.
-    ensures usage { (result ≡ Status.Usage) ↔ (map string_bytes words.now ≢ play_words × ((about : About) → map string_bytes words.now ≢ about_words about)) }
+    // The words are refused exactly when they are none of those, and then nothing is read.
+    ensures usage { (result ≡ Status.Usage)
+        ↔ (map string_bytes words.now ≢ play_words × ((about : About) → map string_bytes words.now ≢ about_words about)) }
     ensures unread { result ≡ Status.Usage → script.new ≡ script.old }
 
-    // Nothing is run, and nothing written, where the words, the reading or the length is at fault.
+    // Nothing is run, and nothing written, if the words, the reading or the length is at fault.
     ensures not_run { IsNotRun result → out.new ≡ out.old }
 
-    // A fault of the outside is told only where its count rose.
+    // A fault of the outside comes only if its count rose.
     ensures read_fault { result ≡ Status.ReadFault → Rose (S.read_faults script.old) (S.read_faults script.new) }
     ensures write_fault { result ≡ Status.WriteFault → Rose out.old.faults out.new.faults }
     ensures counted { (S.read_faults script.old ≤ S.read_faults script.new) × (out.old.faults ≤ out.new.faults) }
 {
     match About::asked(words) {
-        Some(about) => tell(about, out),
+        Some(about) => write_about(about, out),
         None => play_out(alloc, words, script, out),
     }
 }
 
-/// Writes what the program tells of itself.
-fn tell<W: Write + Drop>(about: About, out: &mut StandardOutput<W>) -> Status
-    ensures told { IsToldOf W.contents (about_text about) result out.old out.new }
+/// Writes the help or the version.
+fn write_about<W: Write + Drop>(about: About, out: &mut StandardOutput<W>) -> Status
+    ensures about { IsWritten W.contents (about_text about) out.old out.new result }
     ensures write_fault { result ≡ Status.WriteFault → Rose out.old.faults out.new.faults }
     ensures counted { out.old.faults ≤ out.new.faults }
 {
@@ -61,8 +64,8 @@ fn tell<W: Write + Drop>(about: About, out: &mut StandardOutput<W>) -> Status
     Status::Done
 }
 
-/// Plays a script, and passes on to the writer what the buffer still holds of the answers. Where memory
-/// ran out, that is told, whether the answers before could be passed on or not.
+/// Plays a script, and flushes the answers that are still in the buffer. If memory ran out, that is the
+/// status, whether the answers before could be flushed or not.
 fn play_out<S: Source, W: Write + Drop>(
     alloc: Global,
     words: &[String],
@@ -70,17 +73,18 @@ fn play_out<S: Source, W: Write + Drop>(
     out: &mut StandardOutput<W>,
 ) -> Status
     // What was read is a text, and what the writer has now is what a run of that text makes of it.
-    ensures runs { (text : List ℕ) × HasRead (S.taken script.old) (S.taken script.new) (S.left script.old) (S.left script.new) text
-        × IsRunOf W.contents text result (S.left script.old) (S.ended script.new) out.old out.new }
+    ensures runs { (text : List ℕ)
+        × HasRead (S.taken script.old) (S.taken script.new) (S.left script.old) (S.left script.new) text
+        × IsRunOf W.contents CENTRES first_world text (S.left script.old) (S.ended script.new) out.old out.new result }
 
-    // The words are refused exactly where they are others than `play 1`, and then nothing is read.
+    // The words are refused exactly when they are others than `play 1`, and then nothing is read.
     ensures usage { (result ≡ Status.Usage) ↔ (map string_bytes words.now ≢ play_words) }
     ensures unread { result ≡ Status.Usage → script.new ≡ script.old }
 
-    // Nothing is run, and nothing written, where the words, the reading or the length is at fault.
+    // Nothing is run, and nothing written, if the words, the reading or the length is at fault.
     ensures not_run { IsNotRun result → out.new ≡ out.old }
 
-    // A fault of the outside is told only where its count rose.
+    // A fault of the outside comes only if its count rose.
     ensures read_fault { result ≡ Status.ReadFault → Rose (S.read_faults script.old) (S.read_faults script.new) }
     ensures write_fault { result ≡ Status.WriteFault → Rose out.old.faults out.new.faults }
     ensures counted { (S.read_faults script.old ≤ S.read_faults script.new) × (out.old.faults ≤ out.new.faults) }

@@ -2,17 +2,17 @@ ghost use Rattle.std.specs.Prelude.{◌≡◌, ◌==◌, ◌&&◌, ◌≤◌, na
 ghost use Rattle.std.specs.Io.Buffered.{writer_inner, writer_capacity};
 ghost use Rattle.std.specs.Io.KnownBytes.{Keeps};
 ghost use Rattle.pv_outside.specs.Counts.{Rose};
-ghost use Rattle.prestel.specs.Output.{given, waiting};
+ghost use Rattle.prestel.specs.Output.{written_bytes, buffered_bytes};
 
 use pv_outside::{Failed, Sink, Source};
 use std::alloc::{AllocError, Global};
 use std::io::{BufWriter, Read, Write};
 
-/// How many bytes of the output are kept until they are written at once.
+/// How many bytes of the output the buffer has room for.
 const OUTPUT_BUFFER: usize = 65_536;
 
-/// A reader of the process as a source. It counts its faults and whether it has ended, and tells what is
-/// left where the reader does: a slice does, a terminal and a pipe do not.
+/// A reader of the process as a source. It counts its faults and whether it has ended. It reports what is
+/// left if the reader does: a slice does, a terminal and a pipe do not.
 #[derive(Drop)]
 pub struct StandardInput<R: Read + Drop> {
     reader: R,
@@ -66,15 +66,15 @@ impl<R: Read + Drop> Source for StandardInput<R> {
     }
 }
 
-/// Whether an answer of so many bytes, to a read with so much room, tells the end.
+/// Whether the count that a read returned, with this much room, means that the source has ended.
 fn is_end(count: usize, room: usize) -> bool
     ensures { result ≡ (count == 0 && nat_lt 0 room) }
 {
     count == 0 && room > 0
 }
 
-/// A writer of the process as a sink, behind a buffer of its own. It counts its faults, and tells the
-/// bytes that it was given where the writer tells what it holds.
+/// A writer of the process as a sink, with a buffer of its own before it. It counts its faults, and reports
+/// the bytes that were written if the writer reports what it holds.
 #[derive(Drop)]
 pub struct StandardOutput<W: Write + Drop> {
     writer: BufWriter<W>,
@@ -85,7 +85,7 @@ impl<W: Write + Drop> StandardOutput<W> {
     /// A sink to which nothing was written.
     pub fn new(alloc: Global, writer: W) -> Result<Self, AllocError>
         ensures writer { IfOk result (λ out. writer_inner out.writer ≡ writer) }
-        ensures empty { IfOk result (λ out. waiting out ≡ []) }
+        ensures empty { IfOk result (λ out. buffered_bytes out ≡ []) }
         ensures capacity { IfOk result (λ out. writer_capacity out.writer ≡ OUTPUT_BUFFER) }
         ensures faults { IfOk result (λ out. out.faults ≡ 0) }
     {
@@ -95,7 +95,7 @@ impl<W: Write + Drop> StandardOutput<W> {
         Ok(StandardOutput { writer, faults: 0 })
     }
 
-    /// The writer itself, which has what was passed on.
+    /// The writer itself, which has what was flushed.
     #[cfg(test)]
     pub fn writer(&self) -> &W
         ensures { result.now ≡ writer_inner self.now.writer }
@@ -103,10 +103,10 @@ impl<W: Write + Drop> StandardOutput<W> {
         self.writer.get_ref()
     }
 
-    /// Passes on to the writer what waits in the buffer.
+    /// Passes on to the writer what is still in the buffer.
     pub fn flush(&mut self) -> Result<(), Failed>
-        ensures flushed { OnOk result (waiting self.new ≡ []) }
-        ensures kept { Keeps (given W.contents self.old) (given W.contents self.new) }
+        ensures flushed { OnOk result (buffered_bytes self.new ≡ []) }
+        ensures kept { Keeps (written_bytes W.contents self.old) (written_bytes W.contents self.new) }
         ensures counted { self.old.faults ≤ self.new.faults }
         ensures failed { IsErr result → Rose self.old.faults self.new.faults }
     {
@@ -121,7 +121,7 @@ impl<W: Write + Drop> StandardOutput<W> {
 impl<W: Write + Drop> Sink for StandardOutput<W> {
     ghost write_faults = { λ s. s.faults };
 
-    ghost written = { given W.contents };
+    ghost written = { written_bytes W.contents };
 
     fn write_all(&mut self, bytes: &[u8]) -> Result<(), Failed> {
         let mut at = 0;

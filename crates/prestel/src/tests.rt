@@ -37,14 +37,14 @@ impl<'a> Trial<'a> {
         alloc: Global,
         words: &[&str],
         wanted: Status,
-        told: &[u8],
+        written: &[u8],
     ) -> Result<bool, Fail> {
         let words = texts(alloc, words)?;
         let mut source = MemSource::new(alloc, self.script, self.failing_reads)?;
         let mut sink = MemSink::new(alloc, self.room, self.failing_writes)?;
         let Played { status, network } = play(alloc, &words, &mut source, &mut sink);
         drop(network);
-        Ok(status == wanted && sink.bytes() == told)
+        Ok(status == wanted && sink.bytes() == written)
     }
 }
 
@@ -58,11 +58,11 @@ fn texts(alloc: Global, words: &[&str]) -> Result<Vec<String>, Fail> {
 }
 
 /// Whether a play of one centre ends so, and writes this.
-fn comes_to(alloc: Global, script: &[u8], wanted: Status, told: &[u8]) -> Result<bool, Fail> {
-    Trial::of(script).ends(alloc, &["play", "1"], wanted, told)
+fn comes_to(alloc: Global, script: &[u8], wanted: Status, written: &[u8]) -> Result<bool, Fail> {
+    Trial::of(script).ends(alloc, &["play", "1"], wanted, written)
 }
 
-/// The 22 row ends, in notation, that stand behind the row of a frame that has one.
+/// The 22 row ends, in notation, that come after the row of a frame that has one.
 const ROW_ENDS: &[u8] =
     b"\\0d\\0a\\0d\\0a\\0d\\0a\\0d\\0a\\0d\\0a\\0d\\0a\\0d\\0a\\0d\\0a\\0d\\0a\\0d\\0a\\0d\\0a\\0d\\0a\\0d\\0a\\0d\\0a\\0d\\0a\\0d\\0a\\0d\\0a\\0d\\0a\\0d\\0a\\0d\\0a\\0d\\0a\\0d\\0a\n";
 
@@ -87,11 +87,14 @@ fn scripts_have_their_transcripts(rt: HostRuntime) -> Result<(), Fail> {
             b"",
         ),
     ];
-    for (script, front, behind) in cases {
-        let mut told = Vec::new(alloc);
-        told.extend_from_slice(front)?;
-        told.extend_from_slice(behind)?;
-        assert!(rt; comes_to(alloc, script, Status::Done, &told)?, "{script:?}");
+    for (script, first, rest) in cases {
+        let mut wanted = Vec::new(alloc);
+        wanted.extend_from_slice(first)?;
+        wanted.extend_from_slice(rest)?;
+        assert!(rt;
+            comes_to(alloc, script, Status::Done, &wanted)?,
+            "{script:?}"
+        );
     }
     Ok(())
 }
@@ -125,9 +128,9 @@ const FORMS: [(&[u8], &[u8]); 17] = [
 
 #[test]
 fn lines_at_the_edge_of_a_form(rt: HostRuntime) -> Result<(), Fail> {
-    for (script, told) in FORMS {
+    for (script, written) in FORMS {
         assert!(rt;
-            comes_to(rt.alloc(), script, Status::Done, told)?,
+            comes_to(rt.alloc(), script, Status::Done, written)?,
             "{script:?}"
         );
     }
@@ -157,7 +160,7 @@ const NO_FORMS: [&[u8]; 36] = [
     b"see 1a X",
     b"seed\t1a X",
     b" seed 1a X",
-    b" ; a remark",
+    b" ; a comment",
     b"send",
     b"send ",
     b"send 1",
@@ -238,13 +241,13 @@ fn a_write_that_fails_ends_a_play(rt: HostRuntime) -> Result<(), Fail> {
         (&[], 9, b"OK 0\n"),
         (&[], 0, b""),
     ];
-    for (failing_writes, room, told) in cases {
+    for (failing_writes, room, written) in cases {
         let trial = Trial {
             failing_writes,
             room,
             ..Trial::of(TWO_SEEDS)
         };
-        let ended = trial.ends(rt.alloc(), &["play", "1"], Status::WriteFault, told)?;
+        let ended = trial.ends(rt.alloc(), &["play", "1"], Status::WriteFault, written)?;
         assert!(rt; ended, "{failing_writes:?} {room}");
     }
     Ok(())
@@ -338,7 +341,7 @@ impl Write for Balky {
 }
 
 #[test]
-fn what_is_written_waits_for_a_flush(rt: HostRuntime) -> Result<(), Fail> {
+fn what_is_written_is_buffered_until_a_flush(rt: HostRuntime) -> Result<(), Fail> {
     let alloc = rt.alloc();
     let mut out = StandardOutput::new(alloc, Vec::new(alloc))?;
     out.write_all(b"OK 0\n")?;
@@ -366,7 +369,7 @@ fn a_writer_that_fails_in_mid_stream_loses_nothing(rt: HostRuntime) -> Result<()
 }
 
 #[test]
-fn a_run_passes_on_its_answers(rt: HostRuntime) -> Result<(), Fail> {
+fn a_run_flushes_its_answers(rt: HostRuntime) -> Result<(), Fail> {
     let alloc = rt.alloc();
     let words = texts(alloc, &["play", "1"])?;
     let cases: [(&[u8], u64, Status, &[u8]); 4] = [
@@ -380,18 +383,18 @@ fn a_run_passes_on_its_answers(rt: HostRuntime) -> Result<(), Fail> {
         (TWO_SEEDS, 1, Status::WriteFault, b""),
         (TWO_SEEDS, 3, Status::WriteFault, b"OK 0\nO"),
     ];
-    for (script, failing, wanted, told) in cases {
+    for (script, failing, wanted, written) in cases {
         let mut input = StandardInput::new(script);
         let mut out = StandardOutput::new(alloc, Balky::new(alloc, failing))?;
         let status = run_program(alloc, &words, &mut input, &mut out);
         assert_eq!(rt; status, wanted);
-        assert_eq!(rt; out.writer().bytes.as_slice(), told);
+        assert_eq!(rt; out.writer().bytes.as_slice(), written);
     }
     Ok(())
 }
 
 #[test]
-fn a_run_tells_of_the_program(rt: HostRuntime) -> Result<(), Fail> {
+fn a_run_writes_the_help_and_the_version(rt: HostRuntime) -> Result<(), Fail> {
     let alloc = rt.alloc();
     let cases: [(&str, &str); 2] = [
         ("--help", "usage: prestel play 1 < SCRIPT\n"),
@@ -423,7 +426,7 @@ fn a_reader_that_fails_in_mid_stream_is_a_read_fault(rt: HostRuntime) -> Result<
 }
 
 #[test]
-fn nothing_is_read_behind_the_end(rt: HostRuntime) -> Result<(), Fail> {
+fn nothing_is_read_after_the_end(rt: HostRuntime) -> Result<(), Fail> {
     let alloc = rt.alloc();
     let words = texts(alloc, &["play", "1"])?;
     let cases: [(&[u8], u64); 2] = [(b"", 1), (TWO_SEEDS, 2)];

@@ -1,2 +1,4 @@
 pub mod Out
-pub mod ReadBack
+pub mod Padded
+pub mod Reading
+pub mod Refusals

@@ -9,3 +9,14 @@ pub struct NoRoom;
 #[derive(Clone, Copy, Debug, PartialEq, Eq, Error)]
 #[error("fewer bytes are left than were asked for")]
 pub struct Short;
+
+/// The next bytes are no valid spelling of the value that was asked for.
+#[derive(Clone, Copy, Debug, PartialEq, Eq, Error)]
+#[error("the bytes are no valid spelling of the value")]
+pub struct NoSpelling;
+
+impl From<Short> for NoSpelling {
+    fn from(_short: Short) -> NoSpelling {
+        NoSpelling
+    }
+}

@@ -1,19 +1,19 @@
 -- How many names have a frame, and what number comes next, as the list grows.
-use Rattle.std.proofs.Common.{◌≡◌, ℕ, ◌+◌, Bool, true, false, cond, not, ◌&&◌, ◌||◌, eqb, List, [], ◌∷◌, ◌++◌, length, get_or, take, Option, Some, None, refl, sym, ap, ◌∙◌, arith}
-use Rattle.std.specs.Prelude.{reverse, find, is_none}
-use Rattle.std.specs.List.{list_any}
+use Rattle.std.proofs.Common.{◌≡◌, ℕ, ◌+◌, ◌<◌, Bool, true, false, cond, not, ◌&&◌, ◌||◌, eqb, List, [], ◌∷◌, ◌++◌, take, drop, get_or, Option, Some, None, refl, sym, ap, ◌∙◌, arith}
+use Rattle.std.specs.Prelude.{reverse, find, is_none, slice_get}
+use Rattle.std.specs.List.{count_by, list_any}
 use Rattle.std.specs.Option.{option_map, option_map_or, option_or}
 use Rattle.std.proofs.Math.Bool.{or-false}
-use Rattle.std.proofs.lemmas.Bool.{eqb-true, eq-eqb, and_parts}
+use Rattle.std.proofs.lemmas.Bool.{eqb-true, and_parts}
 use Rattle.std.proofs.lemmas.Bool.Decides.{nat_tests}
-use Rattle.std.proofs.lemmas.List.{reverse-append, take_more, take_all}
+use Rattle.std.proofs.lemmas.List.{reverse-append, take-take, take-append-drop}
+use Rattle.std.proofs.lemmas.List.Sums.{count_by_more_yes, sum_by-append}
+use Rattle.std.proofs.lemmas.Option.{slice_get_within, get_or_from_slice_get}
 use Rattle.std.proofs.lemmas.List.Folds.{list_any-append, find-append}
-use Rattle.std.proofs.lemmas.Option.{slice_get-get_or}
 use mir.Val.{bool_byte}
 use Rattle.pv_page.specs.Names.{Name}
 use Rattle.pv_network.specs.declared.record.Record.{Record}
-use Rattle.pv_network.specs.declared.record.TheConstants.{OPERATOR}
-use Rattle.pv_network.specs.Edits.{same_name, puts, is_by, frame_at, frame_count, last_number, IsNumbered}
+use Rattle.pv_network.specs.Edits.{same_name, puts, is_by, frame_at, frame_count, last_number}
 
 -- ---- names
 
@@ -51,10 +51,7 @@ none-reverse p (x ∷ xs) =
     ∙ ap (λ (t : Bool). t && is_none (find p (x ∷ []))) (none-reverse p xs) ∙ last (p x) (list_any p xs)
   where
     last : (b rest : Bool) → (not rest && is_none (cond b (Some x) None)) ≡ not (b || rest)
-    last true true = refl
-    last true false = refl
-    last false true = refl
-    last false false = refl
+    last b rest = grind arith
 
 -- a record has a frame
 pub none-option_map : (o : Option Record) → is_none (option_map (λ edit. edit.frame) o) ≡ is_none o
@@ -69,14 +66,7 @@ none-frame_at edits name = none-option_map (find (puts name) (reverse edits)) �
 
 -- one more record: one name more has a frame, unless it had one
 arranged : (before here same : Bool) (count : ℕ) → (same ≡ true → before ≡ here) → cond (before || same) 0 1 + (count + cond here 0 1) ≡ (cond before 0 1 + count) + cond (same || here) 0 1
-arranged true true true count agree = omega arith
-arranged true true false count agree = omega arith
-arranged true false true count agree = let e = agree refl in absurd cc
-arranged true false false count agree = omega arith
-arranged false true true count agree = let e = agree refl in absurd cc
-arranged false true false count agree = omega arith
-arranged false false true count agree = omega arith
-arranged false false false count agree = omega arith
+arranged before here same count agree = grind arith
 
 -- a record more is a frame more, unless its name had one
 pub frame_count-push : (edits : List Record) (edit : Record) → frame_count (edits ++ edit ∷ []) ≡ frame_count edits + cond (list_any (puts edit.name) edits) 0 1
@@ -93,20 +83,24 @@ frame_count-push (x ∷ edits) edit =
 
 -- ---- the next number
 
--- in a run the operator's last number is the list's length
-pub last_number-run : (edits : List Record) → IsNumbered edits → last_number edits OPERATOR ≡ length edits
-last_number-run [] run = refl
-last_number-run (x ∷ edits) run =
-    let n = length edits in
-    let all = x ∷ edits in
-    let last : Record = get_or all n x in
-    let parts : all ≡ take n all ++ last ∷ [] = sym (take_all (n + 1) all (omega arith)) ∙ take_more all n x (omega arith) in
-    let here = run n last (slice_get-get_or all n x (omega arith)) in
-    let turned : reverse all ≡ last ∷ reverse (take n all) = ap reverse parts ∙ reverse-append (take n all) (last ∷ []) in
-    let found : eqb last.editor OPERATOR ≡ true = eq-eqb last.editor OPERATOR here.0 in
-    ap (λ (l : List Record). option_map_or (λ edit. edit.number) (find (is_by OPERATOR) l) 0) turned
-    ∙ ap (λ (t : Bool). option_map_or (λ edit. edit.number) (cond t (Some last) (find (is_by OPERATOR) (reverse (take n all)))) 0) found
-    ∙ omega (arith, here.1)
+-- the last number of an editor, as the list grows
+pub last_number-push : (edits : List Record) (edit : Record) (editor : ℕ)
+    → last_number (edits ++ edit ∷ []) editor ≡ cond (is_by editor edit) edit.number (last_number edits editor)
+last_number-push edits edit editor =
+    ap (λ (l : List Record). option_map_or (λ e. e.number) (find (is_by editor) l) 0) (reverse-append edits (edit ∷ [])) ∙ chosen (is_by editor edit)
+  where
+    chosen : (b : Bool) → option_map_or (λ e. e.number) (cond b (Some edit) (find (is_by editor) (reverse edits))) 0 ≡ cond b edit.number (last_number edits editor)
+    chosen b = grind arith
+
+-- more elements pass a test before a later place than before one that passes
+pub count_by-grows : {X : Type 0} (p : X → Bool) (xs : List X) (a b : ℕ) (x : X) → slice_get xs a ≡ Some x → p x ≡ true → a < b
+    → count_by p (take a xs) < count_by p (take b xs)
+count_by-grows p xs a b x is passes less =
+    let here : p (get_or xs a x) ≡ true = ap p (get_or_from_slice_get xs a x x is) ∙ passes in
+    let more = count_by_more_yes p xs a x (slice_get_within xs a x is) here in
+    let prefix : take (a + 1) (take b xs) ≡ take (a + 1) xs = take-take (a + 1) b xs (omega arith) in
+    let parts = ap (count_by p) (sym (take-append-drop (a + 1) (take b xs))) ∙ sum_by-append (λ y. cond (p y) 1 0) (take (a + 1) (take b xs)) (drop (a + 1) (take b xs)) in
+    omega (arith, more, parts, ap (count_by p) prefix)
 
 -- a count of one for a name that is new
 pub frame_count_more : (edits : List Record) (edit : Record) (is_new : Bool) (count : ℕ) → is_new ≡ is_none (frame_at edits edit.name) → count ≡ frame_count edits → count + bool_byte is_new ≡ frame_count (edits ++ edit ∷ [])
@@ -114,7 +108,4 @@ frame_count_more edits edit is_new count new counted =
     counts is_new (list_any (puts edit.name) edits) (new ∙ none-frame_at edits edit.name) ∙ sym (frame_count-push edits edit)
   where
     counts : (new named : Bool) → new ≡ not named → count + bool_byte new ≡ frame_count edits + cond named 0 1
-    counts true false is = omega (arith, counted)
-    counts false true is = omega (arith, counted)
-    counts true true is = absurd cc
-    counts false false is = absurd cc
+    counts new named is = grind (arith, counted)

@@ -1,48 +1,41 @@
 -- Worked examples of the network's rules, computed from the definitions.
 use Rattle.std.proofs.Common.{◌≡◌, ℕ, [], ◌∷◌, Some, None, codes, refl}
 use Rattle.std.specs.Fmt.{digits}
-use Rattle.pv_frame.specs.Content.{blank}
+use Rattle.pv_frame.specs.Content.{blank_frame}
 use Rattle.pv_network.specs.declared.centre.Arrival.TheVariants.{Taken, Old, Early, Full}
+use Rattle.pv_network.specs.declared.outcome.Outcome.{Outcome}
 use Rattle.pv_network.specs.declared.outcome.Outcome.TheVariants as outcomes
 use Rattle.pv_network.specs.declared.record.Record.{Record}
 use Rattle.pv_network.specs.declared.record.TheConstants.{OPERATOR}
 use Rattle.pv_network.specs.Edits.{frame_count, last_number, edit_at}
-use Rattle.pv_network.specs.Replies.{stored_reply, frames_full_reply, full_reply}
-use Rattle.pv_network.specs.Step.{arrival_of, next_number, seeded, sent}
-use Rattle.pv_network.specs.World.{start}
+use Rattle.pv_network.specs.Replies.{stored_reply, frames_full_reply, full_reply, bad_line_reply}
+use Rattle.pv_network.specs.Centre.{arrival_of}
+use Rattle.pv_network.specs.Link.{next_number}
+use Rattle.pv_network.specs.Step.{step_of_judgement, step_of_send}
+use Rattle.pv_network.specs.UpdateCentre.{judgement_of}
+use Rattle.pv_network.specs.World.{World, start}
 
 -- the operator's account is 0
 pub operator : OPERATOR ≡ 0
 operator = refl
 
--- what an editor is told of the first record
-pub first-reply : stored_reply 0 ≡ codes "OK 0"
+-- the replies: the first record is stored, 2,000 names have a frame, there are 10,000 records, a line is no request
+pub replies : (stored_reply 0 ≡ codes "OK 0")
+    × (frames_full_reply 2000 ≡ codes "NO 5 FRAMES FULL 2000")
+    × (full_reply 10000 ≡ codes "NO 14 FULL 10000")
+    × (bad_line_reply ≡ codes "NO 11 BAD LINE")
 unfolding digits
-first-reply = refl
-
--- what he is told where 2,000 names have a frame
-pub frames-full : frames_full_reply 2000 ≡ codes "NO 5 FRAMES FULL 2000"
-unfolding digits
-frames-full = refl
-
--- what he is told where there are 10,000 records
-pub records-full : full_reply 10000 ≡ codes "NO 14 FULL 10000"
-unfolding digits
-records-full = refl
+replies = (refl, refl, refl, refl)
 
 -- a record by its editor, his number, and the letter of a frame of page 1
 abbrev edit : ℕ → ℕ → ℕ → Record
-edit editor number letter = record { editor = editor; number = number; name = record { page = 1; letter = letter }; frame = blank }
+edit editor number letter = record { editor = editor; number = number; name = record { page = 1; letter = letter }; frame = blank_frame }
 
--- two edits of one frame are one frame
-pub edited-twice : frame_count (edit 0 1 97 ∷ edit 0 2 97 ∷ []) ≡ 1
-edited-twice = refl
+-- two edits of one frame are one frame, and the frames a and b of a page are two
+pub frames : (frame_count (edit 0 1 97 ∷ edit 0 2 97 ∷ []) ≡ 1) × (frame_count (edit 0 1 97 ∷ edit 0 2 98 ∷ []) ≡ 2)
+frames = (refl, refl)
 
--- the frames a and b of a page are two
-pub two-letters : frame_count (edit 0 1 97 ∷ edit 0 2 98 ∷ []) ≡ 2
-two-letters = refl
-
--- the last edit of a name is the one that stands
+-- the last edit of a name counts
 pub last-stands : edit_at (edit 0 1 97 ∷ edit 0 2 97 ∷ edit 0 3 98 ∷ []) (record { page = 1; letter = 97 }) ≡ Some (edit 0 2 97)
 last-stands = refl
 
@@ -50,53 +43,37 @@ last-stands = refl
 pub own-number : last_number (edit 0 1 97 ∷ edit 7 5 97 ∷ []) 0 ≡ 1
 own-number = refl
 
--- the next record is taken
-pub next-taken : arrival_of 3 10 3 ≡ Taken
-next-taken = refl
+-- The next record is taken, one that was taken is old, one after the next is early. At the limit the next one finds the centre
+-- full, and an old one is old there too.
+pub arrivals : (arrival_of 3 10 3 ≡ Taken) × (arrival_of 3 10 2 ≡ Old) × (arrival_of 3 10 4 ≡ Early) × (arrival_of 10 10 10 ≡ Full) × (arrival_of 10 10 9 ≡ Old)
+arrivals = (refl, refl, refl, refl, refl)
 
--- one that was taken is old
-pub before-old : arrival_of 3 10 2 ≡ Old
-before-old = refl
+-- An end sends in turn, begins again after the last record with the first that is not acknowledged, and sends nothing if all
+-- are acknowledged.
+pub turns : (next_number (record { acknowledged = 0; next = 1 }) 3 ≡ Some 1)
+    × (next_number (record { acknowledged = 1; next = 3 }) 3 ≡ Some 1)
+    × (next_number (record { acknowledged = 3; next = 3 }) 3 ≡ None)
+turns = (refl, refl, refl)
 
--- one behind the next is early
-pub behind-early : arrival_of 3 10 4 ≡ Early
-behind-early = refl
+-- a judgement of a blank frame that the operator puts under a letter of page 1
+abbrev put : World → ℕ → World × Outcome
+put w letter = step_of_judgement w (judgement_of w.update OPERATOR (record { page = 1; letter = letter }) blank_frame)
 
--- the next one at the limit finds the centre full
-pub at-limit-full : arrival_of 10 10 10 ≡ Full
-at-limit-full = refl
-
--- an old one is old at a full centre too
-pub old-at-limit : arrival_of 10 10 9 ≡ Old
-old-at-limit = refl
-
--- an end sends in turn
-pub in-turn : next_number (record { acknowledged = 0; next = 1 }) 3 ≡ Some 1
-in-turn = refl
-
--- behind the last record it begins again with the first that is not acknowledged
-pub begins-again : next_number (record { acknowledged = 1; next = 3 }) 3 ≡ Some 1
-begins-again = refl
-
--- it sends nothing where all is acknowledged
-pub all-acknowledged : next_number (record { acknowledged = 3; next = 3 }) 3 ≡ None
-all-acknowledged = refl
-
--- where the limit is one frame, a second name is refused
-pub second-name : (seeded (seeded (start 1 1 5) (record { page = 1; letter = 97 }) blank).0 (record { page = 1; letter = 98 }) blank).1 ≡ outcomes.Reply (codes "NO 5 FRAMES FULL 1")
+-- if the limit is one frame, a second name is refused
+pub second_name : (put (put (start 1 1 5) 97).0 98).1 ≡ outcomes.Reply (codes "NO 5 FRAMES FULL 1")
 unfolding digits
-second-name = refl
+second_name = refl
 
--- where both limits are met, the frame too many is told
-pub frames-first : (seeded (seeded (start 1 1 1) (record { page = 1; letter = 97 }) blank).0 (record { page = 1; letter = 98 }) blank).1 ≡ outcomes.Reply (codes "NO 5 FRAMES FULL 1")
+-- if both limits are met, the frame too many comes first
+pub frames_first : (put (put (start 1 1 1) 97).0 98).1 ≡ outcomes.Reply (codes "NO 5 FRAMES FULL 1")
 unfolding digits
-frames-first = refl
+frames_first = refl
 
 -- a frame that is there may be edited up to the limit of records alone
-pub same-name : (seeded (seeded (start 1 1 1) (record { page = 1; letter = 97 }) blank).0 (record { page = 1; letter = 97 }) blank).1 ≡ outcomes.Reply (codes "NO 14 FULL 1")
+pub same_frame : (put (put (start 1 1 1) 97).0 97).1 ≡ outcomes.Reply (codes "NO 14 FULL 1")
 unfolding digits
-same-name = refl
+same_frame = refl
 
 -- there is nothing to send at the start
-pub idle-at-start : (sent (start 1 5 5) 0).1 ≡ outcomes.Idle
-idle-at-start = refl
+pub idle_at_start : (step_of_send (start 1 5 5) 0).1 ≡ outcomes.Idle
+idle_at_start = refl

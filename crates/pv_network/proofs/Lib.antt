@@ -1,10 +1,8 @@
 pub mod Counts
 pub mod Facts
 pub mod Finding
-pub mod Keeping
 pub mod Lists
-pub mod Meaning
 pub mod Performing
 pub mod Pushes
-pub mod Seeding
 pub mod Soundness
+pub mod Standing

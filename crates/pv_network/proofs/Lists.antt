@@ -1,42 +1,54 @@
 -- Facts that hold of each element of a list, and elements by their places.
-use Rattle.std.proofs.Common.{◌≡◌, ℕ, zero, suc, ◌⊎◌, List, [], ◌∷◌, ◌++◌, length, get_or, set, Some, refl, ap, subst, inl, inr}
-use Rattle.std.specs.List.{AllByRecursion, slice_get}
+use Rattle.std.proofs.Common.{◌≡◌, ℕ, zero, suc, ◌<◌, ◌⊎◌, List, [], ◌∷◌, ◌++◌, length, get_or, set, Some, refl, ap, subst, arith, inl, inr}
+use Rattle.std.specs.List.{All, AllZip, slice_get}
+use Rattle.std.proofs.lemmas.Option.{slice_get_within, get_or_from_slice_get}
+use Rattle.std.specs.Prelude.{replicate}
 
-module _ {X : Type 0} (P : X → Type 0) where
-  -- one more at the end
-  pub all_push : (xs : List X) (x : X) → AllByRecursion P xs → P x → AllByRecursion P (xs ++ x ∷ [])
-  all_push [] x all here = (here, tt)
-  all_push (y ∷ xs) x all here = (all.0, all_push xs x all.1 here)
+-- the one that is at a place
+pub all_get : {X : Type 0} (P : X → Type 0) (xs : List X) (i : ℕ) (x : X) → All P xs → slice_get xs i ≡ Some x → P x
+all_get P xs i x all is = subst P (get_or_from_slice_get xs i x x is) (all i x (slice_get_within xs i x is))
 
-  -- another in the place of one
-  pub all_set : (xs : List X) (i : ℕ) (x : X) → AllByRecursion P xs → P x → AllByRecursion P (set xs i x)
-  all_set [] i x all here = tt
-  all_set (y ∷ xs) zero x all here = (here, all.1)
-  all_set (y ∷ xs) (suc i) x all here = (all.0, all_set xs i x all.1 here)
+-- Another in the place of one: what is said of each place by its number is said of the others as before.
+pub set_at : {X : Type 0} (P : ℕ → X → Type 0) (xs : List X) (i : ℕ) (x d : X) → ((k : ℕ) → P k (get_or xs k d)) → P i x → (k : ℕ) → P k (get_or (set xs i x) k d)
+set_at P [] i x d all here k = all k
+set_at P (y ∷ xs) zero x d all here zero = here
+set_at P (y ∷ xs) zero x d all here (suc k) = all (suc k)
+set_at P (y ∷ xs) (suc i) x d all here zero = all zero
+set_at P (y ∷ xs) (suc i) x d all here (suc k) = set_at (λ n. P (suc n)) xs i x d (λ n. all (suc n)) here k
 
-  -- the one at a place, or the default past the end
-  pub all_at : (xs : List X) (i : ℕ) (d : X) → AllByRecursion P xs → P d → P (get_or xs i d)
-  all_at [] i d all other = other
-  all_at (y ∷ xs) zero d all other = all.0
-  all_at (y ∷ xs) (suc i) d all other = all_at xs i d all.1 other
+-- the same of two lists, where both have another in that place
+pub zip_set : {X Y : Type 0} (R : X → Y → Type 0) (xs : List X) (ys : List Y) (i : ℕ) (x : X) (y : Y) → AllZip R xs ys → R x y → AllZip R (set xs i x) (set ys i y)
+zip_set R [] [] i x y all here = tt
+zip_set R [] (b ∷ ys) i x y all here = absurd all
+zip_set R (a ∷ xs) [] i x y all here = absurd all
+zip_set R (a ∷ xs) (b ∷ ys) zero x y all here = (here, all.1)
+zip_set R (a ∷ xs) (b ∷ ys) (suc i) x y all here = (all.0, zip_set R xs ys i x y all.1 here)
 
-  -- the one that is at a place
-  pub all_get : (xs : List X) (i : ℕ) (x : X) → AllByRecursion P xs → slice_get xs i ≡ Some x → P x
-  all_get [] i x all is = absurd cc
-  all_get (y ∷ xs) zero x all is = let same : y ≡ x = cc in subst P same all.0
-  all_get (y ∷ xs) (suc i) x all is = all_get xs i x all.1 is
+-- what follows from the fact at each place of two lists
+pub zip_weaken : {X Y : Type 0} (R S : X → Y → Type 0) → ((x : X) (y : Y) → R x y → S x y) → (xs : List X) (ys : List Y) → AllZip R xs ys → AllZip S xs ys
+zip_weaken R S follows [] [] all = tt
+zip_weaken R S follows [] (b ∷ ys) all = absurd all
+zip_weaken R S follows (a ∷ xs) [] all = absurd all
+zip_weaken R S follows (a ∷ xs) (b ∷ ys) all = (follows a b all.0, zip_weaken R S follows xs ys all.1)
 
--- what follows from the fact at each element
-pub all_weaken : {X : Type 0} (P Q : X → Type 0) → ((x : X) → P x → Q x) → (xs : List X) → AllByRecursion P xs → AllByRecursion Q xs
-all_weaken P Q follows [] all = tt
-all_weaken P Q follows (x ∷ xs) all = (follows x all.0, all_weaken P Q follows xs all.1)
+-- the elements at a place of both, for any default
+pub zip_at : {X Y : Type 0} (R : X → Y → Type 0) (xs : List X) (ys : List Y) (i : ℕ) (d : X) (e : Y) → AllZip R xs ys → i < length xs → R (get_or xs i d) (get_or ys i e)
+zip_at R [] ys i d e all there = let none : ⊥ = omega arith in absurd none
+zip_at R (a ∷ xs) [] i d e all there = absurd all
+zip_at R (a ∷ xs) (b ∷ ys) zero d e all there = all.0
+zip_at R (a ∷ xs) (b ∷ ys) (suc i) d e all there = zip_at R xs ys i d e all.1 (omega arith)
+
+-- two elements stand together, however often
+pub zip_replicate : {X Y : Type 0} (R : X → Y → Type 0) (n : ℕ) (x : X) (y : Y) → R x y → AllZip R (replicate n x) (replicate n y)
+zip_replicate R zero x y here = tt
+zip_replicate R (suc n) x y here = (here, zip_replicate R n x y here)
 
 module _ {X : Type 0} where
   -- what is at a place stays there as the list grows
-  pub get_front : (xs ys : List X) (i : ℕ) (x : X) → slice_get xs i ≡ Some x → slice_get (xs ++ ys) i ≡ Some x
-  get_front [] ys i x is = absurd cc
-  get_front (y ∷ xs) ys zero x is = is
-  get_front (y ∷ xs) ys (suc i) x is = get_front xs ys i x is
+  pub get_prefix : (xs ys : List X) (i : ℕ) (x : X) → slice_get xs i ≡ Some x → slice_get (xs ++ ys) i ≡ Some x
+  get_prefix [] ys i x is = absurd cc
+  get_prefix (y ∷ xs) ys zero x is = is
+  get_prefix (y ∷ xs) ys (suc i) x is = get_prefix xs ys i x is
 
   -- what is at a place of the longer list was there before, or is the new one
   pub get_push : (xs : List X) (new : X) (i : ℕ) (x : X) → slice_get (xs ++ new ∷ []) i ≡ Some x → (slice_get xs i ≡ Some x) ⊎ ((i ≡ length xs) × (new ≡ x))

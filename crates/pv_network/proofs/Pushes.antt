@@ -1,19 +1,19 @@
--- Bytes written behind a text, over zeros, are the text's end.
+-- Bytes written after a text, over zeros, are the text's end.
 use Rattle.std.proofs.Common.{◌≡◌, ℕ, ◌+◌, ◌-◌, ◌≤◌, List, ◌++◌, length, drop, sym, ap, ◌∙◌, arith}
 use Rattle.std.proofs.lemmas.List.{drop-drop, drop-replicate, length-append, length-take, length-drop}
 use Rattle.std.proofs.lemmas.Slice.{take-put_mid, drop-put_mid}
 use Rattle.std.specs.Prelude.{replicate}
 use borrow.Rule.Slice.PartMut.{put_mid}
 use Rattle.pv_network.specs.declared.text.TheConstants.{ROOM}
-use Rattle.pv_network.specs.Texts.{IsZeroed, shown, length-shown}
+use Rattle.pv_network.specs.Texts.{IsZeroed, text_in, length-text_in}
 
 module _ (len k : ℕ) (bytes more : List ℕ) (zeroed : IsZeroed len bytes) (many : k ≡ length more) (room : len + k ≤ ROOM) where
-  -- the array's end lies behind what is written
+  -- the array's end comes after what is written
   within : len ≤ length bytes
   within = omega (arith, zeroed.whole, zeroed.within)
 
   -- the text has the bytes at its end
-  pub shown_more : shown (len + k) (put_mid len k bytes more) ≡ shown len bytes ++ more
+  pub shown_more : text_in (len + k) (put_mid len k bytes more) ≡ text_in len bytes ++ more
   shown_more = take-put_mid len k bytes more (len + k) (omega (arith, many)) within
 
   -- the rest are zeros
@@ -27,10 +27,10 @@ module _ (len k : ℕ) (bytes more : List ℕ) (zeroed : IsZeroed len bytes) (ma
   same_length : length (put_mid len k bytes more) ≡ ROOM
   same_length = simp (length-append, length-take, length-drop) (omega (arith, zeroed.whole, zeroed.within, many, room))
 
-  -- zeros stand behind the longer text
+  -- zeros follow the longer text
   pub zeroed_more : IsZeroed (len + k) (put_mid len k bytes more)
   zeroed_more = record { within = room; whole = same_length; zeros = zeros_behind }
 
 -- what is shown of a text that fits is as long as the text, so with more it still fits
-pub still_fits : (len more : ℕ) (bytes text : List ℕ) → IsZeroed len bytes → shown len bytes ≡ text → length text + more ≤ ROOM → len + more ≤ ROOM
-still_fits len more bytes text zeroed is fits = omega (arith, length-shown len bytes zeroed, ap length is)
+pub still_fits : (len more : ℕ) (bytes text : List ℕ) → IsZeroed len bytes → text_in len bytes ≡ text → length text + more ≤ ROOM → len + more ≤ ROOM
+still_fits len more bytes text zeroed is fits = omega (arith, length-text_in len bytes zeroed, ap length is)

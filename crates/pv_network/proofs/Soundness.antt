@@ -1,28 +1,37 @@
 -- What an event makes of a sound world is sound.
-use Rattle.std.proofs.Common.{◌≡◌, ℕ, zero, suc, ◌+◌, ◌<◌, ◌≤◌, Bool, true, false, cond, not, ◌&&◌, ltb, leb, eqb, List, [], ◌∷◌, ◌++◌, length, Option, Some, None, take, refl, sym, ap, subst, ◌∙◌, arith, inl, inr}
+use Rattle.std.proofs.Common.{◌≡◌, ℕ, zero, suc, ◌+◌, ◌<◌, ◌≤◌, Bool, true, false, cond, not, ◌&&◌, ltb, leb, eqb, List, [], ◌∷◌, ◌++◌, length, get_or, Option, Some, None, take, refl, sym, ap, subst, ◌∙◌, arith, inl, inr}
 use Rattle.std.specs.Prelude.{is_none, slice_get, replicate}
-use Rattle.std.specs.List.{AllByRecursion, list_any}
-use Rattle.std.proofs.lemmas.Bool.{leb-false, eqb-true}
+use Rattle.std.specs.List.{count_by, list_all, list_any}
+use Rattle.std.proofs.lemmas.Bool.{leb-false, leb-true, eqb-true, eq-eqb}
 use Rattle.std.proofs.lemmas.List.{length-append, take-append-le}
+use Rattle.std.proofs.lemmas.List.Elements.{All-push}
+use Rattle.std.proofs.lemmas.List.Sums.{AllPass-from_list_all, sum_by_push}
+use Rattle.std.proofs.lemmas.Bool.Decides.{nat_tests}
 use Rattle.std.proofs.Math.Seq.{take-append_seam}
 use Rattle.std.proofs.lemmas.Option.{slice_get_within}
 use Rattle.pv_page.specs.Names.{Name}
+use Rattle.pv_cells.specs.declared.reading.TheConstants.{LAST_CELL}
 use Rattle.pv_frame.specs.Content.{Content, frame_of_row}
+use Rattle.pv_frame.specs.Errors.{IsValid}
+use Rattle.pv_frame.proofs.CallerLemmas.{IsValid-frame_of_row}
 use Rattle.pv_network.specs.declared.centre.Arrival.{Arrival}
 use Rattle.pv_network.specs.declared.centre.Arrival.TheVariants as arrivals
 use Rattle.pv_network.specs.declared.event.Event.{Event}
-use Rattle.pv_network.specs.declared.event.Event.TheVariants.{Seed, Send, Deliver, View}
+use Rattle.pv_network.specs.declared.event.Event.TheVariants as events
 use Rattle.pv_network.specs.declared.packet.Packet.{Packet}
 use Rattle.pv_network.specs.declared.record.Record.{Record}
 use Rattle.pv_network.specs.declared.record.TheConstants.{OPERATOR}
-use Rattle.pv_network.specs.Edits.{puts, frame_at, frame_count, IsNumbered}
-use Rattle.pv_network.specs.World.{World, Centre, Acknowledged, new_centre, start, centre_at, with_centre}
-use Rattle.pv_network.specs.Step.{is_packets_full, next_edit, with_edit, is_frames_full, seeded, next_number, with_packet, packed, sent_number, sent, arrival_of, with_acknowledgement, with_taken, arrived, delivered_packet, delivered, happens, after}
-use Rattle.pv_network.specs.OneList.{IsInPlace, receipt, receipts_from, OneList}
-use Rattle.pv_network.specs.Run.{MayFollow, IsRun}
-use Rattle.pv_network.specs.Sound.{IsGenuine, IsSoundCentre, IsSound}
-use Rattle.pv_network.proofs.Counts.{none-frame_at, frame_count-push, last_number-run}
-use Rattle.pv_network.proofs.Lists.{all_push, all_set, all_at, all_get, all_weaken, get_front, get_push, get_last}
+use Rattle.pv_network.specs.Centre.{Centre, new_centre, arrival_of}
+use Rattle.pv_network.specs.Edits.{puts, is_by, frame_at, frame_count, last_number}
+use Rattle.pv_network.specs.Link.{Link, new_link, is_packets_full, next_number, with_packet, with_acknowledgement}
+use Rattle.pv_network.specs.OneList.{IsNextOfEditor, AreNumbered, StandsAt, HasOnePlaceEach, IsReceived, OneList}
+use Rattle.pv_network.specs.Run.{EachFollows, MayFollow}
+use Rattle.pv_network.specs.Sound.{IsGenuine, IsSoundLink, IsSound}
+use Rattle.pv_network.specs.Step.{world_with, step_of_judgement, frame_of_cells, step_of_seed, step_of_packing, step_of_number, step_of_send, step_of_acknowledging, with_applied, step_of_arrival, step_of_packet, step_of_deliver, happens, after}
+use Rattle.pv_network.specs.UpdateCentre.{Update, next_record, refusal_reply, judgement_by, judgement_of}
+use Rattle.pv_network.specs.World.{World, Receipt, start, centre_at, link_at, with_centre, with_link, with_edit}
+use Rattle.pv_network.proofs.Counts.{none-frame_at, frame_count-push, last_number-push, count_by-grows}
+use Rattle.pv_network.proofs.Lists.{set_at, all_get, get_prefix, get_push, get_last}
 
 -- what holds of the world on each side of a test holds of the one that it chooses
 pub choice : {A : Type 0} (P : World → Type 0) (b : Bool) (x y : World × A) → (b ≡ true → P x.0) → (b ≡ false → P y.0) → P (cond b x y).0
@@ -31,217 +40,268 @@ choice P false x y here there = there refl
 
 -- ---- a centre
 
--- a centre that nothing has reached is sound beside any list
-sound_new : (edits : List Record) → IsSoundCentre edits new_centre
-sound_new edits = record { within = omega arith; packets = tt; acknowledged = tt; heard = omega arith }
+-- a centre that nothing has reached has a sound link beside any list
+sound_new : (edits : List Record) → IsSoundLink edits new_centre new_link
+sound_new edits = record { packets = λ k d none. absurd (omega (arith, none)); acknowledged = λ k d none. absurd (omega (arith, none)); heard = omega arith }
 
--- each centre of a sound world is sound, and past the last so is a new one
-pub sound_at : (w : World) (c : ℕ) → IsSound w → IsSoundCentre w.edits (centre_at w c)
-sound_at w c sound = all_at (IsSoundCentre w.edits) w.centres c new_centre sound.centres (sound_new w.edits)
+module _ (w : World) (c : ℕ) (sound : IsSound w) where
+  -- another centre in the place of one, which has applied a prefix and has a sound link
+  sound_with_centre : (centre : Centre) → centre.applied ≤ length w.update.edits → IsSoundLink w.update.edits centre (link_at w c) → IsSound (with_centre w c centre)
+  sound_with_centre centre within here = record {
+    law = record {
+      run = sound.law.run;
+      one_place = sound.law.one_place;
+      numbered = sound.law.numbered;
+      kept = sound.law.kept;
+      prefixes = set_at (λ k centre. centre.applied ≤ length w.update.edits) w.centres c centre new_centre sound.law.prefixes within;
+    };
+    last = sound.last;
+    records = sound.records;
+    frames = sound.frames;
+    links = set_at (λ k centre. IsSoundLink w.update.edits centre (link_at w k)) w.centres c centre new_centre sound.links here;
+  }
 
--- another sound centre in the place of one
-sound_with : (w : World) (c : ℕ) (centre : Centre) → IsSound w → IsSoundCentre w.edits centre → IsSound (with_centre w c centre)
-sound_with w c centre sound here = record {
-  run = sound.run;
-  numbered = sound.numbered;
-  records = sound.records;
-  frames = sound.frames;
-  acknowledged = sound.acknowledged;
-  once = sound.once;
-  centres = all_set (IsSoundCentre w.edits) w.centres c centre sound.centres here;
+  -- another sound link in the place of one
+  sound_with_link : (link : Link) → IsSoundLink w.update.edits (centre_at w c) link → IsSound (with_link w c link)
+  sound_with_link link here = record {
+    law = sound.law;
+    last = sound.last;
+    records = sound.records;
+    frames = sound.frames;
+    links = set_at (λ k link. IsSoundLink w.update.edits (centre_at w k) link) w.links c link new_link sound.links here;
+  }
+
+-- ---- an edit that is stored
+
+-- what is kept in a list is kept in a longer one
+kept_longer : (edits more : List Record) (receipt : Receipt) → IsReceived edits receipt → IsReceived (edits ++ more) receipt
+kept_longer edits more receipt kept = record {
+  edit = kept.edit;
+  there = get_prefix edits more receipt.place kept.edit kept.there;
+  by = kept.by;
+  numbered = kept.numbered;
 }
 
--- ---- seed
-
--- a longer list has what the shorter one had
-kept_longer : (edits more : List Record) (a : Acknowledged) → IsInPlace edits a → IsInPlace (edits ++ more) a
-kept_longer edits more a kept = (kept.0, get_front edits more a.place kept.0 kept.1, kept.2, kept.3)
-
--- a packet that carries a record of the list does so as the list grows
-genuine_longer : (edits more : List Record) (packet : Packet) → IsGenuine edits packet → IsGenuine (edits ++ more) packet
-genuine_longer edits more packet is = get_front edits more packet.number packet.edit is
-
--- a centre stays sound as the list grows
-centre_longer : (edits more : List Record) (centre : Centre) → IsSoundCentre edits centre → IsSoundCentre (edits ++ more) centre
-centre_longer edits more centre sound = record {
-  within = omega (arith, sound.within, length-append edits more);
-  packets = all_weaken (IsGenuine edits) (IsGenuine (edits ++ more)) (genuine_longer edits more) centre.down sound.packets;
+-- a link stays sound as the list grows
+link_longer : (edits more : List Record) (centre : Centre) (link : Link) → IsSoundLink edits centre link → IsSoundLink (edits ++ more) centre link
+link_longer edits more centre link sound = record {
+  packets = λ k d within. get_prefix edits more _ _ (sound.packets k d within);
   acknowledged = sound.acknowledged;
   heard = sound.heard;
 }
 
--- a list stays numbered with the operator's next record behind it
-numbered_push : (edits : List Record) (edit : Record) → IsNumbered edits → edit.editor ≡ OPERATOR → edit.number ≡ length edits + 1 → IsNumbered (edits ++ edit ∷ [])
-numbered_push edits edit run editor number place found is =
-    elim (get_push edits edit place found is) [
-      | inl before ↦ run place found before
-      | inr here ↦ (ap (λ (e : Record). e.editor) (sym here.1) ∙ editor, ap (λ (e : Record). e.number) (sym here.1) ∙ number ∙ ap (λ (n : ℕ). n + 1) (sym here.0))
-    ]
-
--- a list that is one record longer, which may follow, is a run still
-run_push : (frames records : ℕ) (edits : List Record) (edit : Record) → IsRun frames records edits → MayFollow frames records edits edit → IsRun frames records (edits ++ edit ∷ [])
-run_push frames records edits edit run follows place found is =
+-- each record still follows those before it in a list with one more that follows them all
+follows_push : (Follows : List Record → Record → Type 0) (edits : List Record) (edit : Record) → EachFollows Follows edits → Follows edits edit
+    → EachFollows Follows (edits ++ edit ∷ [])
+follows_push Follows edits edit each follows place found is =
     elim (get_push edits edit place found is) [
       | inl before ↦
           let within : place ≤ length edits = omega (arith, slice_get_within edits place found before) in
-          subst (λ (front : List Record). MayFollow frames records front found) (sym (take-append-le place edits (edit ∷ []) within)) (run place found before)
+          subst (λ (prefix : List Record). Follows prefix found) (sym (take-append-le place edits (edit ∷ []) within)) (each place found before)
       | inr here ↦
-          let front : take place (edits ++ edit ∷ []) ≡ edits = ap (λ (n : ℕ). take n (edits ++ edit ∷ [])) here.0 ∙ take-append_seam edits (edit ∷ []) in
-          subst (λ (last : Record). MayFollow frames records (take place (edits ++ edit ∷ [])) last) here.1
-          (subst (λ (front : List Record). MayFollow frames records front edit) (sym front) follows)
+          let prefix : take place (edits ++ edit ∷ []) ≡ edits = ap (λ (n : ℕ). take n (edits ++ edit ∷ [])) here.0 ∙ take-append_seam edits (edit ∷ []) in
+          subst (λ (last : Record). Follows (take place (edits ++ edit ∷ [])) last) here.1
+          (subst (λ (prefix : List Record). Follows prefix edit) (sym prefix) follows)
     ]
 
--- there is room for the frame of a new name where there are fewer than may be
-room_for : (edits : List Record) (name : Name) (limit : ℕ) → (is_none (frame_at edits name) && leb limit (frame_count edits)) ≡ false → frame_at edits name ≡ None → frame_count edits < limit
-room_for edits name limit room new =
-    leb-false limit (frame_count edits) (ap (λ (frame : Option Content). is_none frame && leb limit (frame_count edits)) (sym new) ∙ room)
+-- numbers of which neither is below the other are one
+neither_below : (a b : ℕ) → (a < b → ⊥) → (b < a → ⊥) → a ≡ b
+neither_below a b below above = grind (arith, nat_tests, below, above)
 
--- a new name may have a frame where there are fewer than may
-frames_push : (edits : List Record) (edit : Record) (limit : ℕ) → frame_count edits ≤ limit → (is_none (frame_at edits edit.name) && leb limit (frame_count edits)) ≡ false → frame_count (edits ++ edit ∷ []) ≤ limit
-frames_push edits edit limit within room =
-    go (list_any (puts edit.name) edits) (leb limit (frame_count edits)) (ap (λ (t : Bool). t && leb limit (frame_count edits)) (sym (none-frame_at edits edit.name)) ∙ room) (frame_count-push edits edit) (leb-false limit (frame_count edits))
+-- in a list with numbers in order an editor and a number have one place
+one_place : (edits : List Record) → AreNumbered edits → HasOnePlaceEach edits
+one_place edits numbered editor number one other here there =
+    neither_below one other (λ less. earlier one other here there less) (λ less. earlier other one there here less)
   where
-    go : (named full : Bool) → (not named && full) ≡ false → frame_count (edits ++ edit ∷ []) ≡ frame_count edits + cond named 0 1 → (full ≡ false → frame_count edits < limit) → frame_count (edits ++ edit ∷ []) ≤ limit
-    go true full fits count less = omega (arith, count, within)
-    go false false fits count less = omega (arith, count, less refl)
-    go false true fits count less = absurd cc
+    counted : (place : ℕ) → StandsAt edits editor number place → number ≡ count_by (is_by editor) (take place edits) + 1
+    counted place s = sym s.numbered ∙ numbered place s.edit s.there ∙ ap (λ (e : ℕ). count_by (is_by e) (take place edits) + 1) s.by
 
--- the receipt of a last record stands last
-receipts-push : (place : ℕ) (edits : List Record) (edit : Record) → receipts_from place (edits ++ edit ∷ []) ≡ receipts_from place edits ++ receipt edit (place + length edits) ∷ []
-receipts-push place [] edit = ap (λ (n : ℕ). receipt edit n ∷ []) (omega arith)
-receipts-push place (first ∷ later) edit =
-    ap (λ (l : List Acknowledged). receipt first place ∷ l) (receipts-push (place + 1) later edit ∙ ap (λ (n : ℕ). receipts_from (place + 1) later ++ receipt edit n ∷ []) (omega arith))
+    earlier : (a b : ℕ) → StandsAt edits editor number a → StandsAt edits editor number b → a < b → ⊥
+    earlier a b s t less =
+        let more = count_by-grows (is_by editor) edits a b s.edit s.there (eq-eqb s.edit.editor editor s.by) less in
+        omega (arith, counted a s, counted b t, more)
 
--- a sound world stays sound with a record for which there is room
-sound_edit : (w : World) (name : Name) (frame : Content) → IsSound w → is_frames_full w name ≡ false → leb w.record_limit (length w.edits) ≡ false → IsSound (with_edit w (next_edit w name frame))
-sound_edit w name frame sound frames records =
-    let edit = next_edit w name frame in
-    let number : edit.number ≡ length w.edits + 1 = ap (λ (n : ℕ). n + 1) (last_number-run w.edits sound.numbered) in
+-- an editor's last number stays how many records he has
+last_push : (edits : List Record) (edit : Record) → edit.number ≡ last_number edits edit.editor + 1 → ((e : ℕ) → last_number edits e ≡ count_by (is_by e) edits)
+    → (e : ℕ) → last_number (edits ++ edit ∷ []) e ≡ count_by (is_by e) (edits ++ edit ∷ [])
+last_push edits edit next last e =
+    last_number-push edits edit e ∙ go (eqb edit.editor e) (eqb-true edit.editor e) ∙ sym (sum_by_push (λ x. cond (is_by e x) 1 0) edits edit)
+  where
+    go : (b : Bool) → (b ≡ true → edit.editor ≡ e) → cond b edit.number (last_number edits e) ≡ count_by (is_by e) edits + cond b 1 0
+    go true is = next ∙ ap (λ (k : ℕ). last_number edits k + 1) (is refl) ∙ ap (λ (n : ℕ). n + 1) (last e)
+    go false is = omega (arith, last e)
+
+-- a record leaves the number of frames within a limit if there is room for a new name's
+frames_push : (edits : List Record) (edit : Record) (limit : ℕ) → frame_count edits ≤ limit → (frame_at edits edit.name ≡ None → frame_count edits < limit) → frame_count (edits ++ edit ∷ []) ≤ limit
+frames_push edits edit limit within room =
+    go (frame_at edits edit.name) (list_any (puts edit.name) edits) (none-frame_at edits edit.name) (frame_count-push edits edit) room
+  where
+    go : (frame : Option Content) (named : Bool) → is_none frame ≡ not named → frame_count (edits ++ edit ∷ []) ≡ frame_count edits + cond named 0 1
+        → (frame ≡ None → frame_count edits < limit) → frame_count (edits ++ edit ∷ []) ≤ limit
+    go frame true is count less = omega (arith, count, within)
+    go None false is count less = omega (arith, count, less refl)
+    go (Some frame) false is count less = absurd cc
+
+-- a sound world stays sound with a record that may follow
+sound_edit : (w : World) (edit : Record) → IsSound w → MayFollow w.update.frame_limit w.update.record_limit w.update.edits edit → IsSound (with_edit w edit)
+sound_edit w edit sound follows =
+    let edits = w.update.edits in
+    let longer = edits ++ edit ∷ [] in
+    let numbered : AreNumbered longer = follows_push IsNextOfEditor edits edit sound.law.numbered (follows.number ∙ ap (λ (n : ℕ). n + 1) (sound.last edit.editor)) in
     record {
-      run = run_push w.frame_limit w.record_limit w.edits edit sound.run (record {
-        editor = refl;
-        number = refl;
-        frame_room = room_for w.edits name w.frame_limit frames;
-        record_room = leb-false w.record_limit (length w.edits) records;
-      });
-      numbered = numbered_push w.edits edit sound.numbered refl number;
-      records = omega (arith, leb-false w.record_limit (length w.edits) records, length-append w.edits (edit ∷ []));
-      frames = frames_push w.edits edit w.frame_limit sound.frames frames;
-      acknowledged = all_push (IsInPlace (w.edits ++ edit ∷ [])) w.acknowledged (record { editor = edit.editor; number = edit.number; place = length w.edits })
-          (all_weaken (IsInPlace w.edits) (IsInPlace (w.edits ++ edit ∷ [])) (kept_longer w.edits (edit ∷ [])) w.acknowledged sound.acknowledged)
-          (edit, get_last w.edits edit, refl, refl);
-      once = ap (λ (l : List Acknowledged). l ++ receipt edit (length w.edits) ∷ []) sound.once
-          ∙ ap (λ (n : ℕ). receipts_from 0 w.edits ++ receipt edit n ∷ []) (omega arith) ∙ sym (receipts-push 0 w.edits edit);
-      centres = all_weaken (IsSoundCentre w.edits) (IsSoundCentre (w.edits ++ edit ∷ [])) (centre_longer w.edits (edit ∷ [])) w.centres sound.centres;
+      law = record {
+        run = follows_push (MayFollow w.update.frame_limit w.update.record_limit) edits edit sound.law.run follows;
+        one_place = one_place longer numbered;
+        numbered = numbered;
+        kept = All-push (IsReceived longer) w.receipts _ (λ k d within. kept_longer edits (edit ∷ []) _ (sound.law.kept k d within))
+            (record { edit = edit; there = get_last edits edit; by = refl; numbered = refl });
+        prefixes = λ c. omega (arith, sound.law.prefixes c, length-append edits (edit ∷ []));
+      };
+      last = last_push edits edit follows.number sound.last;
+      records = omega (arith, follows.record_room, length-append edits (edit ∷ []));
+      frames = frames_push edits edit w.update.frame_limit sound.frames follows.frame_room;
+      links = λ c. link_longer edits (edit ∷ []) (centre_at w c) (link_at w c) (sound.links c);
     }
 
--- a sound world stays sound where a frame is put, or refused
-pub sound_seeded : (w : World) (name : Name) (frame : Content) → IsSound w → IsSound (seeded w name frame).0
-sound_seeded w name frame sound =
-    choice IsSound (is_frames_full w name) _ _ (λ _. sound) (λ frames.
-    choice IsSound (leb w.record_limit (length w.edits)) _ _ (λ _. sound) (λ records. sound_edit w name frame sound frames records))
+-- ---- seed
+
+-- nothing is refused: neither test says so
+not_refused : (frames records : Bool) (a b : List ℕ) → cond frames (Some a) (cond records (Some b) None) ≡ None → (frames ≡ false) × (records ≡ false)
+not_refused frames records a b is = grind arith
+
+-- what is judged and not refused may follow
+may_follow : (u : Update) (name : Name) (frame : Content) → IsValid frame → refusal_reply u (is_none (frame_at u.edits name)) ≡ None
+    → MayFollow u.frame_limit u.record_limit u.edits (next_record u OPERATOR name frame)
+may_follow u name frame valid is =
+    let full = leb u.frame_limit (frame_count u.edits) in
+    let tests = not_refused (is_none (frame_at u.edits name) && full) (leb u.record_limit (length u.edits)) _ _ is in
+    record {
+      editor = refl;
+      number = refl;
+      valid = valid;
+      frame_room = λ new. leb-false u.frame_limit (frame_count u.edits) (ap (λ (o : Option Content). is_none o && full) (sym new) ∙ tests.0);
+      record_room = leb-false u.record_limit (length u.edits) tests.1;
+    }
+
+-- a sound world stays sound if a valid frame is judged
+pub sound_judged : (w : World) (name : Name) (frame : Content) → IsValid frame → IsSound w → IsSound (step_of_judgement w (judgement_of w.update OPERATOR name frame)).0
+sound_judged w name frame valid sound = by (refusal_reply w.update (is_none (frame_at w.update.edits name))) refl
+  where
+    by : (refusal : Option (List ℕ)) → refusal_reply w.update (is_none (frame_at w.update.edits name)) ≡ refusal
+        → IsSound (world_with w (judgement_by w.update (next_record w.update OPERATOR name frame) refusal).stored)
+    by None is = sound_edit w _ sound (may_follow w.update name frame valid is)
+    by (Some refusal) is = sound
+
+-- a sound world stays sound whatever row is put: one that is no row of cells is not judged
+sound_seed : (w : World) (name : Name) (row : List ℕ) → IsSound w → IsSound (step_of_seed w name (frame_of_cells row)).0
+sound_seed w name row sound = by (list_all (λ cell. leb cell LAST_CELL) row) (AllPass-from_list_all (λ cell. leb cell LAST_CELL) row)
+  where
+    by : (cells : Bool) → (cells ≡ true → (k d : ℕ) → k < length row → leb (get_or row k d) LAST_CELL ≡ true) → IsSound (step_of_seed w name (cond cells (Some (frame_of_row row)) None)).0
+    by true all = sound_judged w name (frame_of_row row) (IsValid-frame_of_row row (λ k d within. leb-true (get_or row k d) LAST_CELL (all refl k d within))) sound
+    by false all = sound
 
 -- ---- send
 
 -- a sound world stays sound with a packet that carries the list's record of its number
-sound_packet : (w : World) (c number : ℕ) (edit : Record) → IsSound w → slice_get w.edits number ≡ Some edit → IsSound (with_centre w c (with_packet (centre_at w c) number edit))
+pub sound_packet : (w : World) (c number : ℕ) (edit : Record) → IsSound w → slice_get w.update.edits number ≡ Some edit → IsSound (with_link w c (with_packet (link_at w c) number edit))
 sound_packet w c number edit sound is =
-    let here = sound_at w c sound in
-    sound_with w c (with_packet (centre_at w c) number edit) sound (record {
-      within = here.within;
-      packets = all_push (IsGenuine w.edits) (centre_at w c).down (record { number = number; edit = edit }) here.packets is;
+    let here = sound.links c in
+    sound_with_link w c sound (with_packet (link_at w c) number edit) (record {
+      packets = All-push (IsGenuine w.update.edits) (link_at w c).down (record { number = number; edit = edit }) here.packets is;
       acknowledged = here.acknowledged;
       heard = here.heard;
     })
 
--- a sound world stays sound where the next record is packed, or there is none to pack
-pub sound_sent : (w : World) (c : ℕ) → IsSound w → IsSound (sent w c).0
-sound_sent w c sound = choice IsSound (is_packets_full w) _ _ (λ _. sound) (λ _. numbered (next_number (centre_at w c).sending (length w.edits)))
+-- a sound world stays sound if the next record is packed, or there is none to pack
+sound_send : (w : World) (c : ℕ) → IsSound w → IsSound (step_of_send w c).0
+sound_send w c sound = choice IsSound (is_packets_full w.links) _ _ (λ _. sound) (λ _. numbered (next_number (link_at w c).sending (length w.update.edits)))
   where
-    pack : (number : ℕ) (found : Option Record) → slice_get w.edits number ≡ found → IsSound (packed w c number found).0
+    pack : (number : ℕ) (found : Option Record) → slice_get w.update.edits number ≡ found → IsSound (step_of_packing w c number found).0
     pack number None is = sound
     pack number (Some edit) is = sound_packet w c number edit sound is
 
-    numbered : (number : Option ℕ) → IsSound (sent_number w c number).0
+    numbered : (number : Option ℕ) → IsSound (step_of_number w c number).0
     numbered None = sound
-    numbered (Some number) = pack number (slice_get w.edits number) refl
+    numbered (Some number) = pack number (slice_get w.update.edits number) refl
 
 -- ---- deliver
 
--- a sound world stays sound where a centre acknowledges what it has taken
-pub sound_acknowledged : (w : World) (c : ℕ) → IsSound w → IsSound (with_acknowledgement w c).0
-sound_acknowledged w c sound =
-    let here = sound_at w c sound in
-    choice IsSound (is_packets_full w) _ _ (λ _. sound) (λ _. sound_with w c _ sound (record {
-      within = here.within;
+-- a sound world stays sound with a centre's count on its link
+pub sound_count : (w : World) (c : ℕ) → IsSound w → IsSound (with_link w c (with_acknowledgement (link_at w c) (centre_at w c).applied))
+sound_count w c sound =
+    let here = sound.links c in
+    sound_with_link w c sound _ (record {
       packets = here.packets;
-      acknowledged = all_push (λ n. n ≤ (centre_at w c).number) (centre_at w c).up (centre_at w c).number here.acknowledged (omega arith);
+      acknowledged = All-push (λ n. n ≤ (centre_at w c).applied) (link_at w c).up (centre_at w c).applied here.acknowledged (omega arith);
       heard = here.heard;
-    }))
+    })
+
+-- a sound world stays sound if a centre acknowledges what it has applied
+sound_acknowledged : (w : World) (c : ℕ) → IsSound w → IsSound (step_of_acknowledging w c).0
+sound_acknowledged w c sound = choice IsSound (is_packets_full w.links) _ _ (λ _. sound) (λ _. sound_count w c sound)
 
 -- the record that comes next is one of the list's
-pub sound_taken : (w : World) (c : ℕ) (packet : Packet) → IsSound w → IsGenuine w.edits packet → packet.number ≡ (centre_at w c).number → IsSound (with_taken w c)
-sound_taken w c packet sound is next =
-    let here = sound_at w c sound in
-    sound_with w c _ sound (record {
-      within = omega (arith, slice_get_within w.edits packet.number packet.edit is, next);
+pub sound_applied : (w : World) (c : ℕ) (packet : Packet) → IsSound w → IsGenuine w.update.edits packet → packet.number ≡ (centre_at w c).applied → IsSound (with_applied w c)
+sound_applied w c packet sound is next =
+    let here = sound.links c in
+    sound_with_centre w c sound _ (omega (arith, slice_get_within w.update.edits packet.number packet.edit is, next)) (record {
       packets = here.packets;
-      acknowledged = all_weaken (λ n. n ≤ (centre_at w c).number) (λ n. n ≤ (centre_at w c).number + 1) (λ n le. omega arith) (centre_at w c).up here.acknowledged;
+      acknowledged = λ k d within. let le = here.acknowledged k d within in omega (arith, le);
       heard = omega (arith, here.heard);
     })
 
--- what is taken is the next one, and there is room for it
-pub taken_is_next : (taken limit number : ℕ) → arrival_of taken limit number ≡ arrivals.Taken → (number ≡ taken) × (taken < limit)
-taken_is_next taken limit number is = next (eqb number taken) (leb limit taken) (ltb number taken) (eqb-true number taken) (leb-false limit taken) is
-  where
-    next : (same full less : Bool) → (same ≡ true → number ≡ taken) → (full ≡ false → taken < limit) → cond same (cond full arrivals.Full arrivals.Taken) (cond less arrivals.Old arrivals.Early) ≡ arrivals.Taken → (number ≡ taken) × (taken < limit)
-    next true true less equal room is = absurd cc
-    next true false less equal room is = (equal refl, room refl)
-    next false full true equal room is = absurd cc
-    next false full false equal room is = absurd cc
+-- what is taken is the next one
+pub taken_is_next : (applied limit number : ℕ) → arrival_of applied limit number ≡ arrivals.Taken → number ≡ applied
+taken_is_next applied limit number is = grind (arith, nat_tests)
 
 -- a sound world stays sound whatever packet arrives
-pub sound_delivered : (w : World) (c index : ℕ) → IsSound w → IsSound (delivered w c index).0
-sound_delivered w c index sound = arrives (slice_get (centre_at w c).down index) refl
+pub sound_deliver : (w : World) (c index : ℕ) → IsSound w → IsSound (step_of_deliver w c index).0
+sound_deliver w c index sound = arrives (slice_get (link_at w c).down index) refl
   where
-    by : (packet : Packet) (arrival : Arrival) → IsGenuine w.edits packet → arrival_of (centre_at w c).number w.record_limit packet.number ≡ arrival → IsSound (arrived w c packet.number arrival).0
-    by packet arrivals.Taken is how = sound_acknowledged (with_taken w c) c (sound_taken w c packet sound is (taken_is_next (centre_at w c).number w.record_limit packet.number how).0)
+    by : (packet : Packet) (arrival : Arrival) → IsGenuine w.update.edits packet → arrival_of (centre_at w c).applied w.update.record_limit packet.number ≡ arrival → IsSound (step_of_arrival w c packet.number arrival).0
+    by packet arrivals.Taken is how = sound_acknowledged (with_applied w c) c (sound_applied w c packet sound is (taken_is_next (centre_at w c).applied w.update.record_limit packet.number how))
     by packet arrivals.Old is how = sound_acknowledged w c sound
     by packet arrivals.Early is how = sound_acknowledged w c sound
     by packet arrivals.Full is how = sound
 
-    arrives : (found : Option Packet) → slice_get (centre_at w c).down index ≡ found → IsSound (delivered_packet w c found).0
+    arrives : (found : Option Packet) → slice_get (link_at w c).down index ≡ found → IsSound (step_of_packet w c found).0
     arrives None is = sound
-    arrives (Some packet) is = by packet _ (all_get (IsGenuine w.edits) (centre_at w c).down index packet (sound_at w c sound).packets is) refl
+    arrives (Some packet) is = by packet _ (all_get (IsGenuine w.update.edits) (link_at w c).down index packet (sound.links c).packets is) refl
 
 -- ---- all
 
--- a sound world stays sound whatever event happens
-pub sound_happens : (w : World) (event : Event) → IsSound w → IsSound (happens w event).0
-sound_happens w (Seed name row) sound = sound_seeded w name (frame_of_row row) sound
-sound_happens w (Send centre) sound = sound_sent w centre sound
-sound_happens w (Deliver centre index) sound = sound_delivered w centre index sound
-sound_happens w (View centre name) sound = sound
+-- a sound world stays sound whatever event happens, whatever a stop kept
+sound_happens : (w : World) (event : Event) (kept : Bool) → IsSound w → IsSound (happens w event kept).0
+sound_happens w (events.Seed name row) kept sound = sound_seed w name row sound
+sound_happens w (events.Send centre) kept sound = sound_send w centre sound
+sound_happens w (events.Deliver centre index) kept sound = sound_deliver w centre index sound
+sound_happens w (events.View centre name) kept sound = sound
+sound_happens w (events.At centre) kept sound = sound
+sound_happens w events.List kept sound = sound
 
 -- a sound world stays sound however many events happen
-pub sound_after : (w : World) (events : List Event) → IsSound w → IsSound (after w events)
+pub sound_after : (w : World) (events : List (Event × Bool)) → IsSound w → IsSound (after w events)
 sound_after w [] sound = sound
-sound_after w (event ∷ events) sound = sound_after (happens w event).0 events (sound_happens w event sound)
+sound_after w (event ∷ events) sound = sound_after (happens w event.0 event.1).0 events (sound_happens w event.0 event.1 sound)
+
+-- among copies of an element and after them, that element stands for each place
+copy_at : {X : Type 0} (x : X) (n c : ℕ) → get_or (replicate n x) c x ≡ x
+copy_at x zero c = refl
+copy_at x (suc n) zero = refl
+copy_at x (suc n) (suc c) = copy_at x n c
 
 -- the start is sound
 pub sound_start : (centres frames records : ℕ) → IsSound (start centres frames records)
-sound_start centres frames records = record { run = λ place edit is. absurd cc; numbered = λ place edit is. absurd cc; records = omega arith; frames = omega arith; acknowledged = tt; once = refl; centres = new_ones centres }
-  where
-    new_ones : (n : ℕ) → AllByRecursion (IsSoundCentre []) (replicate n new_centre)
-    new_ones zero = tt
-    new_ones (suc n) = (sound_new [], new_ones n)
-
--- a sound world has one list
-pub one_list : (w : World) → IsSound w → OneList w
-one_list w sound = record {
-  run = sound.run;
-  numbered = sound.numbered;
-  kept = sound.acknowledged;
-  once = sound.once;
-  fronts = all_weaken (IsSoundCentre w.edits) (λ centre. centre.number ≤ length w.edits) (λ centre here. here.within) w.centres sound.centres;
+sound_start centres frames records = record {
+  law = record {
+    run = λ place edit is. absurd cc;
+    one_place = λ editor number one other here there. let none = here.there in absurd cc;
+    numbered = λ place edit is. absurd cc;
+    kept = λ k d none. absurd (omega (arith, none));
+    prefixes = λ c. omega (arith, ap (λ (centre : Centre). centre.applied) (copy_at new_centre centres c));
+  };
+  last = λ editor. refl;
+  records = omega arith;
+  frames = omega arith;
+  links = λ c. rw (copy_at new_centre centres c, copy_at new_link centres c) (sound_new []);
 }

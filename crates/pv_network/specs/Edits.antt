@@ -1,13 +1,12 @@
 -- The edit list: what the Update Centre has stored, oldest first, and what is found in it from its end.
-use Rattle.std.specs.Prelude.{◌≡◌, ℕ, ◌+◌, ◌==◌, Bool, ◌&&◌, List, [], ◌∷◌, reverse, Option, Some, slice_get, find, if◌then◌else◌}
+use Rattle.std.specs.Prelude.{ℕ, ◌+◌, ◌==◌, Bool, ◌&&◌, List, [], ◌∷◌, reverse, Option, find, if◌then◌else◌}
 use Rattle.std.specs.List.{list_any}
 use Rattle.std.specs.Option.{option_map, option_map_or}
 use Rattle.pv_page.specs.Names.{Name}
 use Rattle.pv_frame.specs.Content.{Content}
 use Rattle.pv_network.specs.declared.record.Record.{Record}
-use Rattle.pv_network.specs.declared.record.TheConstants.{OPERATOR}
 
--- the two names are one
+-- the two names are the same
 abbrev pub same_name : Name → Name → Bool
 same_name a b = a.page == b.page && a.letter == b.letter
 
@@ -27,15 +26,11 @@ edit_at edits name = find (puts name) (reverse edits)
 abbrev pub frame_at : List Record → Name → Option Content
 frame_at edits name = option_map (λ edit. edit.frame) (edit_at edits name)
 
--- how many names have a frame: a record counts where no later one is of its name
+-- how many names have a frame: a record counts if no later one is of its name
 abbrev pub frame_count : List Record → ℕ
 frame_count [] = 0
 frame_count (edit ∷ later) = (if list_any (puts edit.name) later then 0 else 1) + frame_count later
 
--- the number of an editor's last record, 0 where he has none
+-- the number of an editor's last record, 0 if he has none
 abbrev pub last_number : List Record → ℕ → ℕ
 last_number edits editor = option_map_or (λ edit. edit.number) (find (is_by editor) (reverse edits)) 0
-
--- the records are the operator's, numbered 1, 2, 3 and so on, in order
-abbrev pub IsNumbered : List Record → Type 0
-IsNumbered edits = (place : ℕ) (edit : Record) → slice_get edits place ≡ Some edit → (edit.editor ≡ OPERATOR) × (edit.number ≡ place + 1)

@@ -1,5 +1,6 @@
-pub mod Counting
+pub mod Centre
 pub mod Edits
+pub mod Link
 pub mod Listing
 pub mod OneList
 pub mod Replies
@@ -8,4 +9,5 @@ pub mod Sound
 pub mod Standing
 pub mod Step
 pub mod Texts
+pub mod UpdateCentre
 pub mod World

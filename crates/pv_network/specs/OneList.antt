@@ -1,30 +1,47 @@
--- The one edit list: what it holds of the edits that were acknowledged, and what the centres have of it.
-use Rattle.std.specs.Prelude.{◌≡◌, ℕ, ◌+◌, ◌≤◌, List, [], ◌∷◌, length, Some, slice_get}
-use Rattle.std.specs.List.{AllByRecursion}
+-- The law of the one edit list: what it holds of the edits that were acknowledged, and what the centres have of it.
+use Rattle.std.specs.Prelude.{◌≡◌, ℕ, ◌+◌, ◌≤◌, All, List, length, Some, slice_get, slice_index_or}
+use Rattle.std.specs.List.{count_by}
+use Rattle.pv_network.specs.Centre.{Centre, new_centre}
 use Rattle.pv_network.specs.declared.record.Record.{Record}
-use Rattle.pv_network.specs.World.{World, Acknowledged}
-use Rattle.pv_network.specs.Edits.{IsNumbered}
-use Rattle.pv_network.specs.Run.{IsRun}
+use Rattle.pv_network.specs.Edits.{is_by}
+use Rattle.pv_network.specs.Run.{EachFollows, IsRun}
+use Rattle.pv_network.specs.UpdateCentre.{Update}
+use Rattle.pv_network.specs.World.{World, Receipt}
 
--- the place holds the editor's record of this number
-abbrev pub IsInPlace : List Record → Acknowledged → Type 0
-IsInPlace edits a = (edit : Record) × (slice_get edits a.place ≡ Some edit) × (edit.editor ≡ a.editor) × (edit.number ≡ a.number)
+-- the number of a record is one more than how many records of its editor come before it
+abbrev pub IsNextOfEditor : List Record → Record → Type 0
+IsNextOfEditor before edit = edit.number ≡ count_by (is_by edit.editor) before + 1
 
--- the receipt of a record at its place
-abbrev pub receipt : Record → ℕ → Acknowledged
-receipt edit place = record { editor = edit.editor; number = edit.number; place = place }
+-- so the records of each editor have the numbers 1, 2, 3 and on, in order
+abbrev pub AreNumbered : List Record → Type 0
+AreNumbered edits = EachFollows IsNextOfEditor edits
 
--- the receipts of all records, one each and in order, where the first stands at this place
-abbrev pub receipts_from : ℕ → List Record → List Acknowledged
-receipts_from place [] = []
-receipts_from place (edit ∷ later) = receipt edit place ∷ receipts_from (place + 1) later
+-- the record of an editor under a number stands at this place
+pub record StandsAt (edits : List Record) (editor number place : ℕ) : Type 0 where
+  pub edit : Record
+  pub there : slice_get edits place ≡ Some edit
+  pub by : edit.editor ≡ editor
+  pub numbered : edit.number ≡ number
 
--- The edit list is a run from nothing within the limits, its records are the operator's and numbered in order from 1,
--- each acknowledged edit stands at the place that was told, every record was acknowledged once and in order, and each
--- centre has taken a front of the list.
-pub record OneList (w : World) : Type 0 where
-  pub run : IsRun w.frame_limit w.record_limit w.edits
-  pub numbered : IsNumbered w.edits
-  pub kept : AllByRecursion (IsInPlace w.edits) w.acknowledged
-  pub once : w.acknowledged ≡ receipts_from 0 w.edits
-  pub fronts : AllByRecursion (λ centre. centre.number ≤ length w.edits) w.centres
+-- an editor and a number have one place at most
+abbrev pub HasOnePlaceEach : List Record → Type 0
+HasOnePlaceEach edits = (editor number one other : ℕ)
+    → StandsAt edits editor number one → StandsAt edits editor number other → one ≡ other
+
+-- the record that was acknowledged stands at the place of its receipt
+abbrev pub IsReceived : List Record → Receipt → Type 0
+IsReceived edits receipt = StandsAt edits receipt.editor receipt.number receipt.place
+
+-- The edit list is a run from nothing within the limits. It holds every acknowledged edit once, in order: an editor and a
+-- number have one place, an editor's numbers are 1, 2, 3 and on, and each acknowledged edit stands at the place of its
+-- receipt. Each centre has applied a prefix of the list.
+pub record IsOneList (u : Update) (centres : List Centre) (receipts : List Receipt) : Type 0 where
+  pub run : IsRun u.frame_limit u.record_limit u.edits
+  pub one_place : HasOnePlaceEach u.edits
+  pub numbered : AreNumbered u.edits
+  pub kept : All (IsReceived u.edits) receipts
+  pub prefixes : (c : ℕ) → (slice_index_or centres c new_centre).applied ≤ length u.edits
+
+-- the law of a world
+abbrev pub OneList : World → Type 0
+OneList w = IsOneList w.update w.centres w.receipts

@@ -1,32 +1,30 @@
 -- What every world that can be reached keeps.
-use Rattle.std.specs.Prelude.{◌≡◌, ◌≤◌, List, length, Some, slice_get}
-use Rattle.std.specs.List.{AllByRecursion}
+use Rattle.std.specs.Prelude.{◌≡◌, ℕ, ◌≤◌, All, List, length, Some, slice_get}
+use Rattle.std.specs.List.{count_by}
 use Rattle.pv_network.specs.declared.packet.Packet.{Packet}
 use Rattle.pv_network.specs.declared.record.Record.{Record}
-use Rattle.pv_network.specs.World.{World, Centre}
-use Rattle.pv_network.specs.OneList.{IsInPlace, receipts_from}
-use Rattle.pv_network.specs.Edits.{IsNumbered, frame_count}
-use Rattle.pv_network.specs.Run.{IsRun}
+use Rattle.pv_network.specs.Centre.{Centre}
+use Rattle.pv_network.specs.Edits.{is_by, frame_count, last_number}
+use Rattle.pv_network.specs.Link.{Link}
+use Rattle.pv_network.specs.OneList.{OneList}
+use Rattle.pv_network.specs.World.{World, centre_at, link_at}
 
 -- a packet carries the record that the edit list has at its number
 abbrev pub IsGenuine : List Record → Packet → Type 0
 IsGenuine edits packet = slice_get edits packet.number ≡ Some packet.edit
 
--- a centre has taken no more than there is, and its packets carry the list's records; what went up acknowledges
--- no more than was taken, and so does what the sending end knows of it
-pub record IsSoundCentre (edits : List Record) (centre : Centre) : Type 0 where
-  pub within : centre.number ≤ length edits
-  pub packets : AllByRecursion (IsGenuine edits) centre.down
-  pub acknowledged : AllByRecursion (λ n. n ≤ centre.number) centre.up
-  pub heard : centre.sending.acknowledged ≤ centre.number
+-- The packets of a centre's link carry the list's records. What went up acknowledges no more than was applied, and neither
+-- does what the sending end knows of it.
+pub record IsSoundLink (edits : List Record) (centre : Centre) (link : Link) : Type 0 where
+  pub packets : All (IsGenuine edits) link.down
+  pub acknowledged : All (λ n. n ≤ centre.applied) link.up
+  pub heard : link.sending.acknowledged ≤ centre.applied
 
--- The edit list is a run from nothing, numbered in order and within the limits, each place that was acknowledged holds
--- that edit, each record was acknowledged once and in order, and each centre has a front of the list.
+-- The law of the one list holds, and with it what keeps it so: an editor's last number is how many records he has, the limits
+-- are kept, and each centre's link is sound.
 pub record IsSound (w : World) : Type 0 where
-  pub run : IsRun w.frame_limit w.record_limit w.edits
-  pub numbered : IsNumbered w.edits
-  pub records : length w.edits ≤ w.record_limit
-  pub frames : frame_count w.edits ≤ w.frame_limit
-  pub acknowledged : AllByRecursion (IsInPlace w.edits) w.acknowledged
-  pub once : w.acknowledged ≡ receipts_from 0 w.edits
-  pub centres : AllByRecursion (IsSoundCentre w.edits) w.centres
+  pub law : OneList w
+  pub last : (editor : ℕ) → last_number w.update.edits editor ≡ count_by (is_by editor) w.update.edits
+  pub records : length w.update.edits ≤ w.update.record_limit
+  pub frames : frame_count w.update.edits ≤ w.update.frame_limit
+  pub links : (c : ℕ) → IsSoundLink w.update.edits (centre_at w c) (link_at w c)

@@ -1,8 +1,10 @@
 -- What one event makes of the world, and the answer to it.
-use Rattle.std.specs.Prelude.{ℕ, ◌+◌, ◌==◌, Bool, ◌&&◌, nat_lt, nat_le, List, [], ◌∷◌, ◌++◌, length, Option, Some, None, is_none, slice_get, if◌then◌else◌}
+use Rattle.std.specs.Prelude.{ℕ, Bool, List, [], ◌∷◌, length, Option, Some, None, slice_get, nat_le, if◌then◌else◌}
+use Rattle.std.specs.List.{list_all}
 use Rattle.pv_page.specs.Names.{Name}
+use Rattle.pv_cells.specs.declared.reading.TheConstants.{LAST_CELL}
 use Rattle.pv_frame.specs.Content.{Content, frame_of_row}
-use Rattle.pv_screen.specs.Composing.{composed}
+use Rattle.pv_screen.specs.Composing.{composed_grid}
 use Rattle.pv_screen.specs.declared.screen.Screen.TheVariants.{Whole}
 use Rattle.pv_network.specs.declared.record.Record.{Record}
 use Rattle.pv_network.specs.declared.record.TheConstants.{OPERATOR}
@@ -10,118 +12,116 @@ use Rattle.pv_network.specs.declared.packet.Packet.{Packet}
 use Rattle.pv_network.specs.declared.centre.Arrival.{Arrival}
 use Rattle.pv_network.specs.declared.centre.Arrival.TheVariants as arrivals
 use Rattle.pv_network.specs.declared.event.Event.{Event}
-use Rattle.pv_network.specs.declared.event.Event.TheVariants.{Seed, Send, Deliver, View}
+use Rattle.pv_network.specs.declared.event.Event.TheVariants as events
 use Rattle.pv_network.specs.declared.outcome.Outcome.{Outcome}
-use Rattle.pv_network.specs.declared.outcome.Outcome.TheVariants.{Reply, Shown, Idle, PacketsFull, NoPacket, SentRecord, Taken, Old, Early, Full, NotHeld}
-use Rattle.pv_network.specs.Edits.{frame_at, frame_count, last_number}
-use Rattle.pv_network.specs.Replies.{stored_reply, frames_full_reply, full_reply}
-use Rattle.pv_network.specs.World.{World, Centre, End, centre_at, with_centre, held, packet_count}
-
--- the network has made as many packets as it may: 20,000
-abbrev pub is_packets_full : World → Bool
-is_packets_full w = nat_le 20000 (packet_count w)
+use Rattle.pv_network.specs.declared.outcome.Outcome.TheVariants as outcomes
+use Rattle.pv_network.specs.Centre.{with_next, arrival_of}
+use Rattle.pv_network.specs.Edits.{frame_at}
+use Rattle.pv_network.specs.Link.{is_packets_full, next_number, with_packet, with_acknowledgement}
+use Rattle.pv_network.specs.Replies.{bad_line_reply}
+use Rattle.pv_network.specs.UpdateCentre.{Judgement, judgement_of}
+use Rattle.pv_network.specs.World.{World, centre_at, link_at, with_centre, with_link, with_edit, page_base}
 
 -- ---- seed
 
--- the record under the operator's next number
-abbrev pub next_edit : World → Name → Content → Record
-next_edit w name frame = record { editor = OPERATOR; number = last_number w.edits OPERATOR + 1; name = name; frame = frame }
+-- the world with the record that is stored, if there is one
+abbrev pub world_with : World → Option Record → World
+world_with w None = w
+world_with w (Some edit) = with_edit w edit
 
--- the world with a record that is acknowledged as it is stored
-abbrev pub with_edit : World → Record → World
-with_edit w edit = record w { edits = w.edits ++ edit ∷ []; acknowledged = w.acknowledged ++ record { editor = edit.editor; number = edit.number; place = length w.edits } ∷ [] }
+-- the world after a judgement, and its reply
+abbrev pub step_of_judgement : World → Judgement → World × Outcome
+step_of_judgement w judgement = (world_with w judgement.stored, outcomes.Reply judgement.reply)
 
--- the name is new, and as many names have a frame as may
-abbrev pub is_frames_full : World → Name → Bool
-is_frames_full w name = is_none (frame_at w.edits name) && nat_le w.frame_limit (frame_count w.edits)
+-- the frame of a row of cells; another row has none
+abbrev pub frame_of_cells : List ℕ → Option Content
+frame_of_cells row = if list_all (λ cell. nat_le cell LAST_CELL) row then Some (frame_of_row row) else None
 
--- the operator puts a frame under a name: refused for a frame too many first, and then for a record too many
-abbrev pub seeded : World → Name → Content → World × Outcome
-seeded w name frame = if is_frames_full w name then (w, Reply (frames_full_reply w.frame_limit))
-    else (if nat_le w.record_limit (length w.edits) then (w, Reply (full_reply w.record_limit))
-    else (with_edit w (next_edit w name frame), Reply (stored_reply (length w.edits))))
+-- the operator puts a frame under a name; what is no frame is no request
+abbrev pub step_of_seed : World → Name → Option Content → World × Outcome
+step_of_seed w name None = (w, outcomes.Reply bad_line_reply)
+step_of_seed w name (Some frame) = step_of_judgement w (judgement_of w.update OPERATOR name frame)
 
 -- ---- view
 
--- what a centre shows of a name: the frame that the records it has taken give it
+-- what a centre shows of a name: the frame that its page base gives it
 abbrev pub view_answer : Name → Option Content → Outcome
-view_answer name None = NotHeld
-view_answer name (Some frame) = Shown (record { screen = Whole (composed frame name); ended = None })
+view_answer name None = outcomes.NotHeld
+view_answer name (Some frame) = outcomes.Shown (record { screen = Whole (composed_grid frame name); ended = None })
 
 -- a view leaves the world as it is, and shows what the centre has under the name
-abbrev pub viewed : World → ℕ → Name → World × Outcome
-viewed w c name = (w, view_answer name (frame_at (held w c) name))
+abbrev pub step_of_view : World → ℕ → Name → World × Outcome
+step_of_view w c name = (w, view_answer name (frame_at (page_base w c) name))
 
 -- ---- send
 
--- The number that an end sends next of those below the front: from the acknowledged one up, in turn, and
--- again. There is none where all below the front is acknowledged.
-abbrev pub next_number : End → ℕ → Option ℕ
-next_number end front = if nat_le front end.acknowledged then None
-    else Some (if nat_le end.acknowledged end.next && nat_lt end.next front then end.next else end.acknowledged)
-
--- the record goes down in a packet, and the end goes on behind it
-abbrev pub with_packet : Centre → ℕ → Record → Centre
-with_packet centre number edit = record centre { down = centre.down ++ record { number = number; edit = edit } ∷ []; sending = record { acknowledged = centre.sending.acknowledged; next = number + 1 } }
-
 -- the record of a number is packed, if the list has one there
-abbrev pub packed : World → ℕ → ℕ → Option Record → World × Outcome
-packed w c number None = (w, Idle)
-packed w c number (Some edit) = (with_centre w c (with_packet (centre_at w c) number edit), SentRecord (length (centre_at w c).down) number)
+abbrev pub step_of_packing : World → ℕ → ℕ → Option Record → World × Outcome
+step_of_packing w c number None = (w, outcomes.Idle)
+step_of_packing w c number (Some edit) = (with_link w c (with_packet (link_at w c) number edit), outcomes.SentRecord (length (link_at w c).down) number)
 
 -- the record of the number that is sent next is packed, if there is such a number
-abbrev pub sent_number : World → ℕ → Option ℕ → World × Outcome
-sent_number w c None = (w, Idle)
-sent_number w c (Some number) = packed w c number (slice_get w.edits number)
+abbrev pub step_of_number : World → ℕ → Option ℕ → World × Outcome
+step_of_number w c None = (w, outcomes.Idle)
+step_of_number w c (Some number) = step_of_packing w c number (slice_get w.update.edits number)
 
 -- the next record is packed for a centre, unless no packet can be made
-abbrev pub sent : World → ℕ → World × Outcome
-sent w c = if is_packets_full w then (w, PacketsFull) else sent_number w c (next_number (centre_at w c).sending (length w.edits))
+abbrev pub step_of_send : World → ℕ → World × Outcome
+step_of_send w c = if is_packets_full w.links then (w, outcomes.PacketsFull)
+    else step_of_number w c (next_number (link_at w c).sending (length w.update.edits))
 
 -- ---- deliver
 
--- What a centre makes of a record, by its number: it takes the one that comes next, unless it is full.
-abbrev pub arrival_of : ℕ → ℕ → ℕ → Arrival
-arrival_of taken limit number = if number == taken then (if nat_le limit taken then arrivals.Full else arrivals.Taken)
-    else (if nat_lt number taken then arrivals.Old else arrivals.Early)
-
 -- The centre sends its count up in an acknowledgement, unless no packet can be made: the world, and the
--- acknowledgement's place.
-abbrev pub with_acknowledgement : World → ℕ → World × Option ℕ
-with_acknowledgement w c = if is_packets_full w then (w, None)
-    else (with_centre w c (record (centre_at w c) { up = (centre_at w c).up ++ (centre_at w c).number ∷ [] }), Some (length (centre_at w c).up))
+-- acknowledgement's index.
+abbrev pub step_of_acknowledging : World → ℕ → World × Option ℕ
+step_of_acknowledging w c = if is_packets_full w.links then (w, None)
+    else (with_link w c (with_acknowledgement (link_at w c) (centre_at w c).applied), Some (length (link_at w c).up))
 
--- the world with the next record taken
-abbrev pub with_taken : World → ℕ → World
-with_taken w c = with_centre w c (record (centre_at w c) { number = (centre_at w c).number + 1 })
+-- the world with the next record applied at a centre
+abbrev pub with_applied : World → ℕ → World
+with_applied w c = with_centre w c (with_next (centre_at w c))
 
 -- The centre takes the record that comes next; it acknowledges that one, and any that is old or early. A full centre
 -- does neither.
-abbrev pub arrived : World → ℕ → ℕ → Arrival → World × Outcome
-arrived w c number arrivals.Taken = let a = with_acknowledgement (with_taken w c) c in (a.0, Taken number a.1)
-arrived w c number arrivals.Old = let a = with_acknowledgement w c in (a.0, Old number a.1)
-arrived w c number arrivals.Early = let a = with_acknowledgement w c in (a.0, Early number a.1)
-arrived w c number arrivals.Full = (w, Full (centre_at w c).number)
+abbrev pub step_of_arrival : World → ℕ → ℕ → Arrival → World × Outcome
+step_of_arrival w c number arrivals.Taken = let a = step_of_acknowledging (with_applied w c) c in (a.0, outcomes.Taken number a.1)
+step_of_arrival w c number arrivals.Old = let a = step_of_acknowledging w c in (a.0, outcomes.Old number a.1)
+step_of_arrival w c number arrivals.Early = let a = step_of_acknowledging w c in (a.0, outcomes.Early number a.1)
+step_of_arrival w c number arrivals.Full = (w, outcomes.Full (centre_at w c).applied)
 
 -- a packet that was made arrives
-abbrev pub delivered_packet : World → ℕ → Option Packet → World × Outcome
-delivered_packet w c None = (w, NoPacket)
-delivered_packet w c (Some packet) = arrived w c packet.number (arrival_of (centre_at w c).number w.record_limit packet.number)
+abbrev pub step_of_packet : World → ℕ → Option Packet → World × Outcome
+step_of_packet w c None = (w, outcomes.NoPacket)
+step_of_packet w c (Some packet) = step_of_arrival w c packet.number (arrival_of (centre_at w c).applied w.update.record_limit packet.number)
 
 -- the packet of an index arrives at a centre
-abbrev pub delivered : World → ℕ → ℕ → World × Outcome
-delivered w c index = delivered_packet w c (slice_get (centre_at w c).down index)
+abbrev pub step_of_deliver : World → ℕ → ℕ → World × Outcome
+step_of_deliver w c index = step_of_packet w c (slice_get (link_at w c).down index)
+
+-- ---- at, list
+
+-- a question for what a centre has applied leaves the world as it is
+abbrev pub step_of_at : World → ℕ → World × Outcome
+step_of_at w c = (w, outcomes.Applied (centre_at w c).applied)
+
+-- so does one for the length of the edit list
+abbrev pub step_of_list : World → World × Outcome
+step_of_list w = (w, outcomes.Records (length w.update.edits))
 
 -- ---- all
 
--- the world after an event, and the answer
-abbrev pub happens : World → Event → World × Outcome
-happens w (Seed name row) = seeded w name (frame_of_row row)
-happens w (Send centre) = sent w centre
-happens w (Deliver centre index) = delivered w centre index
-happens w (View centre name) = viewed w centre name
+-- The world after an event, and the answer. The last argument is a choice of the outside: whether a stop within a write
+-- kept the record that was being written. No event stops a node yet, so that none depends on it.
+abbrev pub happens : World → Event → Bool → World × Outcome
+happens w (events.Seed name row) kept = step_of_seed w name (frame_of_cells row)
+happens w (events.Send centre) kept = step_of_send w centre
+happens w (events.Deliver centre index) kept = step_of_deliver w centre index
+happens w (events.View centre name) kept = step_of_view w centre name
+happens w (events.At centre) kept = step_of_at w centre
+happens w events.List kept = step_of_list w
 
--- the world after a list of events
-abbrev pub after : World → List Event → World
+-- the world after a list of events, each with what a stop kept
+abbrev pub after : World → List (Event × Bool) → World
 after w [] = w
-after w (event ∷ events) = after (happens w event).0 events
+after w (step ∷ steps) = after (happens w step.0 step.1).0 steps

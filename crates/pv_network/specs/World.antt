@@ -1,59 +1,62 @@
 -- The world: the one edit list, what each centre has of it, and every packet that was ever made.
-use Rattle.std.specs.Prelude.{ℕ, ◌+◌, List, [], length, take, replicate, slice_index_or, slice_set}
-use Rattle.std.specs.List.{sum_by}
+use Rattle.std.specs.Prelude.{ℕ, List, [], ◌∷◌, ◌++◌, length, take, replicate, slice_index_or, slice_set}
 use Rattle.pv_network.specs.declared.record.Record.{Record}
-use Rattle.pv_network.specs.declared.packet.Packet.{Packet}
-
--- an end that sends: all below the one number is acknowledged, and the other is to be sent next
-pub record End : Type 0 where
-  pub acknowledged : ℕ
-  pub next : ℕ
-
--- a centre: how many records it has taken, the packets that went down to it and the
--- acknowledgements that went up from it, in the order made, and the end that sends down to it
-pub record Centre : Type 0 where
-  pub number : ℕ
-  pub down : List Packet
-  pub up : List ℕ
-  pub sending : End
+use Rattle.pv_network.specs.Centre.{Centre, new_centre}
+use Rattle.pv_network.specs.Link.{Link, new_link, link_in}
+use Rattle.pv_network.specs.UpdateCentre.{Update, with_record}
 
 -- an edit that was acknowledged to its editor: under his number, at its place in the list
-pub record Acknowledged : Type 0 where
+pub record Receipt : Type 0 where
   pub editor : ℕ
   pub number : ℕ
   pub place : ℕ
 
 -- everything there is
 pub record World : Type 0 where
-  -- the edit list
-  pub edits : List Record
-  -- how many frames and how many records a node may have
-  pub frame_limit : ℕ
-  pub record_limit : ℕ
+  -- the edit list with its limits
+  pub update : Update
+  -- the centres, and the link of each
   pub centres : List Centre
+  pub links : List Link
   -- what was acknowledged in this run
-  pub acknowledged : List Acknowledged
-
--- a centre that nothing has reached
-abbrev pub new_centre : Centre
-new_centre = record { number = 0; down = []; up = []; sending = record { acknowledged = 0; next = 0 } }
+  pub receipts : List Receipt
 
 -- the world at the start
 abbrev pub start : ℕ → ℕ → ℕ → World
-start centres frames records = record { edits = []; frame_limit = frames; record_limit = records; centres = replicate centres new_centre; acknowledged = [] }
+start centres frames records = record {
+  update = record { edits = []; frame_limit = frames; record_limit = records };
+  centres = replicate centres new_centre;
+  links = replicate centres new_link;
+  receipts = [];
+}
 
--- the centre of a number; past the last there is none, and a new one stands in its place
+-- the centre of a number; after the last there is none, and a new one stands for it
 abbrev pub centre_at : World → ℕ → Centre
 centre_at w c = slice_index_or w.centres c new_centre
 
--- what a centre has of the edit list: its front, up to the centre's number
-abbrev pub held : World → ℕ → List Record
-held w c = take (centre_at w c).number w.edits
+-- the link of a centre
+abbrev pub link_at : World → ℕ → Link
+link_at w c = link_in w.links c
+
+-- the page base of a centre: the prefix of the edit list that it has applied
+abbrev pub page_base : World → ℕ → List Record
+page_base w c = take (centre_at w c).applied w.update.edits
 
 -- the world with another centre in the place of that number
 abbrev pub with_centre : World → ℕ → Centre → World
 with_centre w c centre = record w { centres = slice_set w.centres c centre }
 
--- how many packets were made, in both directions and at all centres
-abbrev pub packet_count : World → ℕ
-packet_count w = sum_by (λ centre. length centre.down + length centre.up) w.centres
+-- the world with another link in the place of that number
+abbrev pub with_link : World → ℕ → Link → World
+with_link w c link = record w { links = slice_set w.links c link }
+
+-- the receipt of a record at its place
+abbrev pub receipt_of : Record → ℕ → Receipt
+receipt_of edit place = record { editor = edit.editor; number = edit.number; place = place }
+
+-- the world with one more record, which is acknowledged as it is stored
+abbrev pub with_edit : World → Record → World
+with_edit w edit = record w {
+  update = with_record w.update edit;
+  receipts = w.receipts ++ receipt_of edit (length w.update.edits) ∷ [];
+}

@@ -1,7 +1,7 @@
 //! All nodes of the viewdata network as one machine that goes by events.
 //!
 //! A [`Network`] has one Update Centre, which keeps the list of all edits, and one to four retrieval
-//! centres, each of which has taken the first so many of them. Each edit puts a whole frame under a
+//! centres, each of which has applied a prefix of that list. Each edit puts a whole frame under a
 //! name. An [`Event`] happens to the network, one at a time, and an [`Outcome`] says what came of it.
 //! Packets are numbered in the order in which they were made; any of them may be delivered at any time,
 //! never, or again.
@@ -14,20 +14,23 @@
 //! network.step(&Event::View { centre: 0, name })?;     // the screen of that frame
 //! ```
 //!
-//! What happens is said by `specs/Step.antt`, over the worlds of `specs/World.antt`; a network stands
-//! for worlds by `specs/Standing.antt`, and [`Network::step`] keeps it standing. What every world keeps
-//! that can be reached at all is the law [`every_reachable_world_is_sound`].
+//! What an event does is defined in `specs/Step.antt`, over the worlds of `specs/World.antt`. Which worlds
+//! a network stands for is defined in `specs/Standing.antt`, part by part, and [`Network::step`] keeps it
+//! so. What holds of every world that can be reached is the law [`every_reachable_world_is_sound`].
 #![tactic(auto)]
 
 mod centre;
 mod edit_list;
 mod event;
 mod laws;
+mod link;
+mod links;
 mod network;
 mod outcome;
 mod packet;
 mod record;
 mod text;
+mod update_centre;
 
 pub use event::Event;
 pub use laws::every_reachable_world_is_sound;

@@ -1,168 +1,138 @@
-ghost use Rattle.std.specs.Prelude.{◌≡◌, ℕ, ◌+◌, ◌<◌, ◌≤◌, ◌^◌, List, length, slice_get, slice_set, IsOk, IfOk, is_none, None, Some};
+ghost use Rattle.std.specs.Prelude.{◌≡◌, ℕ, ◌+◌, ◌<◌, ◌≤◌, ◌^◌, Bool, false, length, IsTrue, IsOk, IsErr, IfOk};
 ghost use Rattle.pv_frame.specs.Content.{frame_of_row};
 ghost use Rattle.pv_screen.specs.Grid.{IsRow};
-ghost use Rattle.pv_network.specs.declared.packet.Packet.{Packet};
-ghost use Rattle.pv_network.specs.declared.packet.TheConstants.{MAX_PACKETS};
-ghost use Rattle.pv_network.specs.Edits.{frame_at};
 ghost use Rattle.pv_network.specs.World.{start};
-ghost use Rattle.pv_network.specs.Step.{seeded, sent, delivered, viewed, with_acknowledgement, happens};
-ghost use Rattle.pv_network.specs.Standing.{StandsFor, Performs, CanHappen, kept_at, with_down, with_held, with_up, with_record, refusal_of};
+ghost use Rattle.pv_network.specs.Standing.{StandsFor, Performs, CanHappen};
+ghost use Rattle.pv_network.specs.Step.{happens, step_of_seed, frame_of_cells, step_of_send, step_of_deliver, step_of_view, step_of_at, step_of_list, step_of_acknowledging};
 
-use crate::centre::{Arrival, Centre, acknowledge_at, open_centres, pack_at, take_at};
-use crate::edit_list::EditList;
+use crate::centre::{Arrival, Centre, open_centres};
 use crate::event::Event;
+use crate::links::Links;
 use crate::outcome::{Outcome, Turn};
-use crate::packet::MAX_PACKETS;
-use crate::record::{OPERATOR, Record};
-use crate::text::Text;
-use pv_frame::CheckedFrame;
+use crate::update_centre::UpdateCentre;
 use pv_outside::Limits;
-use pv_page::{AccountNo, FrameName};
+use pv_page::FrameName;
 use pv_screen::{Screen, compose};
 use std::alloc::{AllocError, Global};
 use std::marker::Model;
 
-/// One Update Centre and one to four retrieval centres, with every packet that was made between them.
+/// One Update Centre and one to four retrieval centres, with the links between them.
 #[derive(Debug, Drop)]
 pub struct Network {
-    limits: Limits,
-    edits: EditList,
-    // How many names have a frame, and how many packets were made.
-    frames: u32,
-    packets: usize,
+    update: UpdateCentre,
     centres: Vec<Centre>,
+    links: Links,
+    // Whether a step was out of memory; every later step is too.
+    is_out: bool,
 }
 
 impl Model for Network {
+    ghost use Rattle.std.specs.Prelude.{◌≡◌, length};
     ghost use Rattle.pv_network.specs.Standing.{State};
 
     ghost Value = { State };
 
-    ghost use Rattle.pv_network.specs.Counting.{IsCounted};
+    ghost view = { λ n. record { update = n.update; centres = n.centres.items; links = n.links; is_out = n.is_out } };
 
-    ghost view = { λ n. record { edits = n.edits.edits; frame_limit = n.limits.frames; record_limit = n.limits.records; centres = n.centres.items } };
-
-    ghost invariant = { IsCounted };
+    ghost invariant = { λ n. length n.links ≡ length n.centres.items };
 }
 
 impl Network {
     /// A network of one to four centres, on which nothing has happened, with these limits for each of
-    /// its nodes. All room is taken here; the only error is want of memory.
+    /// its nodes. It reserves all room; the only error is that memory ran out.
     pub fn open(alloc: Global, centres: u8, limits: Limits) -> Result<Network, AllocError>
         requires some { 1 ≤ centres }
         requires few { centres ≤ 4 }
         ensures ok { IfOk result (λ network. StandsFor network (start centres limits.frames limits.records)) }
         ensures centres { IfOk result (λ network. length network.centres ≡ centres) }
+        ensures memory { IfOk result (λ network. network.is_out ≡ false) }
     {
-        let records = limits.records as usize;
-        let edits = EditList::open(alloc, records)?;
-        let centres = open_centres(alloc, centres, records)?;
         Ok(Network {
-            limits,
-            edits,
-            frames: 0,
-            packets: 0,
-            centres,
+            update: UpdateCentre::open(alloc, limits)?,
+            centres: open_centres(alloc, centres, limits.records as usize)?,
+            links: Links::open(alloc, centres)?,
+            is_out: false,
         })
     }
 
-    /// Lets an event happen, and answers what came of it. The event's centre is one of the network's, and
-    /// its row is one of cells of 0 to 127. It takes no memory.
+    /// Lets an event happen, and returns what came of it. The event's centre is one of the network's, and
+    /// its row is one of cells of 0 to 127. The only error is that memory ran out: after it, every later
+    /// step returns it too. No event so far takes memory.
     pub fn step(&mut self, event: &Event) -> Result<Outcome, AllocError>
         requires { CanHappen self.old event.now }
-        ensures succeeds { IsOk result }
 
         // Whatever world the network stood for, it stands for the next one, and the outcome is that answer.
-        ensures performs { IfOk result (λ outcome. Performs self.old self.new outcome (λ w. happens w event.now)) }
+        ensures performs { IfOk result (λ outcome. (kept : Bool) × Performs self.old self.new outcome (λ w. happens w event.now kept)) }
         ensures centres { length self.new.centres ≡ length self.old.centres }
+
+        // A network that is not out of memory succeeds. One that is out of memory stays so.
+        ensures succeeds { self.old.is_out ≡ false → IsOk result × (self.new.is_out ≡ false) }
+        ensures out { IsTrue self.old.is_out → IsErr result }
+        ensures stays_out { IsErr result → IsTrue self.new.is_out }
     {
-        Ok(match *event {
-            Event::Seed { name, row } => self.seed(name, &row),
-            Event::Send { centre } => self.send(centre as usize),
-            Event::Deliver { centre, index } => self.deliver(centre as usize, index),
-            Event::View { centre, name } => self.view(centre as usize, name),
+        if self.is_out {
+            return Err(AllocError);
+        }
+        let outcome = self.happen(event);
+        self.is_out = outcome.is_err();
+        outcome
+    }
+
+    /// Lets an event happen.
+    fn happen(&mut self, event: &Event) -> Result<Outcome, AllocError>
+        requires { CanHappen self.old event.now }
+        ensures performs { IfOk result (λ outcome. (kept : Bool) × Performs self.old self.new outcome (λ w. happens w event.now kept)) }
+        ensures centres { length self.new.centres ≡ length self.old.centres }
+        ensures succeeds { IsOk result }
+    {
+        Ok(match event {
+            Event::Seed { name, row } => self.seed(*name, row),
+            Event::Send { centre } => self.send(*centre as usize),
+            Event::Deliver { centre, index } => self.deliver(*centre as usize, *index),
+            Event::View { centre, name } => self.view(*centre as usize, *name),
+            Event::At { centre } => self.at(*centre as usize),
+            Event::List => self.list(),
         })
     }
 
     /// The operator puts a row under a name.
     fn seed(&mut self, name: FrameName, row: &[u8; 40]) -> Outcome
         requires { IsRow row.now }
-        ensures performs { Performs self.old self.new result (λ w. seeded w name (frame_of_row row.now)) }
+        ensures performs { Performs self.old self.new result (λ w. step_of_seed w name (frame_of_cells row.now)) }
         ensures centres { length self.new.centres ≡ length self.old.centres }
     {
-        let is_new = self.edits.last_of(name).is_none();
-        match self.refusal(is_new) {
-            Some(reply) => Outcome::Reply(reply),
-            None => {
-                let place = self.store(name, CheckedFrame::of_row(row), is_new);
-                Outcome::Reply(Text::stored(place))
-            }
-        }
-    }
-
-    /// Why the operator may put no frame more, under a name that is new or under one that has a frame.
-    fn refusal(&self, is_new: bool) -> Option<Text>
-        ensures { result ≡ refusal_of self.now is_new }
-    {
-        if is_new && self.frames >= self.limits.frames {
-            return Some(Text::frames_full(self.limits.frames as u64));
-        }
-        if self.edits.len() >= self.limits.records as usize {
-            return Some(Text::full(self.limits.records as u64));
-        }
-        None
-    }
-
-    /// Stores the operator's next record, and answers its place.
-    fn store(&mut self, name: FrameName, frame: CheckedFrame, is_new: bool) -> u64
-        requires new { is_new ≡ is_none (frame_at self.old.edits name) }
-        requires taken { refusal_of self.old is_new ≡ None }
-        ensures place { result ≡ length self.old.edits }
-        ensures stored { self.new ≡ with_record self.old name frame }
-    {
-        let place = self.edits.len();
-        self.edits.push(&Record {
-            editor: AccountNo::of_number(OPERATOR).unwrap(),
-            number: place as u32 + 1,
-            name,
-            frame,
-        });
-        self.frames += u32::from(is_new);
-        place as u64
+        Outcome::Reply(self.update.seed(name, row))
     }
 
     /// Packs the next record for a centre.
     fn send(&mut self, centre: usize) -> Outcome
         requires { centre < length self.old.centres }
-        ensures performs { Performs self.old self.new result (λ w. sent w centre) }
+        ensures performs { Performs self.old self.new result (λ w. step_of_send w centre) }
         ensures centres { length self.new.centres ≡ length self.old.centres }
     {
-        if self.packets >= MAX_PACKETS {
+        if self.links.is_full() {
             return Outcome::PacketsFull;
         }
-        let front = self.edits.len() as u64;
-        let Some(number) = self.centres[centre].next_number(front) else {
+        let Some(number) = self.links.next_number(centre, self.update.count()) else {
             return Outcome::Idle;
         };
-        let edit = self.edits.get(number as usize);
-        let index = pack_at(&mut self.centres, centre, number, edit);
-        self.packets += 1;
+        let index = self.links.pack(centre, number, self.update.get(number));
         Outcome::SentRecord { index, number }
     }
 
     /// A packet arrives at a centre.
     fn deliver(&mut self, centre: usize, index: u64) -> Outcome
         requires { centre < length self.old.centres }
-        ensures performs { Performs self.old self.new result (λ w. delivered w centre index) }
+        ensures performs { Performs self.old self.new result (λ w. step_of_deliver w centre index) }
         ensures centres { length self.new.centres ≡ length self.old.centres }
     {
-        let Some(packet) = self.centres[centre].packet(index) else {
+        let Some(packet) = self.links.packet(centre, index) else {
             return Outcome::NoPacket;
         };
         let number = packet.number;
         match self.centres[centre].arrival(number) {
             Arrival::Taken => {
-                self.take(centre, index);
+                self.centres[centre].take(&packet.edit);
                 let ack = self.acknowledge(centre);
                 Outcome::Taken { number, ack }
             }
@@ -184,7 +154,7 @@ impl Network {
     /// A frame as a centre holds it.
     fn view(&self, centre: usize, name: FrameName) -> Outcome
         requires { centre < length self.now.centres }
-        ensures { Performs self.now self.now result (λ w. viewed w centre name) }
+        ensures { Performs self.now self.now result (λ w. step_of_view w centre name) }
     {
         match self.centres[centre].last_of(name) {
             Some(edit) => Outcome::Shown(Turn {
@@ -195,30 +165,36 @@ impl Network {
         }
     }
 
-    /// A centre takes the record of a packet, which is the next one for it.
-    fn take(&mut self, centre: usize, index: u64)
-        requires there { centre < length self.old.centres }
-        requires room { length (kept_at self.old.centres centre).held < (kept_at self.old.centres centre).room }
-        requires made { index < length (kept_at self.old.centres centre).down }
-        ensures taken { (packet : Packet) → slice_get (kept_at self.old.centres centre).down index ≡ Some packet
-            → self.new ≡ record self.old { centres = slice_set self.old.centres centre (with_held (kept_at self.old.centres centre) packet.edit) } }
-        ensures centres { length self.new.centres ≡ length self.old.centres }
+    /// How many records a centre has applied.
+    fn at(&self, centre: usize) -> Outcome
+        requires { centre < length self.now.centres }
+        ensures { Performs self.now self.now result (λ w. step_of_at w centre) }
     {
-        take_at(&mut self.centres, centre, index);
+        let count = self.centres[centre].count() as u64;
+        Outcome::Applied { count }
     }
 
-    /// A centre acknowledges what it has taken, unless no packet can be made, and the acknowledgement's
-    /// index is answered.
+    /// How many records the edit list has.
+    fn list(&self) -> Outcome
+        ensures { Performs self.now self.now result step_of_list }
+    {
+        let count = self.update.count();
+        Outcome::Records { count }
+    }
+
+    /// A centre acknowledges what it has applied, unless no packet can be made, and the acknowledgement's
+    /// index is returned.
     fn acknowledge(&mut self, centre: usize) -> Option<u64>
         requires { centre < length self.old.centres }
-        ensures performs { Performs self.old self.new result (λ w. with_acknowledgement w centre) }
+        ensures performs { Performs self.old self.new result (λ w. step_of_acknowledging w centre) }
         ensures centres { length self.new.centres ≡ length self.old.centres }
     {
-        if self.packets >= MAX_PACKETS {
+        if self.links.is_full() {
             return None;
         }
-        let index = acknowledge_at(&mut self.centres, centre);
-        self.packets += 1;
-        Some(index)
+        Some(
+            self.links
+                .acknowledge(centre, self.centres[centre].count() as u64),
+        )
     }
 }

@@ -21,10 +21,10 @@ pub struct Turn {
     pub ended: Option<Why>,
 }
 
-/// What came of an event.
-#[derive(Clone, Copy, Debug, PartialEq, Eq)]
+/// What came of an event. A later outcome may own a list, so that an outcome is not `Copy`.
+#[derive(Debug, Drop, PartialEq, Eq)]
 pub enum Outcome {
-    /// An editor is told this.
+    /// The reply to an editor.
     Reply(Text),
     /// A screen is shown.
     Shown(Turn),
@@ -37,7 +37,7 @@ pub enum Outcome {
     /// The packet of this index was made, with the record of this number.
     SentRecord { index: u64, number: u64 },
     /// The record of this number was taken. Its acknowledgement is the packet of the index `ack`, or
-    /// none where no packet could be made; so it is below.
+    /// `None` if no packet could be made; the same holds below.
     Taken { number: u64, ack: Option<u64> },
     /// The record of this number had been taken before.
     Old { number: u64, ack: Option<u64> },
@@ -47,4 +47,8 @@ pub enum Outcome {
     Full { count: u64 },
     /// The centre has no such frame.
     NotHeld,
+    /// The centre has applied this many records.
+    Applied { count: u64 },
+    /// The edit list has this many records.
+    Records { count: u64 },
 }

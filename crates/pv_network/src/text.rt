@@ -11,25 +11,25 @@ const ROOM: usize = 512;
 #[derive(Clone, Copy, Debug, PartialEq, Eq)]
 pub struct Text {
     len: u16,
-    // Zeros stand behind the text, so that equal texts are equal arrays.
+    // After the text there are zeros, so that equal texts are equal arrays.
     bytes: [u8; ROOM],
 }
 
 impl Model for Text {
     ghost use Rattle.std.specs.Prelude.{List, ℕ, length};
-    ghost use Rattle.pv_network.specs.Texts.{shown, IsZeroed, stored, length-shown, stored-shown};
+    ghost use Rattle.pv_network.specs.Texts.{text_in, IsZeroed, array_of, length-text_in, array_of-text_in};
 
     ghost Value = { List ℕ };
 
-    ghost view = { λ t. shown t.len t.bytes };
+    ghost view = { λ t. text_in t.len t.bytes };
 
     ghost invariant = { λ t. IsZeroed t.len t.bytes };
 
-    ghost inverse = { λ text. record { len = length text; bytes = stored text } };
+    ghost inverse = { λ text. record { len = length text; bytes = array_of text } };
 
     ghost inverse_ok = { λ t zeroed i. record {
-      len = length-shown t.len t.bytes zeroed i;
-      bytes = stored-shown t.len t.bytes zeroed i;
+      len = length-text_in t.len t.bytes zeroed i;
+      bytes = array_of-text_in t.len t.bytes zeroed i;
     } };
 }
 
@@ -74,21 +74,21 @@ impl Text {
         text
     }
 
-    /// An editor is told that his edit is stored at this place.
+    /// The reply that an edit is stored at this place.
     pub(crate) fn stored(place: u64) -> Text
         ensures { result ≡ stored_reply place }
     {
         Text::words_and_number(b"OK ", place)
     }
 
-    /// An editor is told that as many names have a frame as may.
+    /// The reply that as many names have a frame as may.
     pub(crate) fn frames_full(limit: u64) -> Text
         ensures { result ≡ frames_full_reply limit }
     {
         Text::words_and_number(b"NO 5 FRAMES FULL ", limit)
     }
 
-    /// An editor is told that there are as many records as there may be.
+    /// The reply that there are as many records as there may be.
     pub(crate) fn full(limit: u64) -> Text
         ensures { result ≡ full_reply limit }
     {

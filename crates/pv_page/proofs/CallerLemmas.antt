@@ -1,12 +1,12 @@
--- What crates above may cite of names and their texts.
+-- What a proof in a crate above may cite of names and their texts.
 use Rattle.std.proofs.Common.{◌≡◌, ℕ, ◌≤◌, ◌≢◌, ◌⊎◌, length, All, decimal, ap, ◌∙◌, inl, inr, arith}
 use Rattle.std.specs.Char.{IsAsciiDigit}
 use Rattle.std.proofs.lemmas.List.Elements.{All-push}
 use Rattle.std.proofs.lemmas.List.{same_from_push, length_push}
 use Rattle.pv_page.specs.Names.{IsLetter, Name, IsName, name_text, space}
-use Rattle.pv_page.proofs.Digits.{page_injective, page_nonempty, length-page, digits_of_page, All-from_digits}
+use Rattle.pv_page.proofs.Decimals.{page_injective, page_nonempty, length-page, digits_of_page, All-from_digits}
 
--- two names with one text are one name
+-- two names with the same text are the same name
 pub name_text_injective : (a b : Name) → IsName a → IsName b → name_text a ≡ name_text b → a ≡ b
 name_text_injective a b is_a is_b same =
     let parts = same_from_push (decimal a.page) (decimal b.page) a.letter b.letter same in

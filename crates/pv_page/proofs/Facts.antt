@@ -1,62 +1,56 @@
--- Names and page digits worked out by hand, computed from the definitions.
-use Rattle.std.proofs.Common.{◌≡◌, true, false, decimal, refl}
+-- Worked examples, computed from the definitions: each constant at the last value that fits, and the next.
+use Rattle.std.proofs.Common.{◌≡◌, [], ◌∷◌, true, false, Ok, Err, lit≤, refl, arith}
 use Rattle.std.specs.Fmt.{digits}
 use Rattle.std.specs.Prelude.{codes}
-use Rattle.pv_page.specs.declared.account_no.TheConstants.{LAST_ACCOUNT}
-use Rattle.pv_page.specs.declared.page_no.TheConstants.{LAST_PAGE}
-use Rattle.pv_page.specs.Names.{name_text, covers}
+use Rattle.pv_page.specs.declared.page_error.PageError.TheVariants.{Empty, TooLong, NotDigit, LeadingZero}
+use Rattle.pv_page.specs.Names.{IsPage, IsAccount, IsLetter, account_text, covers, name_text, page_of_digits, space}
 
--- the last page has nine nines
-pub last-page : decimal LAST_PAGE ≡ codes "999999999"
-unfolding digits
-last-page = refl
+-- the last page has nine nines, and the last account ten
+pub pages : IsPage 999999999 × ¬ IsPage 1000000000
+pages = (lit≤ tt, λ is. omega (arith, is))
 
--- the last account has ten nines
-pub last-account : decimal LAST_ACCOUNT ≡ codes "9999999999"
-unfolding digits
-last-account = refl
+pub accounts : IsAccount 9999999999 × ¬ IsAccount 10000000000
+accounts = (lit≤ tt, λ is. omega (arith, is))
 
--- the first frame of page 12 is named 12a
-pub first-of-twelve : name_text (record { page = 12; letter = 97 }) ≡ codes "12a"
-unfolding digits
-first-of-twelve = refl
+-- the letters are a to z
+pub letters : IsLetter 97 × ¬ IsLetter 96 × IsLetter 122 × ¬ IsLetter 123
+letters = ((lit≤ tt, lit≤ tt), (λ is. omega (arith, is.0)), (lit≤ tt, lit≤ tt), (λ is. omega (arith, is.1)))
 
--- that of the main index, page 0, is 0a
-pub main-index : name_text (record { page = 0; letter = 97 }) ≡ codes "0a"
-unfolding digits
-main-index = refl
+-- a page has one to nine digits, and page 0 is written by one zero
+pub digits_of_pages : (page_of_digits (codes "999999999") ≡ Ok 999999999) × (page_of_digits (codes "0") ≡ Ok 0)
+digits_of_pages = (refl, refl)
 
--- the last frame of the last page has the longest name
-pub last-of-all : name_text (record { page = 999999999; letter = 122 }) ≡ codes "999999999z"
-unfolding digits
-last-of-all = refl
+pub lengths : (page_of_digits (codes "1000000000") ≡ Err TooLong) × (page_of_digits [] ≡ Err Empty)
+lengths = (refl, refl)
 
--- a page covers itself
-pub itself-covered : covers 12 12 ≡ true
-unfolding digits
-itself-covered = refl
+-- too long comes before a byte that is no digit, and that before a leading zero
+pub order : (page_of_digits (codes "00000000x0") ≡ Err TooLong) × (page_of_digits (codes "01x") ≡ Err (NotDigit 2))
+order = (refl, refl)
 
--- and the pages whose digits go on behind its own
-pub longer-covered : covers 12 1234 ≡ true
-unfolding digits
-longer-covered = refl
+pub leading-zero : page_of_digits (codes "01") ≡ Err LeadingZero
+leading-zero = refl
 
--- it covers no page that has only its first digit
-pub shorter-uncovered : covers 12 1 ≡ false
+-- accounts have ten digits
+pub account-texts : (account_text 12 ≡ codes "0000000012") × (account_text 9999999999 ≡ codes "9999999999")
 unfolding digits
-shorter-uncovered = refl
+account-texts = (refl, refl)
 
--- nor one that differs in its last digit
-pub other-uncovered : covers 12 13 ≡ false
+-- the first frame of page 12, and the last frame of all
+pub name-texts : (name_text (record { page = 12; letter = 97 }) ≡ codes "12a")
+    × (name_text (record { page = 999999999; letter = 122 }) ≡ codes "999999999z")
 unfolding digits
-other-uncovered = refl
+name-texts = (refl, refl)
 
--- page 0 covers itself
-pub zero-covers-itself : covers 0 0 ≡ true
-unfolding digits
-zero-covers-itself = refl
+-- words are separated by spaces
+pub space-is : space ∷ [] ≡ codes " "
+space-is = refl
 
--- and no other page, since none begins with a zero
-pub zero-covers-no-other : covers 0 5 ≡ false
+-- a page covers itself and the pages whose digits begin with its own
+pub covered : (covers 12 12 ≡ true) × (covers 12 1234 ≡ true) × (covers 0 0 ≡ true)
 unfolding digits
-zero-covers-no-other = refl
+covered = (refl, refl, refl)
+
+-- and no other
+pub not-covered : (covers 12 1 ≡ false) × (covers 12 13 ≡ false) × (covers 0 5 ≡ false)
+unfolding digits
+not-covered = (refl, refl, refl)

@@ -1,5 +1,4 @@
 pub mod CallerLemmas
-mod Covering
-mod Digits
+mod Decimals
 mod Facts
-mod Writing
+pub mod Spellings

@@ -1,8 +1,10 @@
-ghost use Rattle.std.specs.Prelude.{◌≡◌, ℕ, ◌+◌, ◌<◌, ◌≤◌, ◌⊎◌, ◌≢◌, ◌↔◌, ◌++◌, length, drop, All, IsNone, IfSome, decimal};
+ghost use Rattle.std.specs.Prelude.{◌≡◌, ℕ, ◌+◌, ◌≤◌, ◌⊎◌, ◌≢◌, ◌↔◌, ◌++◌, length, drop, All, IsNone, IfSome};
 ghost use Rattle.std.specs.Char.{IsAsciiDigit};
 ghost use Rattle.pv_page.specs.Names.{IsLetter, Name, IsName, name_text, space};
 
-use crate::page_no::{LAST_PAGE, PageNo};
+use crate::page_no::PageNo;
+use itoa::Buffer;
+use pv_fields::Out;
 use std::marker::Model;
 
 /// The letter of a page's first frame.
@@ -14,7 +16,7 @@ pub const LAST_LETTER: u8 = b'z';
 /// The name of a frame: its page, and its letter `a` to `z`.
 #[derive(Clone, Copy, Debug, PartialEq, Eq, PartialOrd, Ord, Hash)]
 pub struct FrameName {
-    /// The page that the frame is of.
+    /// The frame's page.
     pub page: PageNo,
     /// The frame's letter, `a` to `z`.
     pub letter: u8,
@@ -33,8 +35,8 @@ impl Model for FrameName {
 }
 
 impl FrameName {
-    /// The name that a text writes: the digits of a page, and one letter `a` to `z`. It is
-    /// missing exactly where the text is no such name.
+    /// The name of a text: the digits of a page, and one letter `a` to `z`. `None` exactly when the text
+    /// is no such name.
     pub fn of_text(text: &[u8]) -> Option<FrameName>
         ensures found { IfSome result (λ name. IsName name × (text.now ≡ name_text name)) }
         ensures only { (name : Name) → IsName name → text.now ≡ name_text name →
@@ -52,19 +54,20 @@ impl FrameName {
         }
     }
 
-    /// Writes the name's text to the front of `into` and answers its length, 2 to 10. The bytes
-    /// behind the text stay.
+    /// Writes the name's text at the beginning of `into` and returns its length, 2 to 10. The bytes after
+    /// the text are as they were.
     pub fn text(&self, into: &mut [u8; 10]) -> usize
         ensures text { into.new ≡ name_text self.now ++ drop result into.old }
         ensures len { result ≡ length (name_text self.now) }
         ensures within { IsName self.now }
     {
-        let digits = put_digits(self.page.number(), into);
-        into[digits] = self.letter;
-        digits + 1
+        let mut out = Out::new(into);
+        out.put_run(Buffer::new().format(self.page.number()).as_bytes());
+        out.put_u8(self.letter);
+        out.written()
     }
 
-    /// The name of the page's next frame. It is missing exactly after the letter `z`.
+    /// The name of the page's next frame. `None` exactly after the letter `z`.
     pub fn next_letter(&self) -> Option<FrameName>
         ensures missing { IsNone result ↔ (self.now.letter ≡ LAST_LETTER) }
         ensures next { IfSome result (λ name.
@@ -81,32 +84,17 @@ impl FrameName {
     }
 }
 
-/// Writes a page's decimal digits to the front of `into` and answers how many they are.
-fn put_digits(number: u32, into: &mut [u8; 10]) -> usize
-    requires { number ≤ LAST_PAGE }
-    ensures text { into.new ≡ decimal number ++ drop result into.old }
-    ensures len { result ≡ length (decimal number) }
-{
-    let front = if number < 10 {
-        0
-    } else {
-        put_digits(number / 10, into)
-    };
-    into[front] = b'0' + (number % 10) as u8;
-    front + 1
-}
-
-/// Two names with the same text are the same name.
+/// A law: two names with the same text are the same name.
 pub fn one_text_is_one_name()
     ensures { (a b : Name) → IsName a → IsName b → name_text a ≡ name_text b → a ≡ b }
 {}
 
-/// What the text of every name looks like, as code needs that finds names between spaces.
+/// A law: what the text of every name looks like, for code that finds names between spaces.
 pub fn texts_of_names()
     // It has two to ten bytes.
     ensures len { (name : Name) → IsName name →
         (2 ≤ length (name_text name)) × (length (name_text name) ≤ 10) }
-    // Each is a digit or a letter a to z, and so never a space.
+    // Each byte is a digit or a letter a to z, and so never a space.
     ensures bytes { (name : Name) → IsName name →
         All (λ byte. IsAsciiDigit byte ⊎ IsLetter byte) (name_text name) }
     ensures no_space { (name : Name) → IsName name →

@@ -1,6 +1,6 @@
 use thiserror::Error;
 
-/// Why digits are no page number. Where several apply, it is the first of them in this order.
+/// Why a text is no page number. If several apply, it is the first of them in this order.
 #[derive(Clone, Copy, Debug, PartialEq, Eq, Error)]
 pub enum PageError {
     /// There is no digit.
@@ -12,10 +12,10 @@ pub enum PageError {
     /// A byte is not a decimal digit.
     #[error("byte {at} of the page number is no digit")]
     NotDigit {
-        /// The place of the first such byte, counted from 0.
+        /// The index of the first such byte.
         at: usize,
     },
-    /// A zero stands before other digits.
+    /// A zero comes before other digits.
     #[error("a page number of several digits does not begin with a zero")]
     LeadingZero,
 }

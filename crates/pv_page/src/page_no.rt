@@ -1,9 +1,10 @@
-ghost use Rattle.std.specs.Prelude.{◌≡◌, ℕ, ◌≤◌, ◌↔◌, length, IsTrue, IsSome, IfSome, IfOk, IfErr, Err, decimal};
-ghost use Rattle.std.specs.Str.Parse.{AllDigits, digits_value};
-ghost use Rattle.pv_page.specs.declared.page_error.PageError.{PageError};
-ghost use Rattle.pv_page.specs.Names.{IsPage, covers, Covers, HasFault};
+ghost use Rattle.std.specs.Prelude.{◌≡◌, ℕ, ◌≤◌, ◌↔◌, IsTrue, IsSome, IfSome, IfOk, Ok, decimal};
+ghost use Rattle.pv_fields.specs.Refusals.{first_of};
+ghost use Rattle.pv_page.specs.Names.{IsPage, covers, Covers, page_errors, page_of_digits};
 
+use crate::digits::{first_not_digit, number_of};
 use crate::page_error::PageError;
+use itoa::Buffer;
 use std::marker::Model;
 
 /// How many digits a page number has at most.
@@ -29,7 +30,7 @@ impl Model for PageNo {
 }
 
 impl PageNo {
-    /// The page of a number. It is missing exactly where the number is above [`LAST_PAGE`].
+    /// The page of a number. `None` exactly when the number is above [`LAST_PAGE`].
     pub fn of_number(number: u32) -> Option<PageNo>
         ensures found { IsSome result ↔ IsPage number }
         ensures value { IfSome result (λ page. page ≡ number) }
@@ -51,58 +52,52 @@ impl PageNo {
 
     /// The page that the digits write in decimal.
     ///
-    /// The error is the first that applies: no digit, more than nine bytes, a byte that is no
-    /// digit (the first such byte is named), or a zero before other digits.
+    /// The error is the first that applies: no digit, more than nine bytes, a byte that is no digit (the
+    /// first such byte is named), or a zero before other digits.
     pub fn of_digits(digits: &[u8]) -> Result<PageNo, PageError>
+        ensures reads { result ≡ page_of_digits digits.now }
+
         // What is read is a page, and the digits are its decimal text. Each such text is read.
         ensures ok { IfOk result (λ page. IsPage page × (digits.now ≡ decimal page)) }
-        ensures only { (page : ℕ) → IsPage page → digits.now ≡ decimal page →
-            result ≡ Ok page }
-
-        // Each error comes exactly where the digits have its fault.
-        ensures refused { (fault : PageError) →
-            (result ≡ Err fault) ↔ HasFault digits.now fault }
+        ensures only { (page : ℕ) → IsPage page → digits.now ≡ decimal page → result ≡ Ok page }
     {
-        if digits.is_empty() {
-            return Err(PageError::Empty);
+        match first_error(digits) {
+            Some(error) => Err(error),
+            None => {
+                let number = number_of(digits) as u32;
+                Ok(PageNo { number })
+            }
         }
-        if digits.len() > PAGE_DIGITS {
-            return Err(PageError::TooLong);
-        }
-        let number = number_of(digits)?;
-        if digits.len() > 1 && digits[0] == b'0' {
-            return Err(PageError::LeadingZero);
-        }
-        Ok(PageNo { number })
     }
 
-    /// Whether the decimal digits of `root` begin those of this page. A page begins itself, and
-    /// page 0 begins no other.
+    /// Whether the decimal digits of `root` are a prefix of those of this page. So a page begins with
+    /// itself, and page 0 begins no other.
     pub fn begins(&self, root: PageNo) -> bool
         ensures exact { IsTrue result ↔ Covers root self.now }
         ensures value { result ≡ covers root self.now }
     {
-        let mut front = self.number;
-        while front > root.number && front >= 10 {
-            front /= 10;
-        }
-        front == root.number
+        let mut page = Buffer::new();
+        let mut prefix = Buffer::new();
+        let digits = page.format(self.number).as_bytes();
+        digits.starts_with(prefix.format(root.number).as_bytes())
     }
 }
 
-/// The number that at most nine digits write. The only error is the first byte that is no digit.
-fn number_of(digits: &[u8]) -> Result<u32, PageError>
-    requires { length digits.now ≤ PAGE_DIGITS }
-    ensures digits { IfOk result (λ _. AllDigits 10 digits.now) }
-    ensures value { IfOk result (λ number. number ≡ digits_value 10 digits.now) }
-    ensures err { IfErr result (HasFault digits.now) }
+/// The first reason why the text is no page's digits.
+fn first_error(text: &[u8]) -> Option<PageError>
+    ensures { result ≡ first_of (page_errors text.now) }
 {
-    let mut number = 0;
-    for (at, digit) in digits.iter().enumerate() {
-        if !digit.is_ascii_digit() {
-            return Err(PageError::NotDigit { at });
-        }
-        number = number * 10 + u32::from(*digit - b'0');
+    if text.is_empty() {
+        return Some(PageError::Empty);
     }
-    Ok(number)
+    if text.len() > PAGE_DIGITS {
+        return Some(PageError::TooLong);
+    }
+    if let Some(at) = first_not_digit(text) {
+        return Some(PageError::NotDigit { at });
+    }
+    if text.len() > 1 && text[0] == b'0' {
+        return Some(PageError::LeadingZero);
+    }
+    None
 }

@@ -3,7 +3,7 @@ use std::test::Fail;
 
 #[test]
 fn page_digits_are_read_or_refused(rt: HostRuntime) {
-    let faults: [(&[u8], PageError); 12] = [
+    let errors: [(&[u8], PageError); 12] = [
         (b"", PageError::Empty),
         (b"1234567890", PageError::TooLong),
         (b"12345678x0", PageError::TooLong),
@@ -17,8 +17,8 @@ fn page_digits_are_read_or_refused(rt: HostRuntime) {
         (b"00", PageError::LeadingZero),
         (b"000000000", PageError::LeadingZero),
     ];
-    for (digits, fault) in faults {
-        assert_eq!(rt; PageNo::of_digits(digits), Err(fault), "at {digits:?}");
+    for (digits, error) in errors {
+        assert_eq!(rt; PageNo::of_digits(digits), Err(error), "at {digits:?}");
     }
     let pages: [(&[u8], u32); 5] = [
         (b"0", 0),
@@ -45,6 +45,32 @@ fn numbers_out_of_range_are_no_names(rt: HostRuntime) {
         Some(9_999_999_999)
     );
     assert_eq!(rt; AccountNo::of_number(10_000_000_000), None);
+}
+
+#[test]
+fn accounts_have_ten_digits(rt: HostRuntime) -> Result<(), Fail> {
+    let texts: [(&[u8], u64); 4] = [
+        (b"0000000000", 0),
+        (b"0000000012", 12),
+        (b"1000000000", 1_000_000_000),
+        (b"9999999999", 9_999_999_999),
+    ];
+    for (text, number) in texts {
+        let account = AccountNo::of_digits(text).ok_or("an account")?;
+        assert_eq!(rt; account.number(), number);
+        assert_eq!(rt; account.digits().as_slice(), text);
+    }
+    let others: [&[u8]; 5] = [
+        b"",
+        b"999999999",
+        b"00000000000",
+        b"+000000012",
+        b"000000001x",
+    ];
+    for text in others {
+        assert_eq!(rt; AccountNo::of_digits(text), None, "at {text:?}");
+    }
+    Ok(())
 }
 
 #[test]

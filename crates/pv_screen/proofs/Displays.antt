@@ -6,7 +6,7 @@ use Rattle.std.proofs.lemmas.Bool.Decides.{nat_tests}
 use Rattle.std.proofs.lemmas.Bool.{leb-true, and_parts, cond_both}
 use Rattle.pv_cells.specs.Row.{IsCell}
 use Rattle.pv_screen.specs.Grid.{IsGrid, IsRow}
-use Rattle.pv_screen.specs.Terminal.{Display, IsDisplay, down, up, row_start, home, forward, back, clear, with_cell, written, after_first, after_second, after_byte, terminal_after}
+use Rattle.pv_screen.specs.Terminal.{Display, IsDisplay, down, up, row_start, home, forward, back, clear, with_cell, after_cell, after_first, after_second, after_byte, terminal_after}
 use Rattle.pv_screen.proofs.Grids.{IsGrid-blank}
 
 -- a number that passes the test of a range is at most its end
@@ -14,7 +14,8 @@ at_most : (low high n : ℕ) → (leb low n && leb n high) ≡ true → n ≤ hi
 at_most low high n test = leb-true n high (and_parts (leb low n) (leb n high) test).1
 
 -- a grid in which one place got another cell is a grid
-IsGrid-with_cell : (rows : List (List ℕ)) (row column cell : ℕ) → IsGrid rows → 1 ≤ row → row ≤ 24 → IsCell cell → IsGrid (with_cell rows row column cell)
+IsGrid-with_cell : (rows : List (List ℕ)) (row column cell : ℕ) → IsGrid rows → 1 ≤ row → row ≤ 24 → IsCell cell
+    → IsGrid (with_cell rows row column cell)
 IsGrid-with_cell rows row column cell grid from to fits =
     let within : row - 1 < length rows = omega (arith, grid.height) in
     let at = All-get_or IsRow rows (row - 1) [] within grid.rows in
@@ -52,27 +53,31 @@ module _ (d : Display) (is : IsDisplay d) where
   -- one column on, or to the start of the row below
   IsDisplay-forward : IsDisplay (forward d)
   IsDisplay-forward =
-      cond_both (eqb d.column 39) (row_start (down d)) (record d { column = d.column + 1 }) IsDisplay (λ last. search (rules, nat_tests)) (λ before. search (rules, nat_tests))
+      cond_both (eqb d.column 39) (row_start (down d)) (record d { column = d.column + 1 }) IsDisplay
+      (λ last. search (rules, nat_tests)) (λ before. search (rules, nat_tests))
 
   -- one column back, or to the end of the row above
   IsDisplay-back : IsDisplay (back d)
   IsDisplay-back =
-      cond_both (eqb d.column 0) (record (up d) { column = 39 }) (record d { column = d.column - 1 }) IsDisplay (λ first. search (rules, nat_tests)) (λ behind. search (rules, nat_tests))
+      cond_both (eqb d.column 0) (record (up d) { column = 39 }) (record d { column = d.column - 1 }) IsDisplay
+      (λ first. search (rules, nat_tests)) (λ behind. search (rules, nat_tests))
 
   -- a cleared screen is a grid, too
   IsDisplay-clear : IsDisplay (clear d)
   IsDisplay-clear = record { cells = IsGrid-blank; row_from = search rules; row_to = search rules; column = search rules }
 
 -- a cell that is written, and the move behind it, keep the grid and the cursor on it
-IsDisplay-written : (d : Display) (cell : ℕ) → IsDisplay d → IsCell cell → IsDisplay (written d cell)
+IsDisplay-written : (d : Display) (cell : ℕ) → IsDisplay d → IsCell cell → IsDisplay (after_cell d cell)
 IsDisplay-written d cell is fits =
     let cells = IsGrid-with_cell d.cells d.row d.column cell is.cells is.row_from is.row_to fits in
-    IsDisplay-forward (record d { cells = with_cell d.cells d.row d.column cell }) (record { cells = cells; row_from = is.row_from; row_to = is.row_to; column = is.column })
+    IsDisplay-forward (record d { cells = with_cell d.cells d.row d.column cell })
+    (record { cells = cells; row_from = is.row_from; row_to = is.row_to; column = is.column })
 
 -- so does every byte that does not stand behind an escape
 pub IsDisplay-first : (d : Display) (byte : ℕ) → IsDisplay d → IsDisplay (after_first d byte)
 IsDisplay-first d byte is =
-    let code = λ (n : ℕ) (x y : Display) (left : IsDisplay x) (right : IsDisplay y). cond_both (eqb byte n) x y IsDisplay (λ _. left) (λ _. right) in
+    let code = λ (n : ℕ) (x y : Display) (left : IsDisplay x) (right : IsDisplay y). cond_both (eqb byte n) x y IsDisplay (λ _. left)
+    (λ _. right) in
     let to_home = code 30 (home d) d (IsDisplay-home d is) is in
     let to_start = code 13 (row_start d) _ (IsDisplay-row_start d is) to_home in
     let cleared = code 12 (clear d) _ (IsDisplay-clear d is) to_start in
@@ -81,17 +86,20 @@ IsDisplay-first d byte is =
     let onward = code 9 (forward d) _ (IsDisplay-forward d is) to_below in
     let backward = code 8 (back d) _ (IsDisplay-back d is) onward in
     let escaped = code 27 (record d { waiting = true }) _ (IsDisplay-waits d is true) backward in
-    cond_both (leb 32 byte && leb byte 127) (written d byte) _ IsDisplay (λ cell. IsDisplay-written d byte is (at_most 32 127 byte cell)) (λ _. escaped)
+    cond_both (leb 32 byte && leb byte 127) (after_cell d byte) _ IsDisplay
+    (λ cell. IsDisplay-written d byte is (at_most 32 127 byte cell)) (λ _. escaped)
 
 -- and every byte that does
 IsDisplay-second : (d : Display) (byte : ℕ) → IsDisplay d → IsDisplay (after_second d byte)
 IsDisplay-second d byte is =
-    cond_both (leb 64 byte && leb byte 95) _ _ IsDisplay (λ cell. IsDisplay-written d (byte - 64) is (omega (arith, at_most 64 95 byte cell))) (λ _. is)
+    cond_both (leb 64 byte && leb byte 95) _ _ IsDisplay
+    (λ cell. IsDisplay-written d (byte - 64) is (omega (arith, at_most 64 95 byte cell))) (λ _. is)
 
 -- so does any byte at all
 IsDisplay-after_byte : (d : Display) (byte : ℕ) → IsDisplay d → IsDisplay (after_byte d byte)
 IsDisplay-after_byte d byte is =
-    cond_both d.waiting (after_second (record d { waiting = false }) byte) (after_first d byte) IsDisplay (λ _. IsDisplay-second (record d { waiting = false }) byte (IsDisplay-waits d is false)) (λ _. IsDisplay-first d byte is)
+    cond_both d.waiting (after_second (record d { waiting = false }) byte) (after_first d byte) IsDisplay
+    (λ _. IsDisplay-second (record d { waiting = false }) byte (IsDisplay-waits d is false)) (λ _. IsDisplay-first d byte is)
 
 -- after any bytes at all the cells are a grid, and the cursor is on it
 pub IsDisplay-terminal_after : (bytes : List ℕ) (d : Display) → IsDisplay d → IsDisplay (terminal_after d bytes)

@@ -2,12 +2,12 @@
 use Rattle.std.proofs.Common.{refl, lit≤, replicate}
 use Rattle.std.proofs.lemmas.List.Elements.{All-replicate}
 use Rattle.pv_cells.specs.Row.{IsCell}
-use Rattle.pv_screen.specs.Grid.{IsGrid, IsRow, blank}
+use Rattle.pv_screen.specs.Grid.{IsGrid, IsRow, blank_grid}
 
 -- forty spaces are a row
 pub IsRow-blank : IsRow (replicate 40 32)
 IsRow-blank = record { width = refl; seven_bits = All-replicate IsCell 40 32 (lit≤ tt) }
 
 -- twenty-four such rows are a grid
-pub IsGrid-blank : IsGrid blank
+pub IsGrid-blank : IsGrid blank_grid
 IsGrid-blank = record { height = refl; rows = All-replicate IsRow 24 (replicate 40 32) IsRow-blank }

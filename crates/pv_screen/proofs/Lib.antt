@@ -2,6 +2,8 @@ mod Bytes
 mod Displays
 mod Facts
 mod Grids
+mod Overwriting
 mod Placing
 mod Runs
 mod Shows
+mod Spaces

@@ -1,61 +1,19 @@
 -- Lemmas on rows that are put together from texts and spaces, and on bodies cut into rows.
-use Rattle.std.proofs.Common.{◌≡◌, ℕ, zero, suc, ◌+◌, ◌*◌, ◌-◌, ◌<◌, ◌≤◌, Bool, true, false, cond, eqb, ne_eqb, inl, inr, lit≤, lit<, decimal, List, [], ◌∷◌, ◌++◌, length, get_or, set, take, drop, All, refl, sym, ap, subst, ◌∙◌, append_assoc, arith}
+use Rattle.std.proofs.Common.{◌≡◌, ℕ, zero, suc, ◌+◌, ◌*◌, ◌-◌, ◌<◌, ◌≤◌, Bool, true, false, cond, eqb, ne_eqb, inl, inr, lit≤, lit<, decimal, List, [], ◌∷◌, ◌++◌, length, take, drop, All, refl, sym, ap, subst, ◌∙◌, append_assoc, arith}
 use Rattle.std.specs.List.{concat}
 use Rattle.std.specs.Simd.{first_chunks}
-use Rattle.std.proofs.Math.Seq.{drop-cons, take-append-add, drop-append-add, take-append_seam, drop-append_seam}
-use Rattle.std.proofs.lemmas.List.{append-nil, nil_from_length, get_or_default, take_more, take_at, drop_at, set_at, length-append, length-drop, length-take-le, take-append-drop, take-replicate, drop-replicate, length-replicate, replicate-append-replicate}
+use Rattle.std.proofs.Math.Seq.{take-append_seam}
+use Rattle.std.proofs.lemmas.List.{nil_from_length, get_or_default, take_at, drop_at, length-append, length-drop, length-take-le, take-append-drop, length-replicate}
 use Rattle.std.proofs.lemmas.List.Elements.{All-nil, All-cons, All-take, All-drop, All-append, All-replicate}
 use Rattle.std.proofs.lemmas.Fmt.{length-decimal-le, IsAscii-decimal}
 use Rattle.pv_page.specs.Names.{Name, IsName, name_text}
 use Rattle.pv_page.proofs.CallerLemmas.{length-name_text, bytes_of_name}
 use Rattle.pv_cells.specs.Row.{IsCell}
 use Rattle.pv_frame.specs.Content.{Content, IsFrame}
-use Rattle.pv_frame.specs.Sound.{HasRanges}
-use Rattle.pv_screen.specs.Composing.{spaces, at_left, at_right, price_text, heading, body_rows, composed}
+use Rattle.pv_frame.specs.Errors.{HasRanges}
+use Rattle.pv_screen.specs.Composing.{spaces, at_left, at_right, price_text, heading, body_rows, composed_grid}
 use Rattle.pv_screen.specs.Grid.{IsRow, IsGrid}
 use Rattle.pv_screen.proofs.Grids.{IsRow-blank}
-use Rattle.pv_screen.specs.Overwriting.{overwritten}
-
--- a text written over spaces has spaces before it and behind it
-over_spaces : (front text : List ℕ) (gap room at : ℕ) → at ≡ length front + gap → gap + length text ≤ room → overwritten at text (front ++ spaces room) ≡ front ++ spaces gap ++ text ++ spaces (room - (gap + length text))
-over_spaces front text gap room at is fits =
-    let row = front ++ spaces room in
-    let before : take at row ≡ front ++ spaces gap =
-    ap (λ n. take n row) is ∙ take-append-add front (spaces room) gap ∙ ap (λ l. front ++ l) (take-replicate gap room 32 (omega arith)) in
-    let far : at + length text ≡ length front + (gap + length text) = omega arith in
-    let behind : drop (at + length text) row ≡ spaces (room - (gap + length text)) =
-    ap (λ n. drop n row) far ∙ drop-append-add front (spaces room) (gap + length text) ∙ drop-replicate (gap + length text) room 32 in
-    rw (before, behind) refl
-
-module _ (title name price : List ℕ) (whole : length title ≡ 24) (few : length name ≤ 11) (short : length price ≤ 4) where
-  -- a title, a name and a price written over a row of spaces, each in its place
-  pub heading_written : overwritten (40 - length price) price (overwritten 25 name (overwritten 0 title (spaces 40))) ≡ title ++ spaces 1 ++ at_left 11 name ++ at_right 4 price
-  heading_written =
-      let n = length name in
-      let p = length price in
-      let head = title ++ spaces 1 in
-      let front = head ++ name in
-      let gap = 15 - n - p in
-      let left = spaces (11 - n) in
-      let right = spaces (4 - p) in
-      let behind_title : 40 - (0 + length title) ≡ 16 = omega arith in
-      let behind_name : 16 - (1 + n) ≡ 15 - n = omega arith in
-      let behind_price : 15 - n - (gap + p) ≡ 0 = omega arith in
-      let both : gap ≡ 11 - n + (4 - p) = omega arith in
-      let first : overwritten 0 title (spaces 40) ≡ title ++ spaces 16 =
-      over_spaces [] title 0 40 0 refl (omega arith) ∙ ap (λ k. title ++ spaces k) behind_title in
-      let second : overwritten 25 name (title ++ spaces 16) ≡ front ++ spaces (15 - n) =
-      over_spaces title name 1 16 25 (omega arith) (omega arith) ∙ ap (λ k. front ++ spaces k) behind_name in
-      let third : overwritten (40 - p) price (front ++ spaces (15 - n)) ≡ front ++ spaces gap ++ price =
-      over_spaces front price gap (15 - n) (40 - p) (omega (arith, length-append head name, length-append title (spaces 1))) (omega arith)
-      ∙ ap (λ k. front ++ spaces gap ++ price ++ spaces k) behind_price ∙ append-nil (front ++ spaces gap ++ price) in
-      let between : spaces gap ≡ left ++ right = ap spaces both ∙ sym (replicate-append-replicate (11 - n) (4 - p) 32) in
-      ap (λ l. overwritten (40 - p) price (overwritten 25 name l)) first
-      ∙ ap (overwritten (40 - p) price) second
-      ∙ third
-      ∙ ap (λ l. front ++ l ++ price) between
-      ∙ ap (λ l. l ++ price) (sym (append_assoc front left right) ∙ ap (λ l. l ++ right) (append_assoc head name left))
-      ∙ append_assoc (head ++ (name ++ left)) right price
 
 -- ---- bodies
 
@@ -72,33 +30,13 @@ concat-first_chunks width (suc count) cells all =
     ∙ take-append-drop width cells
 
 -- cells of 0 to 127 are cut into rows of the screen
-pub rows-first_chunks : (count : ℕ) (cells : List ℕ) → count * 40 ≤ length cells → All IsCell cells → All IsRow (first_chunks 40 count cells)
+pub rows-first_chunks : (count : ℕ) (cells : List ℕ) → count * 40 ≤ length cells → All IsCell cells
+    → All IsRow (first_chunks 40 count cells)
 rows-first_chunks zero cells all fits = All-nil IsRow
 rows-first_chunks (suc count) cells all fits =
     All-cons IsRow (take 40 cells) (first_chunks 40 count (drop 40 cells))
     (record { width = length-take-le 40 cells (omega arith); seven_bits = All-take IsCell 40 cells fits })
     (rows-first_chunks count (drop 40 cells) (omega (arith, length-drop 40 cells)) (All-drop IsCell 40 cells fits))
-
--- a grid with so many of the rows from row 2 on
-abbrev pub with_rows : List (List ℕ) → List (List ℕ) → ℕ → List (List ℕ)
-with_rows grid rows count = take 1 grid ++ take count rows ++ drop (count + 1) grid
-
--- with the next row put in its place the grid has one more of them
-pub with_rows_more : (grid rows : List (List ℕ)) (count at : ℕ) (row : List ℕ) → at ≡ count + 1 → count < length rows → count + 1 < length grid → row ≡ get_or rows count [] → set (with_rows grid rows count) at row ≡ with_rows grid rows (count + 1)
-with_rows_more grid rows count at row place within below is =
-    let first = take 1 grid in
-    let front = first ++ take count rows in
-    let old = get_or grid (count + 1) [] in
-    let rest = drop (count + 1 + 1) grid in
-    let next : suc (count + 1) ≡ count + 1 + 1 = omega arith in
-    let cut : drop (count + 1) grid ≡ old ∷ rest = drop-cons grid (count + 1) [] below ∙ ap (λ n. old ∷ drop n grid) next in
-    let long : length front ≡ at = omega (arith, length-append first (take count rows), length-take-le 1 grid (omega arith), length-take-le count rows (omega arith)) in
-    let more : front ++ row ∷ [] ≡ first ++ take (count + 1) rows =
-    append_assoc first (take count rows) (row ∷ []) ∙ ap (λ l. first ++ l) (ap (λ r. take count rows ++ r ∷ []) is ∙ sym (take_more rows count [] within)) in
-    ap (λ l. set (front ++ l) at row) cut
-    ∙ set_at front old rest row at long
-    ∙ sym (append_assoc front (row ∷ []) rest)
-    ∙ ap (λ l. l ++ rest) more
 
 -- ---- row 1
 
@@ -133,26 +71,19 @@ fits_name name is k d within = elim (bytes_of_name name is k d within) [ inl dig
 fits_spaces : (count : ℕ) → All IsCell (spaces count)
 fits_spaces count = All-replicate IsCell count 32 (lit≤ tt)
 
--- a title within its ranges is cells
-fits_title : (frame : Content) → HasRanges frame → All IsCell frame.title
-fits_title frame ranges = subst (λ l. All IsCell l) (take-append_seam frame.title frame.body) (All-take IsCell (length frame.title) (frame.title ++ frame.body) ranges.cells)
-
--- and so is a body
-pub fits_body : (frame : Content) → HasRanges frame → All IsCell frame.body
-fits_body frame ranges = subst (λ l. All IsCell l) (drop-append_seam frame.title frame.body) (All-drop IsCell (length frame.title) (frame.title ++ frame.body) ranges.cells)
-
 -- the heading of a frame within its ranges is a row of the screen
 pub heading_is_row : (frame : Content) (name : Name) → HasRanges frame → IsFrame frame → IsName name → IsRow (heading frame name)
 heading_is_row frame name ranges holds is =
     let price = price_text frame.price in
     let text = name_text name in
-    let name-fits : length (decimal name.page) + 1 ≤ 10 = omega (arith, length-name_text name is, length-append (decimal name.page) (name.letter ∷ [])) in
+    let name-fits : length (decimal name.page) + 1 ≤ 10 =
+    omega (arith, length-name_text name is, length-append (decimal name.page) (name.letter ∷ [])) in
     record {
       width = simp (length-append, length-replicate) (omega (arith, holds.title, name-fits, length-price_text frame.price ranges.price));
       seven_bits =
           All-append IsCell (frame.title ++ spaces 1 ++ at_left 11 text) (at_right 4 price)
           (All-append IsCell (frame.title ++ spaces 1) (at_left 11 text)
-          (All-append IsCell frame.title (spaces 1) (fits_title frame ranges) (fits_spaces 1))
+          (All-append IsCell frame.title (spaces 1) ranges.title (fits_spaces 1))
           (All-append IsCell text (spaces (11 - length text)) (fits_name name is) (fits_spaces (11 - length text))))
           (All-append IsCell (spaces (4 - length price)) price (fits_spaces (4 - length price)) (fits_price frame.price ranges.price));
     }
@@ -161,12 +92,12 @@ heading_is_row frame name ranges holds is =
 
 module _ (frame : Content) (name : Name) (ranges : HasRanges frame) (holds : IsFrame frame) (row : IsRow (heading frame name)) where
   -- the screen of a frame within its ranges is a grid
-  pub composed_is_grid : IsGrid (composed frame name)
+  pub composed_is_grid : IsGrid (composed_grid frame name)
   composed_is_grid = record {
     height = refl;
     rows =
         All-cons IsRow (heading frame name) (body_rows frame.body ++ spaces 40 ∷ []) row
-        (All-append IsRow (body_rows frame.body) (spaces 40 ∷ []) (rows-first_chunks 22 frame.body (omega (arith, holds.body)) (fits_body frame ranges))
+        (All-append IsRow (body_rows frame.body) (spaces 40 ∷ []) (rows-first_chunks 22 frame.body (omega (arith, holds.body)) ranges.body)
         (All-cons IsRow (spaces 40) [] IsRow-blank (All-nil IsRow)));
   }
 
@@ -176,7 +107,8 @@ module _ (frame : Content) (name : Name) (ranges : HasRanges frame) (holds : IsF
       let text = name_text name in
       let price = price_text frame.price in
       let parts : heading frame name ≡ frame.title ++ (spaces 1 ++ (at_left 11 text ++ at_right 4 price)) =
-      append_assoc (frame.title ++ spaces 1) (at_left 11 text) (at_right 4 price) ∙ append_assoc frame.title (spaces 1) (at_left 11 text ++ at_right 4 price) in
+      append_assoc (frame.title ++ spaces 1) (at_left 11 text) (at_right 4 price)
+      ∙ append_assoc frame.title (spaces 1) (at_left 11 text ++ at_right 4 price) in
       ap (λ l. take 24 l) parts ∙ take_at frame.title (spaces 1 ++ (at_left 11 text ++ at_right 4 price)) 24 holds.title
 
   -- it has the name from column 25 on
@@ -204,7 +136,20 @@ module _ (frame : Content) (name : Name) (ranges : HasRanges frame) (holds : IsF
       ap (λ l. drop (40 - length price) l) parts ∙ drop_at before price (40 - length price) far
 
   -- the rows between the first and the last are the body
-  pub body_stands : concat (take 22 (drop 1 (composed frame name))) ≡ frame.body
+  pub body_stands : concat (take 22 (drop 1 (composed_grid frame name))) ≡ frame.body
   body_stands =
       ap concat (take_at (body_rows frame.body) (spaces 40 ∷ []) 22 (length-first_chunks 40 22 frame.body))
       ∙ concat-first_chunks 40 22 frame.body holds.body
+
+-- a heading, the rows of a body and a blank row are a grid
+pub IsGrid-parts : (heading body : List ℕ) (rows : List (List ℕ)) → IsRow heading → length body ≡ 880 → All IsCell body
+    → rows ≡ body_rows body → IsGrid (heading ∷ (rows ++ spaces 40 ∷ []))
+IsGrid-parts heading body rows row size cells are =
+    subst (λ rows. IsGrid (heading ∷ (rows ++ spaces 40 ∷ []))) (sym are)
+    (record {
+      height = refl;
+      rows =
+          All-cons IsRow heading (body_rows body ++ spaces 40 ∷ []) row
+          (All-append IsRow (body_rows body) (spaces 40 ∷ []) (rows-first_chunks 22 body (omega (arith, size)) cells)
+          (All-cons IsRow (spaces 40) [] IsRow-blank (All-nil IsRow)));
+    })

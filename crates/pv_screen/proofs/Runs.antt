@@ -11,7 +11,8 @@ use Rattle.pv_screen.specs.declared.screen.Screen.TheVariants.{Whole, Row}
 use Rattle.pv_screen.proofs.Shows.{painted_shows, painted_ready, message_shows, message_ready}
 
 -- after the bytes of one screen the terminal shows it, or what it showed with another row 24
-screen_shows : (screen : Screen) → IsScreen screen → (t : Display) → IsReady t → (terminal_after t (screen_bytes screen)).cells ≡ shown_after t.cells screen
+screen_shows : (screen : Screen) → IsScreen screen → (t : Display) → IsReady t
+    → (terminal_after t (screen_bytes screen)).cells ≡ shown_after t.cells screen
 screen_shows (Whole grid) is t before = painted_shows grid is t before.first
 screen_shows (Row cells) is t before = message_shows cells is t before
 
@@ -21,7 +22,8 @@ screen_ready (Whole grid) is t before = painted_ready grid is t before.first
 screen_ready (Row cells) is t before = message_ready cells is t before
 
 -- after those of several it shows what they make of what it showed, one after another
-pub screens_shown : (screens : List Screen) → All IsScreen screens → (t : Display) → IsReady t → (terminal_after t (flat_map screen_bytes screens)).cells ≡ fold shown_after t.cells screens
+pub screens_shown : (screens : List Screen) → All IsScreen screens → (t : Display) → IsReady t
+    → (terminal_after t (flat_map screen_bytes screens)).cells ≡ fold shown_after t.cells screens
 screens_shown [] are t before = refl
 screens_shown (screen ∷ screens) are t before =
     let is = All-head IsScreen screen screens are in

@@ -11,11 +11,11 @@ use Rattle.std.proofs.lemmas.List.Sums.{fold-append, suffix_len-le-length, prefi
 use Rattle.std.proofs.lemmas.List.Elements.{All-head, All-tail, All-take, All-get_or, All-set}
 use Rattle.pv_cells.specs.Row.{IsCell}
 use Rattle.pv_screen.specs.Grid.{IsGrid, IsRow}
-use Rattle.pv_screen.specs.Overwriting.{overwritten}
-use Rattle.pv_screen.specs.Painting.{cell_bytes, cells_bytes, shown, row_bytes, line_end, line_bytes, painted, message_text}
-use Rattle.pv_screen.specs.Terminal.{Display, IsReady, new_display, row_below, with_cell, written, after_byte, terminal_after}
+use Rattle.pv_screen.specs.Painting.{cell_bytes, cells_bytes, shown_cells, row_bytes, line_end, line_bytes, painting_of, message_text}
+use Rattle.pv_screen.specs.Terminal.{Display, IsReady, new_display, row_below, with_cell, after_cell, after_byte, terminal_after}
+use Rattle.pv_screen.proofs.Overwriting.{overwritten, overwritten-overwritten}
 use Rattle.pv_screen.proofs.Grids.{IsGrid-blank}
-use Rattle.pv_screen.proofs.Bytes.{overwritten-overwritten, line_end_short, line_end_full, length-shown-le}
+use Rattle.pv_screen.proofs.Bytes.{line_end_short, line_end_full, length-shown-le}
 
 -- a display that waits for no second byte
 abbrev at : List (List ℕ) → ℕ → ℕ → Display
@@ -42,39 +42,49 @@ behind_end : (cells : List (List ℕ)) (row column : ℕ) → column ≡ 40 → 
 behind_end cells row column end = ap (behind cells row) end
 
 -- a terminal that takes the bytes of a cell has written that cell
-cell_shown : (cells : List (List ℕ)) (row column cell : ℕ) → IsCell cell → terminal_after (at cells row column) (cell_bytes cell) ≡ written (at cells row column) cell
+cell_shown : (cells : List (List ℕ)) (row column cell : ℕ) → IsCell cell
+    → terminal_after (at cells row column) (cell_bytes cell) ≡ after_cell (at cells row column) cell
 cell_shown cells row column cell fits =
     let here = at cells row column in
     let sent = λ (b : Bool). terminal_after here (cond b (27 ∷ (cell + 64) ∷ []) (cell ∷ [])) in
     elim (cases_lt cell 32) [
       | inl attribute ↦
-          let second = and_from (leb 64 (cell + 64)) (leb (cell + 64) 95) (le-leb 64 (cell + 64) (omega arith)) (le-leb (cell + 64) 95 (omega arith)) in
-          ap sent (lt-ltb cell 32 attribute) ∙ cond-true (leb 64 (cell + 64) && leb (cell + 64) 95) (written here (cell + 64 - 64)) here second ∙ ap (written here) (add-sub_cancel cell 64)
+          let second =
+          and_from (leb 64 (cell + 64)) (leb (cell + 64) 95) (le-leb 64 (cell + 64) (omega arith))
+          (le-leb (cell + 64) 95 (omega arith)) in
+          ap sent (lt-ltb cell 32 attribute)
+          ∙ cond-true (leb 64 (cell + 64) && leb (cell + 64) 95) (after_cell here (cell + 64 - 64)) here second
+          ∙ ap (after_cell here) (add-sub_cancel cell 64)
       | inr ordinary ↦
           let first = and_from (leb 32 cell) (leb cell 127) (le-leb 32 cell ordinary) (le-leb cell 127 fits) in
-          ap sent (le-ltb cell 32 ordinary) ∙ cond-true (leb 32 cell && leb cell 127) (written here cell) _ first
+          ap sent (le-ltb cell 32 ordinary) ∙ cond-true (leb 32 cell && leb cell 127) (after_cell here cell) _ first
     ]
 
 -- to set one cell is to write one cell over the row
 overwritten_one : (row : List ℕ) (column cell : ℕ) → column < length row → set row column cell ≡ overwritten column (cell ∷ []) row
 overwritten_one row column cell within =
     let next : suc column ≡ column + 1 = omega arith in
-    set_split row column cell within ∙ ap (λ n. take column row ++ cell ∷ drop n row) next ∙ sym (append_assoc (take column row) (cell ∷ []) (drop (column + 1) row))
+    set_split row column cell within ∙ ap (λ n. take column row ++ cell ∷ drop n row) next
+    ∙ sym (append_assoc (take column row) (cell ∷ []) (drop (column + 1) row))
 
 -- no cells written over a row leave it as it is
 overwritten_none : (row : List ℕ) (column : ℕ) → overwritten column [] row ≡ row
 overwritten_none row column =
     let same : column + 0 ≡ column = omega arith in
-    ap (λ l. l ++ drop (column + 0) row) (append-nil (take column row)) ∙ ap (λ n. take column row ++ drop n row) same ∙ take-append-drop column row
+    ap (λ l. l ++ drop (column + 0) row) (append-nil (take column row)) ∙ ap (λ n. take column row ++ drop n row) same
+    ∙ take-append-drop column row
 
 module _ (base : List (List ℕ)) (row : ℕ) (within : row - 1 < length base) where
   -- to set a cell of a row of the screen is to put in its place the row with that cell
-  with_cell_put : (cells : List ℕ) (column cell : ℕ) → with_cell (set base (row - 1) cells) row column cell ≡ set base (row - 1) (set cells column cell)
+  with_cell_put : (cells : List ℕ) (column cell : ℕ)
+      → with_cell (set base (row - 1) cells) row column cell ≡ set base (row - 1) (set cells column cell)
   with_cell_put cells column cell =
-      ap (λ l. set (set base (row - 1) cells) (row - 1) (set l column cell)) (get_or-set_same base (row - 1) cells [] within) ∙ set-set base (row - 1) cells (set cells column cell)
+      ap (λ l. set (set base (row - 1) cells) (row - 1) (set l column cell)) (get_or-set_same base (row - 1) cells [] within)
+      ∙ set-set base (row - 1) cells (set cells column cell)
 
   -- a cell that is written in a row stands there, and the cursor behind it
-  written_put : (cells : List ℕ) (column cell : ℕ) → written (at (set base (row - 1) cells) row column) cell ≡ behind (set base (row - 1) (set cells column cell)) row (column + 1)
+  written_put : (cells : List ℕ) (column cell : ℕ)
+      → after_cell (at (set base (row - 1) cells) row column) cell ≡ behind (set base (row - 1) (set cells column cell)) row (column + 1)
   written_put cells column cell =
       let rows = set base (row - 1) (set cells column cell) in
       let test : eqb column 39 ≡ eqb (column + 1) 40 = grind (arith, nat_tests) in
@@ -82,7 +92,9 @@ module _ (base : List (List ℕ)) (row : ℕ) (within : row - 1 < length base) w
       ∙ ap (λ t. cond t (at rows (row_below row) 0) (at rows row (column + 1))) test
 
   -- the bytes of cells that fit into the rest of a row write them from the cursor on
-  cells_shown : (cells old : List ℕ) (column : ℕ) → All IsCell cells → length old ≡ 40 → column < 40 → column + length cells ≤ 40 → terminal_after (at (set base (row - 1) old) row column) (cells_bytes cells) ≡ behind (set base (row - 1) (overwritten column cells old)) row (column + length cells)
+  cells_shown : (cells old : List ℕ) (column : ℕ) → All IsCell cells → length old ≡ 40 → column < 40 → column + length cells ≤ 40
+      → terminal_after (at (set base (row - 1) old) row column) (cells_bytes cells) ≡ behind
+      (set base (row - 1) (overwritten column cells old)) row (column + length cells)
   cells_shown [] old column fits width start room =
       let same : column + 0 ≡ column = omega arith in
       sym (
@@ -94,21 +106,26 @@ module _ (base : List (List ℕ)) (row : ℕ) (within : row - 1 < length base) w
       let changed = set old column cell in
       let first =
       fold-append after_byte (at (set base (row - 1) old) row column) (cell_bytes cell) (cells_bytes cells)
-      ∙ ap (λ (d : Display). terminal_after d (cells_bytes cells)) (cell_shown (set base (row - 1) old) row column cell (All-head IsCell cell cells fits) ∙ written_put old column cell)
+      ∙ ap (λ (d : Display). terminal_after d (cells_bytes cells))
+      (cell_shown (set base (row - 1) old) row column cell (All-head IsCell cell cells fits) ∙ written_put old column cell)
       in
       let one = overwritten_one old column cell (omega arith) in
       elim (cases_lt (column + 1) 40) [
         | inl more ↦
-            let both = ap (overwritten (column + 1) cells) one ∙ overwritten-overwritten old column (cell ∷ []) cells (column + 1) refl (omega arith) in
+            let both = ap (overwritten (column + 1) cells) one
+            ∙ overwritten-overwritten old column (cell ∷ []) cells (column + 1) refl (omega arith) in
             let far : column + 1 + length cells ≡ column + suc (length cells) = omega arith in
             first
             ∙ ap (λ (d : Display). terminal_after d (cells_bytes cells)) (behind_inside (set base (row - 1) changed) row (column + 1) more)
-            ∙ cells_shown cells changed (column + 1) (All-tail IsCell cell cells fits) (length-set old column cell ∙ width) more (omega arith)
+            ∙ cells_shown cells changed (column + 1) (All-tail IsCell cell cells fits) (length-set old column cell
+            ∙ width) more (omega arith)
             ∙ ap (λ l. behind (set base (row - 1) l) row (column + 1 + length cells)) both
             ∙ ap (behind (set base (row - 1) (overwritten column (cell ∷ cells) old)) row) far
         | inr end ↦
             let none = nil_from_length cells (omega arith) in
-            let Shown : List ℕ → Type 0 = λ l. terminal_after (behind (set base (row - 1) changed) row (column + 1)) (cells_bytes l) ≡ behind (set base (row - 1) (overwritten column (cell ∷ l) old)) row (column + suc (length l)) in
+            let Shown : List ℕ
+            → Type 0 = λ l. terminal_after (behind (set base (row - 1) changed) row (column + 1)) (cells_bytes l) ≡ behind
+            (set base (row - 1) (overwritten column (cell ∷ l) old)) row (column + suc (length l)) in
             first ∙ subst Shown (sym none) (ap (λ l. behind (set base (row - 1) l) row (column + 1)) one)
       ]
 
@@ -126,7 +143,8 @@ spaces_behind row =
     let count = suffix_len is_space row in
     let some = suffix_len-le-length is_space row in
     let spaces : List ℕ = replicate count 32 in
-    let long : length (drop (length row - count) row) ≡ length spaces = omega (arith, length-drop (length row - count) row, length-replicate {A = ℕ} count 32) in
+    let long : length (drop (length row - count) row) ≡ length spaces =
+    omega (arith, length-drop (length row - count) row, length-replicate {A = ℕ} count 32) in
     same_lists (drop (length row - count) row) spaces long (λ k d inside.
     let space : k < count = omega (arith, length-drop (length row - count) row) in
     let back : count - 1 - k < count = omega arith in
@@ -138,42 +156,46 @@ spaces_behind row =
     ∙ sym (get_or-replicate count k 32 d space))
 
 -- what is shown of a row, over a row of spaces, is the row
-shown_over_spaces : (row : List ℕ) → length row ≡ 40 → overwritten 0 (shown row) blank_row ≡ row
+shown_over_spaces : (row : List ℕ) → length row ≡ 40 → overwritten 0 (shown_cells row) blank_row ≡ row
 shown_over_spaces row width =
     let count = suffix_len is_space row in
     let some = suffix_len-le-length is_space row in
     let end = length row - count in
-    let long : length (shown row) ≡ end = length-take-le end row (omega arith) in
-    let left : 40 - (0 + length (shown row)) ≡ count = omega arith in
-    let rest : drop (0 + length (shown row)) blank_row ≡ drop end row =
-    drop-replicate (0 + length (shown row)) 40 32 ∙ ap (λ n. replicate n 32) left ∙ sym (spaces_behind row)
+    let long : length (shown_cells row) ≡ end = length-take-le end row (omega arith) in
+    let left : 40 - (0 + length (shown_cells row)) ≡ count = omega arith in
+    let rest : drop (0 + length (shown_cells row)) blank_row ≡ drop end row =
+    drop-replicate (0 + length (shown_cells row)) 40 32 ∙ ap (λ n. replicate n 32) left ∙ sym (spaces_behind row)
     in
-    let whole : shown row ++ drop end row ≡ row = take-append-drop end row in
-    ◌∙◌ {b = shown row ++ drop end row} (ap (λ l. shown row ++ l) rest) whole
+    let whole : shown_cells row ++ drop end row ≡ row = take-append-drop end row in
+    ◌∙◌ {b = shown_cells row ++ drop end row} (ap (λ l. shown_cells row ++ l) rest) whole
 
 -- what is shown of a row is cells
-fits_shown : (row : List ℕ) → IsRow row → All IsCell (shown row)
+fits_shown : (row : List ℕ) → IsRow row → All IsCell (shown_cells row)
 fits_shown row is = All-take IsCell (length row - suffix_len is_space row) row is.seven_bits
 
 module _ (base : List (List ℕ)) (row : ℕ) (within : row - 1 < length base) where
   -- the bytes of a row, taken at the start of a row of spaces, make it that row
-  row_shown : (cells : List ℕ) → IsRow cells → terminal_after (at (set base (row - 1) blank_row) row 0) (row_bytes cells) ≡ behind (set base (row - 1) cells) row (0 + length (shown cells))
+  row_shown : (cells : List ℕ) → IsRow cells
+      → terminal_after (at (set base (row - 1) blank_row) row 0) (row_bytes cells) ≡ behind (set base (row - 1) cells) row
+      (0 + length (shown_cells cells))
   row_shown cells is =
-      cells_shown base row within (shown cells) blank_row 0 (fits_shown cells is) refl (lit< tt) (omega (arith, length-shown-le cells, is.width))
-      ∙ ap (λ l. behind (set base (row - 1) l) row (0 + length (shown cells))) (shown_over_spaces cells is.width)
+      cells_shown base row within (shown_cells cells) blank_row 0 (fits_shown cells is) refl (lit< tt)
+      (omega (arith, length-shown-le cells, is.width))
+      ∙ ap (λ l. behind (set base (row - 1) l) row (0 + length (shown_cells cells))) (shown_over_spaces cells is.width)
 
   -- so do the bytes of its line, and they leave the cursor at the start of the next row
-  line_shown : (cells : List ℕ) → IsRow cells → row < 24 → terminal_after (at (set base (row - 1) blank_row) row 0) (line_bytes cells) ≡ at (set base (row - 1) cells) (row + 1) 0
+  line_shown : (cells : List ℕ) → IsRow cells → row < 24
+      → terminal_after (at (set base (row - 1) blank_row) row 0) (line_bytes cells) ≡ at (set base (row - 1) cells) (row + 1) 0
   line_shown cells is above =
       let end = line_end cells in
-      let column = 0 + length (shown cells) in
+      let column = 0 + length (shown_cells cells) in
       let rows = set base (row - 1) cells in
       let below : row_below row ≡ row + 1 = grind (arith, nat_tests) in
       let whole =
       fold-append after_byte (at (set base (row - 1) blank_row) row 0) (row_bytes cells) end
       ∙ ap (λ (d : Display). terminal_after d end) (row_shown cells is)
       in
-      elim (cases_lt (length (shown cells)) 40) [
+      elim (cases_lt (length (shown_cells cells)) 40) [
         | inl short ↦
             whole
             ∙ ap (terminal_after (behind rows row column)) (line_end_short cells short)
@@ -191,7 +213,9 @@ abbrev blank_rows : List (List ℕ) → List (List ℕ)
 blank_rows lines = map (λ _. blank_row) lines
 
 -- lines, taken at the first of as many rows of spaces, stand in their place
-lines_shown : (lines above rest : List (List ℕ)) → All IsRow lines → length above + length lines < 24 → terminal_after (at (above ++ (blank_rows lines ++ rest)) (length above + 1) 0) (flat_map line_bytes lines) ≡ at (above ++ (lines ++ rest)) (length above + length lines + 1) 0
+lines_shown : (lines above rest : List (List ℕ)) → All IsRow lines → length above + length lines < 24
+    → terminal_after (at (above ++ (blank_rows lines ++ rest)) (length above + 1) 0) (flat_map line_bytes lines) ≡ at
+    (above ++ (lines ++ rest)) (length above + length lines + 1) 0
 lines_shown [] above rest are room =
     let same : length above + 1 ≡ length above + 0 + 1 = omega arith in
     ap (λ n. at (above ++ rest) n 0) same
@@ -203,13 +227,16 @@ lines_shown (line ∷ lines) above rest are room =
     let place : length above ≡ row - 1 = omega arith in
     let within : row - 1 < length base = omega (arith, length-append above (blank_row ∷ tail)) in
     let before : set base (row - 1) blank_row ≡ base = set_at above blank_row tail blank_row (row - 1) place in
-    let after : set base (row - 1) line ≡ next ++ tail = set_at above blank_row tail line (row - 1) place ∙ sym (append_assoc above (line ∷ []) tail) in
+    let after : set base (row - 1) line ≡ next ++ tail = set_at above blank_row tail line (row - 1) place
+    ∙ sym (append_assoc above (line ∷ []) tail) in
     let height : length next ≡ row = omega (arith, length-append above (line ∷ [])) in
     let one = line_shown base row within line (All-head IsRow line lines are) (omega arith) in
     let others = lines_shown lines next rest (All-tail IsRow line lines are) (omega arith) in
     let down : length next + length lines + 1 ≡ length above + suc (length lines) + 1 = omega arith in
     fold-append after_byte (at base row 0) (line_bytes line) (flat_map line_bytes lines)
-    ∙ ap (λ (d : Display). terminal_after d (flat_map line_bytes lines)) (ap (λ l. terminal_after (at l row 0) (line_bytes line)) (sym before) ∙ one ∙ ap (λ l. at l (row + 1) 0) after ∙ ap (λ n. at (next ++ tail) (n + 1) 0) (sym height))
+    ∙ ap (λ (d : Display). terminal_after d (flat_map line_bytes lines))
+    (ap (λ l. terminal_after (at l row 0) (line_bytes line)) (sym before) ∙ one ∙ ap (λ l. at l (row + 1) 0) after
+    ∙ ap (λ n. at (next ++ tail) (n + 1) 0) (sym height))
     ∙ others
     ∙ ap (λ l. at l (length next + length lines + 1) 0) (append_assoc above (line ∷ []) (lines ++ rest))
     ∙ ap (λ n. at (above ++ (line ∷ (lines ++ rest))) n 0) down
@@ -223,39 +250,46 @@ cells-behind rows row column =
 -- where they are a grid, the terminal is ready for the next bytes
 IsReady-behind : (rows : List (List ℕ)) (row column : ℕ) → IsGrid rows → IsReady (behind rows row column)
 IsReady-behind rows row column is =
-    cond_both (eqb column 40) (at rows (row_below row) 0) (at rows row column) IsReady (λ _. record { cells = is; first = refl }) (λ _. record { cells = is; first = refl })
+    cond_both (eqb column 40) (at rows (row_below row) 0) (at rows row column) IsReady (λ _. record { cells = is; first = refl })
+    (λ _. record { cells = is; first = refl })
 
 -- after the bytes of a screen the terminal shows it, whatever it showed
-painted_shown : (grid : List (List ℕ)) (d : Display) → IsGrid grid → IsFalse d.waiting → terminal_after d (painted grid) ≡ behind grid 24 (0 + length (shown (get_or grid 23 [])))
+painted_shown : (grid : List (List ℕ)) (d : Display) → IsGrid grid → IsFalse d.waiting
+    → terminal_after d (painting_of grid) ≡ behind grid 24 (0 + length (shown_cells (get_or grid 23 [])))
 painted_shown grid d is first =
     let above = take 23 grid in
     let last = get_or grid 23 [] in
     let base = above ++ blank_row ∷ [] in
-    let column = 0 + length (shown last) in
+    let column = 0 + length (shown_cells last) in
     let height : length above ≡ 23 = length-take-le 23 grid (omega (arith, is.height)) in
     let within : 24 - 1 < length base = omega (arith, length-append above (blank_row ∷ [])) in
-    let whole : above ++ last ∷ [] ≡ grid = sym (take_more grid 23 [] (omega (arith, is.height))) ∙ take_all 24 grid (omega (arith, is.height)) in
-    let blank : replicate 24 blank_row ≡ blank_rows above ++ blank_row ∷ [] = ap (λ l. l ++ blank_row ∷ []) (splat_is_map above 23 blank_row height) in
+    let whole : above ++ last ∷ [] ≡ grid = sym (take_more grid 23 [] (omega (arith, is.height)))
+    ∙ take_all 24 grid (omega (arith, is.height)) in
+    let blank_grid : replicate 24 blank_row ≡ blank_rows above ++ blank_row ∷ [] =
+    ap (λ l. l ++ blank_row ∷ []) (splat_is_map above 23 blank_row height) in
     let bottom : 0 + length above + 1 ≡ 24 = omega arith in
     let before : set base 23 blank_row ≡ base = set_at above blank_row [] blank_row 23 height in
     let after : set base 23 last ≡ grid = set_at above blank_row [] last 23 height ∙ whole in
-    ap (λ (e : Display). terminal_after e (painted grid)) (ready d first)
+    ap (λ (e : Display). terminal_after e (painting_of grid)) (ready d first)
     ∙ fold-append after_byte (at (replicate 24 blank_row) 1 0) (flat_map line_bytes above) (row_bytes last)
-    ∙ ap (λ rows. terminal_after (terminal_after (at rows 1 0) (flat_map line_bytes above)) (row_bytes last)) blank
-    ∙ ap (λ (e : Display). terminal_after e (row_bytes last)) (lines_shown above [] (blank_row ∷ []) (All-take IsRow 23 grid is.rows) (omega arith))
+    ∙ ap (λ rows. terminal_after (terminal_after (at rows 1 0) (flat_map line_bytes above)) (row_bytes last)) blank_grid
+    ∙ ap (λ (e : Display). terminal_after e (row_bytes last))
+    (lines_shown above [] (blank_row ∷ []) (All-take IsRow 23 grid is.rows) (omega arith))
     ∙ ap (λ n. terminal_after (at base n 0) (row_bytes last)) bottom
     ∙ ap (λ rows. terminal_after (at rows 24 0) (row_bytes last)) (sym before)
     ∙ row_shown base 24 within last (All-get_or IsRow grid 23 [] (omega (arith, is.height)) is.rows)
     ∙ ap (λ rows. behind rows 24 column) after
 
 -- after a message's bytes row 24 has its cells, and the other rows are as they were
-message_shown : (cells : List ℕ) (d : Display) → IsRow cells → IsGrid d.cells → IsFalse d.waiting → terminal_after d (message_text cells) ≡ behind (set d.cells 23 cells) 24 (0 + length cells)
+message_shown : (cells : List ℕ) (d : Display) → IsRow cells → IsGrid d.cells → IsFalse d.waiting
+    → terminal_after d (message_text cells) ≡ behind (set d.cells 23 cells) 24 (0 + length cells)
 message_shown cells d is grid first =
     let rows = d.cells in
     let old = get_or rows 23 [] in
     let within : 24 - 1 < length rows = omega (arith, grid.height) in
     let was : IsRow old = All-get_or IsRow rows 23 [] within grid.rows in
-    let all : overwritten 0 cells old ≡ cells = ap (λ l. cells ++ l) (drop_all (0 + length cells) old (omega (arith, was.width, is.width))) ∙ append-nil cells in
+    let all : overwritten 0 cells old ≡ cells =
+    ap (λ l. cells ++ l) (drop_all (0 + length cells) old (omega (arith, was.width, is.width))) ∙ append-nil cells in
     ap (λ (e : Display). terminal_after e (message_text cells)) (ready d first)
     ∙ ap (λ l. terminal_after (at l 24 0) (cells_bytes cells)) (sym (set-get_or rows 23 []))
     ∙ cells_shown rows 24 within cells old 0 is.seven_bits was.width (lit< tt) (omega (arith, is.width))
@@ -271,7 +305,8 @@ IsGrid-last_row rows cells grid is = record {
 -- what is the last row of a grid is a row
 pub IsRow-last : (rows : List (List ℕ)) (cells : List ℕ) → length rows ≡ 24 → IsGrid (set rows 23 cells) → IsRow cells
 IsRow-last rows cells height is =
-    subst IsRow (get_or-set_same rows 23 cells [] (omega arith)) (All-get_or IsRow (set rows 23 cells) 23 [] (omega (arith, is.height)) is.rows)
+    subst IsRow (get_or-set_same rows 23 cells [] (omega arith))
+    (All-get_or IsRow (set rows 23 cells) 23 [] (omega (arith, is.height)) is.rows)
 
 -- a new terminal is ready
 pub IsReady-new : IsReady new_display
@@ -279,30 +314,33 @@ IsReady-new = record { cells = IsGrid-blank; first = refl }
 
 module _ (grid : List (List ℕ)) (is : IsGrid grid) (d : Display) (first : IsFalse d.waiting) where
   -- a terminal that takes the bytes of a painted grid shows that grid
-  pub painted_shows : (terminal_after d (painted grid)).cells ≡ grid
+  pub painted_shows : (terminal_after d (painting_of grid)).cells ≡ grid
   painted_shows =
-      ap (λ (e : Display). e.cells) (painted_shown grid d is first) ∙ cells-behind grid 24 (0 + length (shown (get_or grid 23 [])))
+      ap (λ (e : Display). e.cells) (painted_shown grid d is first) ∙ cells-behind grid 24 (0 + length (shown_cells (get_or grid 23 [])))
 
   -- and is ready for the next bytes
-  pub painted_ready : IsReady (terminal_after d (painted grid))
+  pub painted_ready : IsReady (terminal_after d (painting_of grid))
   painted_ready =
-      subst IsReady (sym (painted_shown grid d is first)) (IsReady-behind grid 24 (0 + length (shown (get_or grid 23 []))) is)
+      subst IsReady (sym (painted_shown grid d is first)) (IsReady-behind grid 24 (0 + length (shown_cells (get_or grid 23 []))) is)
 
 module _ (cells : List ℕ) (is : IsRow cells) (d : Display) (before : IsReady d) where
   -- a terminal that takes the bytes of a message shows it in row 24, and in the other rows what it showed
   pub message_shows : (terminal_after d (message_text cells)).cells ≡ set d.cells 23 cells
   message_shows =
-      ap (λ (e : Display). e.cells) (message_shown cells d is before.cells before.first) ∙ cells-behind (set d.cells 23 cells) 24 (0 + length cells)
+      ap (λ (e : Display). e.cells) (message_shown cells d is before.cells before.first)
+      ∙ cells-behind (set d.cells 23 cells) 24 (0 + length cells)
 
   -- and is ready for the next bytes
   pub message_ready : IsReady (terminal_after d (message_text cells))
   message_ready =
-      subst IsReady (sym (message_shown cells d is before.cells before.first)) (IsReady-behind (set d.cells 23 cells) 24 (0 + length cells) (IsGrid-last_row d.cells cells before.cells is))
+      subst IsReady (sym (message_shown cells d is before.cells before.first))
+      (IsReady-behind (set d.cells 23 cells) 24 (0 + length cells) (IsGrid-last_row d.cells cells before.cells is))
 
 -- a message after a painted screen changes its row 24 alone
-pub message_after_painted : (grid : List (List ℕ)) (cells : List ℕ) (d : Display) → IsGrid grid → IsRow cells → IsFalse d.waiting → (terminal_after d (painted grid ++ message_text cells)).cells ≡ set grid 23 cells
+pub message_after_painted : (grid : List (List ℕ)) (cells : List ℕ) (d : Display) → IsGrid grid → IsRow cells → IsFalse d.waiting
+    → (terminal_after d (painting_of grid ++ message_text cells)).cells ≡ set grid 23 cells
 message_after_painted grid cells d is row first =
-    let painting = terminal_after d (painted grid) in
-    ap (λ (e : Display). e.cells) (fold-append after_byte d (painted grid) (message_text cells))
+    let painting = terminal_after d (painting_of grid) in
+    ap (λ (e : Display). e.cells) (fold-append after_byte d (painting_of grid) (message_text cells))
     ∙ message_shows cells row painting (painted_ready grid is d first)
     ∙ ap (λ rows. set rows 23 cells) (painted_shows grid is d first)

@@ -1,6 +1,7 @@
 -- The screen of a frame: which cell stands where.
 use Rattle.std.specs.Prelude.{ℕ, ◌-◌, ◌==◌, List, [], ◌∷◌, ◌++◌, length, replicate, codes, decimal, if◌then◌else◌}
 use Rattle.std.specs.Simd.{first_chunks}
+use Rattle.pv_fields.specs.Padded.{padded_list}
 use Rattle.pv_page.specs.Names.{Name, name_text}
 use Rattle.pv_frame.specs.Content.{Content}
 use Rattle.pv_frame.specs.declared.layout.TheConstants.{BODY_ROWS}
@@ -14,7 +15,7 @@ spaces count = replicate count SPACE
 
 -- a text at the left of so many cells, with spaces behind it
 abbrev pub at_left : ℕ → List ℕ → List ℕ
-at_left width text = text ++ spaces (width - length text)
+at_left width text = padded_list SPACE width text
 
 -- a text at the right of so many cells, with spaces before it
 abbrev pub at_right : ℕ → List ℕ → List ℕ
@@ -37,5 +38,5 @@ abbrev pub body_rows : List ℕ → List (List ℕ)
 body_rows body = first_chunks COLUMNS BODY_ROWS body
 
 -- row 1 is the heading, rows 2 to 23 are the body, and row 24 is blank
-abbrev pub composed : Content → Name → List (List ℕ)
-composed frame name = heading frame name ∷ body_rows frame.body ++ spaces COLUMNS ∷ []
+abbrev pub composed_grid : Content → Name → List (List ℕ)
+composed_grid frame name = heading frame name ∷ body_rows frame.body ++ spaces COLUMNS ∷ []

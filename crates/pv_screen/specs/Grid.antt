@@ -15,5 +15,5 @@ pub record IsGrid (grid : List (List ℕ)) : Type 0 where
   pub rows : All IsRow grid
 
 -- the grid of which every cell is a space
-abbrev pub blank : List (List ℕ)
-blank = replicate ROWS (replicate COLUMNS SPACE)
+abbrev pub blank_grid : List (List ℕ)
+blank_grid = replicate ROWS (replicate COLUMNS SPACE)

@@ -1,6 +1,6 @@
 -- A viewdata terminal: what it holds, and what each byte does to it. It knows nothing of painting.
 use Rattle.std.specs.Prelude.{ℕ, ◌+◌, ◌-◌, ◌≤◌, ◌<◌, Bool, true, false, IsFalse, ◌&&◌, List, [], fold, slice_set, slice_index_or, nat_le, ◌==◌, if◌then◌else◌}
-use Rattle.pv_screen.specs.Grid.{IsGrid, blank}
+use Rattle.pv_screen.specs.Grid.{IsGrid, blank_grid}
 use Rattle.pv_screen.specs.declared.grid.TheConstants.{ROWS, COLUMNS}
 use Rattle.pv_screen.specs.declared.codes.TheConstants.{BACK, FORWARD, DOWN, UP, CLEAR, RETURN, ESCAPE, HOME, SPACE, LAST_CELL, ATTRIBUTES, LAST_ATTRIBUTE}
 
@@ -25,7 +25,7 @@ pub record IsReady (display : Display) : Type 0 where
 
 -- the terminal as it is switched on
 abbrev pub new_display : Display
-new_display = record { cells = blank; row = 1; column = 0; waiting = false }
+new_display = record { cells = blank_grid; row = 1; column = 0; waiting = false }
 
 -- the row below the last is the first
 abbrev pub row_below : ℕ → ℕ
@@ -63,7 +63,7 @@ back display =
 
 -- every cell a space, and the cursor home
 abbrev pub clear : Display → Display
-clear display = home (record display { cells = blank })
+clear display = home (record display { cells = blank_grid })
 
 -- rows with another cell at one place
 abbrev pub with_cell : List (List ℕ) → ℕ → ℕ → ℕ → List (List ℕ)
@@ -71,14 +71,14 @@ with_cell rows row column cell =
     slice_set rows (row - 1) (slice_set (slice_index_or rows (row - 1) []) column cell)
 
 -- the cell at the cursor is written, and the cursor goes forward
-abbrev pub written : Display → ℕ → Display
-written display cell =
+abbrev pub after_cell : Display → ℕ → Display
+after_cell display cell =
     forward (record display { cells = with_cell display.cells display.row display.column cell })
 
 -- what a byte does that does not stand behind an escape
 abbrev pub after_first : Display → ℕ → Display
 after_first display byte =
-    if nat_le SPACE byte && nat_le byte LAST_CELL then written display byte
+    if nat_le SPACE byte && nat_le byte LAST_CELL then after_cell display byte
     else (if byte == ESCAPE then record display { waiting = true }
     else (if byte == BACK then back display
     else (if byte == FORWARD then forward display
@@ -92,7 +92,7 @@ after_first display byte =
 -- what a byte does behind an escape: 0x40 to 0x5F writes an attribute, and any other does nothing
 abbrev pub after_second : Display → ℕ → Display
 after_second display byte =
-    if nat_le ATTRIBUTES byte && nat_le byte LAST_ATTRIBUTE then written display (byte - ATTRIBUTES) else display
+    if nat_le ATTRIBUTES byte && nat_le byte LAST_ATTRIBUTE then after_cell display (byte - ATTRIBUTES) else display
 
 -- what a byte does; the byte behind an escape is not read in any other way
 abbrev pub after_byte : Display → ℕ → Display

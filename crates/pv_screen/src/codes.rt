@@ -34,10 +34,10 @@ pub const HOME: u8 = 0x1E;
 /// The space, the lowest cell that is no attribute.
 pub const SPACE: u8 = 0x20;
 
-/// The byte of attribute 0 behind an escape: attribute `a` is sent as an escape and `ATTRIBUTES + a`.
+/// The byte of attribute 0 after an escape: attribute `a` is sent as an escape and `ATTRIBUTES + a`.
 pub const ATTRIBUTES: u8 = 0x40;
 
-/// The highest byte that is an attribute behind an escape.
+/// The highest byte that is an attribute after an escape.
 pub const LAST_ATTRIBUTE: u8 = 0x5F;
 
 /// The highest cell.

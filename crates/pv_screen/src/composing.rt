@@ -1,30 +1,31 @@
-ghost use Rattle.std.specs.Prelude.{◌≡◌, ◌+◌, ◌-◌, ◌≤◌, List, [], ◌∷◌, ◌++◌, length, take, drop, slice_index_or, slice_range, All};
+ghost use Rattle.std.specs.Prelude.{◌≡◌, ◌+◌, ◌-◌, ◌≤◌, [], ◌∷◌, ◌++◌, length, take, drop, slice_index_or, slice_range, All};
 ghost use Rattle.std.specs.List.{concat};
+ghost use Rattle.pv_fields.specs.Out.{Appends, room_of};
 ghost use Rattle.pv_page.specs.Names.{IsName, name_text};
 ghost use Rattle.pv_cells.specs.Row.{IsCell};
 ghost use Rattle.pv_frame.specs.declared.layout.TheConstants.{LAST_PRICE, TITLE_CELLS};
-ghost use Rattle.pv_frame.specs.Sound.{HasRanges};
-ghost use Rattle.pv_screen.specs.Composing.{composed, heading, body_rows, price_text, spaces};
+ghost use Rattle.pv_frame.specs.Errors.{HasRanges};
+ghost use Rattle.pv_screen.specs.Composing.{composed_grid, heading, body_rows, price_text, spaces, at_left, at_right};
 ghost use Rattle.pv_screen.specs.Grid.{IsGrid, IsRow};
-ghost use Rattle.pv_screen.specs.Overwriting.{overwritten};
 
 use crate::codes::SPACE;
 use crate::grid::{COLUMNS, Grid, ROWS};
 use itoa::Buffer;
+use pv_fields::Out;
 use pv_frame::{BODY_CELLS, Frame, LAST_PRICE, TITLE_CELLS};
 use pv_page::FrameName;
 
-/// The column of row 1 where a frame's name begins, counted from 0.
+/// The column of row 1 at which a frame's name begins, counted from 0.
 pub const NAME_COLUMN: usize = 25;
 
-/// The first of the columns of row 1 that a price has, at whose right end it stands.
+/// The first of the columns of row 1 that a price has. The price ends with the last one.
 pub const PRICE_COLUMN: usize = 36;
 
 /// The screen of a frame: its title, its name and its price in row 1, its body in rows 2 to 23, and a blank row 24.
-/// The cells of the frame and its price are within their ranges.
+/// The cells of the frame and its price must be in range.
 pub fn compose(frame: &Frame, name: FrameName) -> Grid
     requires { HasRanges frame.now }
-    ensures value { result ≡ composed frame.now name }
+    ensures value { result ≡ composed_grid frame.now name }
     ensures cells { IsGrid result }
 
     // Row 1 begins with the title, has the name from its column on, and ends with the price.
@@ -32,13 +33,11 @@ pub fn compose(frame: &Frame, name: FrameName) -> Grid
     ensures name { take (length (name_text name)) (drop NAME_COLUMN (slice_index_or result 0 [])) ≡ name_text name }
     ensures price { drop (COLUMNS - length (price_text frame.now.price)) (slice_index_or result 0 []) ≡ price_text frame.now.price }
 
-    // Rows 2 to 23, one behind the other, are the body, and row 24 is blank.
+    // Rows 2 to 23, one after another, are the body, and row 24 is blank.
     ensures body { concat (slice_range result 1 (ROWS - 1)) ≡ frame.now.body }
     ensures foot { slice_index_or result (ROWS - 1) [] ≡ spaces COLUMNS }
 {
-    let mut grid = with_body(&frame.body);
-    grid.set_row(1, &heading(frame, name));
-    grid
+    Grid::of_parts(&heading(frame, name), &frame.body)
 }
 
 /// Row 1 of a frame's screen.
@@ -48,52 +47,57 @@ fn heading(frame: &Frame, name: FrameName) -> [u8; COLUMNS]
     ensures row { IsRow result }
 {
     let mut row = [SPACE; COLUMNS];
-    put(&frame.title, &mut row, 0);
-    put_name(name, &mut row);
-    put_price(frame.price, &mut row);
+    put_heading(frame, name, &mut row);
     row
 }
 
-/// Writes a frame's name from its column on.
-fn put_name(name: FrameName, row: &mut [u8; COLUMNS])
-    ensures value { row.new ≡ overwritten NAME_COLUMN (name_text name) row.old }
+/// Writes row 1 of a frame's screen.
+fn put_heading(frame: &Frame, name: FrameName, row: &mut [u8; COLUMNS])
+    requires { HasRanges frame.now }
+    ensures value { row.new ≡ heading frame.now name }
+    ensures row { IsRow row.new }
+{
+    let mut out = Out::new(row);
+    out.put_run(&frame.title);
+    out.put_u8(SPACE);
+    put_name(name, &mut out);
+    put_price(frame.price, &mut out);
+}
+
+/// Appends a frame's name, and then spaces up to the price.
+fn put_name(name: FrameName, out: &mut Out)
+    requires { PRICE_COLUMN - NAME_COLUMN ≤ room_of out.old }
+    ensures bytes { Appends out.old out.new (at_left (PRICE_COLUMN - NAME_COLUMN) (name_text name)) }
     ensures within { IsName name }
 {
     let mut text = [0; 10];
     let len = name.text(&mut text);
-    put(&text[..len], row, NAME_COLUMN);
+    out.put_run(&text[..len]);
+    put_spaces(PRICE_COLUMN - NAME_COLUMN - len, out);
 }
 
-/// Writes a price so that it ends with the row.
-fn put_price(price: u16, row: &mut [u8; COLUMNS])
-    requires { price ≤ LAST_PRICE }
-    ensures { row.new ≡ overwritten (COLUMNS - length (price_text price)) (price_text price) row.old }
+/// Appends a price after spaces, so that it ends with the row.
+fn put_price(price: u16, out: &mut Out)
+    requires price { price ≤ LAST_PRICE }
+    requires room { COLUMNS - PRICE_COLUMN ≤ room_of out.old }
+    ensures { Appends out.old out.new (at_right (COLUMNS - PRICE_COLUMN) (price_text price)) }
 {
-    if price > 0 {
-        let mut buffer = Buffer::new();
-        let digits = buffer.format(price).as_bytes();
-        put(digits, row, COLUMNS - 1 - digits.len());
-        put(b"p", row, COLUMNS - 1);
+    if price == 0 {
+        put_spaces(COLUMNS - PRICE_COLUMN, out);
+        return;
     }
+    let mut buffer = Buffer::new();
+    let digits = buffer.format(price).as_bytes();
+    put_spaces(COLUMNS - PRICE_COLUMN - digits.len() - 1, out);
+    out.put_run(digits);
+    out.put_u8(b'p');
 }
 
-/// Writes cells from a column on.
-fn put(cells: &[u8], row: &mut [u8; COLUMNS], column: usize)
-    requires { column + length cells.now ≤ COLUMNS }
-    ensures { row.new ≡ overwritten column cells.now row.old }
+/// Appends spaces.
+fn put_spaces(count: usize, out: &mut Out)
+    requires few { count ≤ COLUMNS }
+    requires room { count ≤ room_of out.old }
+    ensures { Appends out.old out.new (spaces count) }
 {
-    row[column..column + cells.len()].copy_from_slice(cells);
-}
-
-/// A screen with a body in rows 2 to 23, whose other rows are blank.
-fn with_body(body: &[u8; BODY_CELLS]) -> Grid
-    requires { All IsCell body.now }
-    ensures { result ≡ spaces COLUMNS ∷ body_rows body.now ++ spaces COLUMNS ∷ [] }
-{
-    let mut grid = Grid::blank();
-    let (rows, _) = body.as_chunks::<COLUMNS>();
-    for (at, cells) in rows.iter().enumerate() {
-        grid.set_row(at as u8 + 2, cells);
-    }
-    grid
+    out.put_run(&[SPACE; COLUMNS][..count]);
 }

@@ -1,13 +1,14 @@
-ghost use Rattle.std.specs.Prelude.{◌≡◌, ◌-◌, ◌<◌, ◌≤◌, All, Some, slice_get, slice_set};
+ghost use Rattle.std.specs.Prelude.{◌≡◌, ◌-◌, ◌<◌, ◌≤◌, [], ◌∷◌, ◌++◌, All, Some, take, slice_get, slice_set, slice_index_or};
 ghost use Rattle.pv_cells.specs.Row.{IsCell};
 
 use crate::codes::SPACE;
+use pv_frame::BODY_CELLS;
 use std::marker::Model;
 
-/// How many rows a screen has.
+/// The number of rows of a screen.
 pub const ROWS: usize = 24;
 
-/// How many positions a row has.
+/// The number of positions of a row.
 pub const COLUMNS: usize = 40;
 
 /// A whole screen: 24 rows of 40 cells, each of 0 to 127. Contracts see the list of its rows.
@@ -30,12 +31,13 @@ impl Model for Grid {
 }
 
 impl Grid {
-    ghost use Rattle.pv_screen.specs.Grid.{IsGrid, IsRow, blank};
+    ghost use Rattle.pv_screen.specs.Grid.{IsGrid, IsRow, blank_grid};
+    ghost use Rattle.pv_screen.specs.Composing.{body_rows, spaces};
     ghost use Rattle.pv_screen.specs.Terminal.{with_cell};
 
     /// A screen with every cell a space.
     pub fn blank() -> Self
-        ensures value { result ≡ blank }
+        ensures value { result ≡ blank_grid }
         ensures cells { IsGrid result }
     {
         Grid {
@@ -64,6 +66,28 @@ impl Grid {
         ensures { self.new ≡ slice_set self.old (row - 1) cells.now }
     {
         self.rows[row as usize - 1] = *cells;
+    }
+
+    /// A heading, the rows of a body, and a blank row.
+    pub(crate) fn of_parts(heading: &[u8; COLUMNS], body: &[u8; BODY_CELLS]) -> Self
+        requires heading { IsRow heading.now }
+        requires body { All IsCell body.now }
+        ensures { result ≡ heading.now ∷ body_rows body.now ++ spaces COLUMNS ∷ [] }
+    {
+        let mut rows = [[SPACE; COLUMNS]; ROWS];
+        rows[0] = *heading;
+        let (body, _) = body.as_chunks::<COLUMNS>();
+        rows[1..ROWS - 1].copy_from_slice(body);
+        Grid { rows }
+    }
+
+    /// The rows above the last one, and the last one.
+    pub(crate) fn lines(&self) -> (&[[u8; COLUMNS]], &[u8; COLUMNS])
+        ensures lines { result.0.now ≡ take (ROWS - 1) self.now }
+        ensures last { result.1.now ≡ slice_index_or self.now (ROWS - 1) [] }
+        ensures cells { IsGrid self.now }
+    {
+        (&self.rows[..ROWS - 1], &self.rows[ROWS - 1])
     }
 
     /// Puts a cell of 0 to 127 in a column, which is counted from 0 at the left, of a row, which is counted from 1.

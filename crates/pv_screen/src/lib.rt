@@ -27,8 +27,6 @@ mod laws;
 mod painting;
 mod screen;
 mod terminal;
-#[cfg(test)]
-mod tests;
 
 pub use composing::{NAME_COLUMN, PRICE_COLUMN, compose};
 pub use grid::{COLUMNS, Grid, ROWS};
@@ -36,3 +34,6 @@ pub use laws::{any_bytes_leave_a_screen, screens_are_shown};
 pub use painting::{BUFFER, LONGEST, message, paint};
 pub use screen::Screen;
 pub use terminal::Terminal;
+
+#[cfg(test)]
+mod tests;

@@ -1,47 +1,46 @@
-ghost use Rattle.std.specs.Prelude.{◌≡◌, ℕ, ◌+◌, ◌-◌, ◌*◌, ◌≤◌, List, [], ◌∷◌, ◌++◌, All, IsFalse, length, take, drop, slice_set};
+ghost use Rattle.std.specs.Prelude.{◌≡◌, ℕ, ◌+◌, ◌-◌, ◌*◌, ◌≤◌, List, ◌++◌, All, IsFalse, length, take, drop, slice_set};
+ghost use Rattle.std.specs.List.{flat_map, list_all};
 ghost use Rattle.pv_cells.specs.Row.{IsCell};
-ghost use Rattle.pv_screen.specs.Grid.{IsGrid};
+ghost use Rattle.pv_fields.specs.Out.{Appends, room_of};
+ghost use Rattle.pv_screen.specs.Grid.{IsGrid, IsRow};
 ghost use Rattle.pv_screen.specs.Terminal.{Display, IsReady, terminal_after};
-ghost use Rattle.pv_screen.specs.Painting.{painted, message_text, cell_bytes, cells_bytes, shown, line_bytes};
-ghost use Rattle.pv_screen.specs.Overwriting.{overwritten};
+ghost use Rattle.pv_screen.specs.Painting.{painting_of, message_text, cell_bytes, cells_bytes, is_plain, shown_cells, line_bytes};
 
 use crate::codes::{ATTRIBUTES, CLEAR, DOWN, ESCAPE, HOME, RETURN, SPACE, UP};
 use crate::grid::{COLUMNS, Grid, ROWS};
+use pv_fields::Out;
 
-/// How many bytes the caller's buffer has.
+/// The number of bytes of the caller's buffer.
 pub const BUFFER: usize = 2048;
 
-/// The most bytes that a screen is painted in: one to clear it, and two for each cell.
+/// The greatest number of bytes that paint a screen: one to clear it, and two for each cell.
 pub const LONGEST: usize = 1921;
 
-/// Writes the bytes that show `grid` to the front of `into`, and says how many they are.
+/// Writes the bytes that show `grid` to the beginning of `into`, and returns their number.
 pub fn paint(grid: &Grid, into: &mut [u8; BUFFER]) -> usize
-    ensures value { take result into.new ≡ painted grid.now }
-    ensures count { result ≡ length (painted grid.now) }
+    ensures value { take result into.new ≡ painting_of grid.now }
+    ensures count { result ≡ length (painting_of grid.now) }
     ensures within { result ≤ LONGEST }
-    ensures behind { drop result into.new ≡ drop result into.old }
+    ensures rest { drop result into.new ≡ drop result into.old }
 
-    // The terminal that takes these bytes shows the grid, whatever it showed. A new terminal is one of them; it only may
-    // not be waiting for the byte behind an escape, and it does not wait for one afterwards.
+    // The terminal that takes these bytes shows the grid, whatever it showed. A new terminal is one of
+    // them. It only may not wait for the byte after an escape, and it does not wait for one afterwards.
     ensures shows { (t : Display) → IsFalse t.waiting
         → (terminal_after t (take result into.new)).cells ≡ grid.now }
     ensures ready { (t : Display) → IsFalse t.waiting
         → IsReady (terminal_after t (take result into.new)) }
 {
-    into[0] = CLEAR;
-    let mut at = 1;
-    for row in 1..ROWS as u8 {
-        at = put_line(grid.row(row), into, at);
-    }
-    put_cells(shown(grid.row(ROWS as u8)), into, at)
+    let mut out = Out::new(into);
+    put_screen(grid, &mut out);
+    out.written()
 }
 
-/// Writes the bytes that put `cells` in row 24 to the front of `into`, and says how many they are.
+/// Writes the bytes that put `cells` in row 24 to the beginning of `into`, and returns their number.
 pub fn message(cells: &[u8; COLUMNS], into: &mut [u8; BUFFER]) -> usize
     ensures value { take result into.new ≡ message_text cells.now }
     ensures count { result ≡ length (message_text cells.now) }
     ensures within { result ≤ 2 + 2 * COLUMNS }
-    ensures behind { drop result into.new ≡ drop result into.old }
+    ensures rest { drop result into.new ≡ drop result into.old }
 
     // The terminal that takes these bytes shows the cells in row 24, and in the other rows what it showed.
     ensures shows { All IsCell cells.now → (t : Display) → IsReady t
@@ -52,73 +51,105 @@ pub fn message(cells: &[u8; COLUMNS], into: &mut [u8; BUFFER]) -> usize
     // After any painted screen, they change row 24 of that screen alone.
     ensures after_a_screen { All IsCell cells.now → (grid : List (List ℕ)) → IsGrid grid
         → (t : Display) → IsFalse t.waiting
-        → (terminal_after t (painted grid ++ take result into.new)).cells
+        → (terminal_after t (painting_of grid ++ take result into.new)).cells
         ≡ slice_set grid (ROWS - 1) cells.now }
 {
-    let at = put_pair(HOME, UP, into, 0);
-    put_cells(cells, into, at)
+    let mut out = Out::new(into);
+    out.put_run(&[HOME, UP]);
+    put_cells(cells, &mut out);
+    out.written()
 }
 
-/// Writes a row and its end from `at` on, and says where they end.
-fn put_line(row: &[u8; COLUMNS], into: &mut [u8], at: usize) -> usize
-    requires { at + 2 * COLUMNS ≤ length into.old }
-    ensures end { result ≡ at + length (line_bytes row.now) }
-    ensures value { into.new ≡ overwritten at (line_bytes row.now) into.old }
+/// Appends the bytes that show a screen.
+fn put_screen(grid: &Grid, out: &mut Out)
+    requires { LONGEST ≤ room_of out.old }
+    ensures bytes { Appends out.old out.new (painting_of grid.now) }
+    ensures cells { IsGrid grid.now }
 {
-    let cells = shown(row);
-    let end = put_cells(cells, into, at);
-    if cells.len() < COLUMNS {
-        put_pair(RETURN, DOWN, into, end)
-    } else {
-        end
+    out.put_u8(CLEAR);
+    let (lines, last) = grid.lines();
+    put_lines(lines, out);
+    put_row(last, out);
+}
+
+/// Appends rows and their ends.
+fn put_lines(rows: &[[u8; COLUMNS]], out: &mut Out)
+    requires rows { All IsRow rows.now }
+    requires room { 2 * COLUMNS * length rows.now ≤ room_of out.old }
+    ensures { Appends out.old out.new (flat_map line_bytes rows.now) }
+{
+    for row in rows {
+        put_line(row, out);
     }
 }
 
+/// Appends a row and its end.
+fn put_line(row: &[u8; COLUMNS], out: &mut Out)
+    requires { 2 * COLUMNS ≤ room_of out.old }
+    ensures { Appends out.old out.new (line_bytes row.now) }
+{
+    put_row(row, out);
+    if shown_cells(row).len() < COLUMNS {
+        out.put_run(&[RETURN, DOWN]);
+    }
+}
+
+/// Appends a row without the spaces at its end.
+fn put_row(row: &[u8; COLUMNS], out: &mut Out)
+    requires { 2 * length (shown_cells row.now) ≤ room_of out.old }
+    ensures { Appends out.old out.new (cells_bytes (shown_cells row.now)) }
+{
+    let cells = shown_cells(row);
+    if is_plain(row) {
+        out.put_run(cells);
+    } else {
+        put_cells(cells, out);
+    }
+}
+
+/// Whether a row has no attribute.
+fn is_plain(row: &[u8; COLUMNS]) -> bool
+    ensures { result ≡ list_all is_plain row.now }
+{
+    let mut plain = true;
+    for cell in row {
+        plain &= *cell >= SPACE;
+    }
+    plain
+}
+
 /// A row without the spaces at its end.
-fn shown(row: &[u8; COLUMNS]) -> &[u8]
-    ensures { result.now ≡ shown row.now }
+fn shown_cells(row: &[u8; COLUMNS]) -> &[u8]
+    ensures { result.now ≡ shown_cells row.now }
 {
     let mut count = COLUMNS;
+    while count >= 8 && row[count - 8..count] == [SPACE; 8] {
+        count -= 8;
+    }
     while count > 0 && row[count - 1] == SPACE {
         count -= 1;
     }
     &row[..count]
 }
 
-/// Writes cells from `at` on, and says where they end.
-fn put_cells(cells: &[u8], into: &mut [u8], at: usize) -> usize
-    requires { at + 2 * length cells.now ≤ length into.old }
-    ensures end { result ≡ at + length (cells_bytes cells.now) }
-    ensures value { into.new ≡ overwritten at (cells_bytes cells.now) into.old }
+/// Appends cells.
+fn put_cells(cells: &[u8], out: &mut Out)
+    requires { 2 * length cells.now ≤ room_of out.old }
+    ensures { Appends out.old out.new (cells_bytes cells.now) }
 {
-    let mut end = at;
     for cell in cells {
-        end = put_cell(*cell, into, end);
+        put_cell(*cell, out);
     }
-    end
 }
 
-/// Writes a cell at `at`, and says where it ends.
-fn put_cell(cell: u8, into: &mut [u8], at: usize) -> usize
-    requires { at + 2 ≤ length into.old }
-    ensures end { result ≡ at + length (cell_bytes cell) }
-    ensures value { into.new ≡ overwritten at (cell_bytes cell) into.old }
+/// Appends a cell.
+fn put_cell(cell: u8, out: &mut Out)
+    requires { 2 ≤ room_of out.old }
+    ensures { Appends out.old out.new (cell_bytes cell) }
 {
     if cell < SPACE {
-        put_pair(ESCAPE, cell + ATTRIBUTES, into, at)
+        out.put_run(&[ESCAPE, cell + ATTRIBUTES]);
     } else {
-        into[at] = cell;
-        at + 1
+        out.put_u8(cell);
     }
-}
-
-/// Writes two bytes at `at`, and says where they end.
-fn put_pair(first: u8, second: u8, into: &mut [u8], at: usize) -> usize
-    requires { at + 2 ≤ length into.old }
-    ensures end { result ≡ at + 2 }
-    ensures value { into.new ≡ overwritten at (first ∷ second ∷ []) into.old }
-{
-    into[at] = first;
-    into[at + 1] = second;
-    at + 2
 }

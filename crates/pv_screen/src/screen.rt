@@ -16,12 +16,12 @@ impl Screen {
     ghost use Rattle.pv_screen.specs.Showing.{HasCells, IsScreen, shown_after};
     ghost use Rattle.pv_screen.specs.Terminal.{Display, IsReady, terminal_after};
 
-    /// Writes the bytes that show this screen to the front of `into`, and says how many they are.
+    /// Writes the bytes that show this screen to the beginning of `into`, and returns their number.
     pub fn bytes(&self, into: &mut [u8; BUFFER]) -> usize
         ensures value { take result into.new ≡ screen_bytes self.now }
         ensures count { result ≡ length (screen_bytes self.now) }
         ensures within { result ≤ LONGEST }
-        ensures behind { drop result into.new ≡ drop result into.old }
+        ensures rest { drop result into.new ≡ drop result into.old }
 
         // A whole screen has cells of 0 to 127; of a row alone that is asked.
         ensures screen { HasCells self.now → IsScreen self.now }

@@ -10,7 +10,7 @@ use std::marker::Model;
 
 /// A caller's terminal: its cells, the place of its cursor, and whether an escape was the last byte.
 ///
-/// It knows the control codes and what the cursor does at the edges: behind the last column comes the first of the row
+/// It knows the control codes and what the cursor does at the edges: after the last column comes the first of the row
 /// below, the row below the last is the first, and nothing scrolls.
 #[derive(Clone, Copy, Debug, PartialEq, Eq)]
 pub struct Terminal {
@@ -34,7 +34,7 @@ impl Model for Terminal {
 
 impl Terminal {
     ghost use Rattle.pv_screen.specs.Grid.{IsGrid};
-    ghost use Rattle.pv_screen.specs.Terminal.{new_display, after_byte, after_first, after_second, written, home, forward, back, down, up};
+    ghost use Rattle.pv_screen.specs.Terminal.{new_display, after_byte, after_first, after_second, after_cell, home, forward, back, down, up};
 
     /// A terminal as it is switched on: every cell is a space, and the cursor is at the first column of row 1.
     pub fn new() -> Self
@@ -71,7 +71,7 @@ impl Terminal {
         }
     }
 
-    /// Takes a byte that does not stand behind an escape.
+    /// Takes a byte that is not after an escape.
     fn take_first(&mut self, byte: u8)
         ensures { self.new ≡ after_first self.old byte }
     {
@@ -92,7 +92,7 @@ impl Terminal {
         }
     }
 
-    /// Takes a byte behind an escape.
+    /// Takes a byte after an escape.
     fn take_second(&mut self, byte: u8)
         ensures { self.new ≡ after_second self.old byte }
     {
@@ -104,7 +104,7 @@ impl Terminal {
     /// Writes a cell at the cursor, which goes forward.
     fn write(&mut self, cell: u8)
         requires { IsCell cell }
-        ensures { self.new ≡ written self.old cell }
+        ensures { self.new ≡ after_cell self.old cell }
     {
         self.grid.set_cell(self.row, self.column, cell);
         self.forward();

@@ -103,25 +103,25 @@ fn a_screen_of_attributes_is_the_longest(rt: HostRuntime) -> Result<(), Fail> {
     Ok(())
 }
 
-/// Writes cells at the front of a body.
-fn put_front(cells: &[u8], body: &mut [u8; BODY_CELLS])
+/// Writes cells at the beginning of a body.
+fn put_first(cells: &[u8], body: &mut [u8; BODY_CELLS])
     requires { length cells.now ≤ BODY_CELLS }
     ensures { length body.new ≡ BODY_CELLS }
 {
     body[..cells.len()].copy_from_slice(cells);
 }
 
-/// A blank frame but for the cells at the front of its body.
+/// A frame that is blank except for the cells at the beginning of its body.
 fn frame_of(cells: &[u8]) -> Frame
     requires { length cells.now ≤ BODY_CELLS }
 {
     let mut frame = Frame::blank();
-    put_front(cells, &mut frame.body);
+    put_first(cells, &mut frame.body);
     frame
 }
 
 /// The screen of a frame whose name is `text`.
-fn composed(frame: &Frame, text: &[u8]) -> Result<Grid, Fail> {
+fn composed_screen(frame: &Frame, text: &[u8]) -> Result<Grid, Fail> {
     let name = FrameName::of_text(text).ok_or("a name")?;
     frame.check().ok().ok_or("a frame")?;
     Ok(compose(frame, name))
@@ -132,7 +132,7 @@ fn the_longest_name_stands_beside_a_price(rt: HostRuntime) -> Result<(), Fail> {
     let mut frame = frame_of(b"AAAAAAAAAAAAAAAAAAAAAAAAAAAAAAAAAAAAAAA\x03A\x03");
     frame.title = *b"TWENTY-FOUR CELLS, ALL..";
     frame.price = 99;
-    let grid = composed(&frame, b"999999999z")?;
+    let grid = composed_screen(&frame, b"999999999z")?;
     assert_painted(
         &rt,
         &grid,
@@ -155,7 +155,7 @@ fn a_price_ends_with_its_row(rt: HostRuntime) -> Result<(), Fail> {
     ];
     for (price, text) in texts {
         frame.price = price;
-        let grid = composed(&frame, b"1a")?;
+        let grid = composed_screen(&frame, b"1a")?;
         assert_painted(&rt, &grid, &[text, LINE_ENDS]);
     }
     Ok(())
@@ -235,7 +235,7 @@ fn each_byte_moves_the_cursor(rt: HostRuntime) {
 }
 
 #[test]
-fn each_byte_behind_an_escape(rt: HostRuntime) {
+fn each_byte_after_an_escape(rt: HostRuntime) {
     for byte in 0..=255 {
         let mut terminal = in_the_middle();
         terminal.take(codes::ESCAPE);

@@ -3,7 +3,7 @@ use Rattle.prestel.specs.declared.script.TheConstants.{LONGEST_SCRIPT}
 use Rattle.prestel.specs.Play.{HasRead}
 use Rattle.prestel.proofs.script.fill.Given as goal
 
--- what was read so far stands at the slice's front
+-- what was read so far is a prefix of the slice
 abbrev pub invariant-loop-len : goal.invariant-loop-len
 invariant-loop-len g l = record {
   read : HasRead (g.S.Source.taken l.fn.source) (g.S.Source.taken l.source) (g.S.Source.left l.fn.source) (g.S.Source.left l.source) (take l.len l.into);

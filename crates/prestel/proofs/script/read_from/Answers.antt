@@ -3,7 +3,7 @@ use Rattle.std.specs.Prelude.{IfOk}
 use Rattle.prestel.proofs.Reading.{given_from, end_of}
 use Rattle.prestel.proofs.script.read_from.Goals as goal
 
--- what was read stands behind what stood there
+-- what was read comes after what was there
 pub returns-clause-read : goal.returns-clause-read
 returns-clause-read g c =
     let e = c.read.ensures in

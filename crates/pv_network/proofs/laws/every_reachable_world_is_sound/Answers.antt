@@ -1,17 +1,11 @@
 use Rattle.pv_network.specs.World.{start}
-use Rattle.pv_network.specs.Step.{after}
-use Rattle.pv_network.proofs.Meaning.{meaning_after}
-use Rattle.pv_network.proofs.Soundness.{sound_start, sound_after, one_list}
+use Rattle.pv_network.proofs.Soundness.{sound_start, sound_after}
 use Rattle.pv_network.proofs.laws.every_reachable_world_is_sound.Goals as goal
 
 -- by induction on the events
 pub returns-clause-sound : goal.returns-clause-sound
 returns-clause-sound c = λ centres frames records events. sound_after (start centres frames records) events (sound_start centres frames records)
 
+-- the law is a part of what is kept
 pub returns-clause-one_list : goal.returns-clause-one_list
-returns-clause-one_list c = λ centres frames records events.
-    one_list (after (start centres frames records) events) (sound_after (start centres frames records) events (sound_start centres frames records))
-
--- a list of no records has no frame
-pub returns-clause-meaning : goal.returns-clause-meaning
-returns-clause-meaning c = λ centres frames records events cells. meaning_after (start centres frames records) events cells tt
+returns-clause-one_list c = λ centres frames records events. (sound_after (start centres frames records) events (sound_start centres frames records)).law

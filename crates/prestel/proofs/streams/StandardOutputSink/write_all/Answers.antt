@@ -4,7 +4,7 @@ use Rattle.std.specs.Io.KnownBytes.{Appends}
 use Rattle.prestel.proofs.Reading.{Appends-more}
 use Rattle.prestel.proofs.streams.StandardOutputSink.write_all.Goals as goal
 
--- what the writer took stands behind what it had taken
+-- what the writer took comes after what it had taken
 pub loop-at-preserved : goal.loop-at-preserved
 loop-at-preserved g c =
     let at = c.loop-at.at in

@@ -1,13 +1,13 @@
 use Rattle.std.proofs.Common.{◌≡◌, ◌-◌, ◌≤◌, length, take}
 use Rattle.std.specs.Io.KnownBytes.{Appends}
-use Rattle.prestel.specs.Output.{given}
+use Rattle.prestel.specs.Output.{written_bytes}
 use Rattle.prestel.proofs.streams.StandardOutputSink.write_all.Given as goal
 
--- the front up to here was given to the writer
+-- the bytes up to here were written
 abbrev pub invariant-loop-at : goal.invariant-loop-at
 invariant-loop-at g l = record {
   within : l.at ≤ length l.bytes;
-  written : Appends (given g.W.Write.contents l.fn.self) (given g.W.Write.contents l.self) (take l.at l.bytes);
+  written : Appends (written_bytes g.W.Write.contents l.fn.self) (written_bytes g.W.Write.contents l.self) (take l.at l.bytes);
   faults : l.self.faults ≡ l.fn.self.faults;
 }
 

@@ -1,51 +1,43 @@
-use Rattle.std.proofs.Common.{◌≡◌, length, Some, ap, sym, subst, ◌∙◌}
-use Rattle.std.specs.Prelude.{slice_get}
+use Rattle.std.proofs.Common.{◌≡◌, refl, ap, sym, ◌∙◌}
+use Rattle.pv_network.specs.declared.centre.Arrival.{Arrival}
 use Rattle.pv_network.specs.declared.centre.Arrival.TheVariants as arrivals
-use Rattle.pv_network.specs.declared.outcome.Outcome.{Outcome}
 use Rattle.pv_network.specs.declared.outcome.Outcome.TheVariants.{Taken, Old, Early, Full}
-use Rattle.pv_network.specs.World.{World}
-use Rattle.pv_network.specs.Step.{arrival_of, with_taken}
-use Rattle.pv_network.specs.Standing.{Kept, State, kept_at, StandsFor}
-use Rattle.pv_network.proofs.Performing.{kept_read, counts, delivers, takes}
+use Rattle.pv_network.specs.Standing.{StandsFor}
+use Rattle.pv_network.specs.Step.{with_applied, step_of_arrival, step_of_deliver}
+use Rattle.pv_network.specs.World.{World, centre_at}
+use Rattle.pv_network.proofs.Performing.{delivers, takes}
+use Rattle.pv_network.proofs.Standing.{centre_stands}
 use Rattle.pv_network.proofs.network.Network.deliver.Goals as goal
-use Rattle.pv_network.proofs.network.Network.deliver.Goals.{In-Some, After-arrival}
+use Rattle.pv_network.proofs.network.Network.deliver.Goals.{After-arrival}
 
--- the packet of the index
-found : (c : In-Some) → slice_get (kept_at c.args.self.now.centres c.args.centre).down c.args.index ≡ Some c.in-Some.packet.now
-found c =
-    let here = kept_read c.args.self.now c.self.inside.centres.items c.args.centre c.index.result.now (ap (λ (s : State). s.centres) c.self.view_is) c.requires c.index.ensures in
-    ap (λ (k : Kept). slice_get k.down c.args.index) (sym here) ∙ sym c.in-Some.ensures
-
--- what the centre makes of it
-arrival : (c : After-arrival) → arrival_of (length (kept_at c.args.self.now.centres c.args.centre).held) (kept_at c.args.self.now.centres c.args.centre).room c.in-Some.packet.now.number ≡ c.arrival.result
-arrival c =
-    let here = kept_read c.args.self.now c.self.inside.centres.items c.args.centre c.index-2.result.now (ap (λ (s : State). s.centres) c.self.view_is) c.requires c.index-2.ensures in
-    ap (λ (k : Kept). arrival_of (length k.held) k.room c.in-Some.packet.now.number) (sym here) ∙ sym c.arrival.ensures
+-- what the centre makes of the packet
+arrives : (c : After-arrival) (arrival : Arrival) → c.arrival.result ≡ arrival → (w : World) → StandsFor c.args.self.now w → step_of_deliver w c.args.centre c.args.index ≡ step_of_arrival w c.args.centre c.in-Some.packet.now.number arrival
+arrives c arrival is w stands =
+    delivers _ w (rw (← c.self.view_is) at stands) c.args.centre c.index.result.now (rw (← c.self.view_is) at c.requires) c.index.ensures
+    c.args.index c.in-Some.packet.now (sym c.in-Some.ensures) arrival (sym c.arrival.ensures ∙ is)
 
 pub returns-in-Old-clause-performs : goal.returns-in-Old-clause-performs
 returns-in-Old-clause-performs c = λ w stands.
-    let is = delivers c.args.self.now c.args.centre c.args.index c.in-Some.packet.now c.requires (found (goal.at.returns-in-Old-clause-performs c).In-Some) arrivals.Old (arrival (goal.at.returns-in-Old-clause-performs c).After-arrival ∙ c.in-Old.is) w stands in
     let heard = c.acknowledge-ack-in-Old.ensures.performs w stands in
-    (subst (λ (r : World × Outcome). StandsFor c.acknowledge-ack-in-Old.new.self r.0) (sym is) heard.0, ap (Old c.in-Some.packet.now.number) heard.1 ∙ ap (λ (r : World × Outcome). r.1) (sym is))
+    rw (arrives (goal.at.returns-in-Old-clause-performs c).After-arrival arrivals.Old c.in-Old.is w stands) (heard.0, ap (Old c.in-Some.packet.now.number) heard.1)
 
 pub returns-in-Early-clause-performs : goal.returns-in-Early-clause-performs
 returns-in-Early-clause-performs c = λ w stands.
-    let is = delivers c.args.self.now c.args.centre c.args.index c.in-Some.packet.now c.requires (found (goal.at.returns-in-Early-clause-performs c).In-Some) arrivals.Early (arrival (goal.at.returns-in-Early-clause-performs c).After-arrival ∙ c.in-Early.is) w stands in
     let heard = c.acknowledge-ack-in-Early.ensures.performs w stands in
-    (subst (λ (r : World × Outcome). StandsFor c.acknowledge-ack-in-Early.new.self r.0) (sym is) heard.0, ap (Early c.in-Some.packet.now.number) heard.1 ∙ ap (λ (r : World × Outcome). r.1) (sym is))
+    rw (arrives (goal.at.returns-in-Early-clause-performs c).After-arrival arrivals.Early c.in-Early.is w stands) (heard.0, ap (Early c.in-Some.packet.now.number) heard.1)
 
 pub returns-in-Full-clause-performs : goal.returns-in-Full-clause-performs
 returns-in-Full-clause-performs c = λ w stands.
-    let is = delivers c.args.self.now c.args.centre c.args.index c.in-Some.packet.now c.requires (found (goal.at.returns-in-Full-clause-performs c).In-Some) arrivals.Full (arrival (goal.at.returns-in-Full-clause-performs c).After-arrival ∙ c.in-Full.is) w stands in
-    let here = kept_read c.args.self.now c.self.inside.centres.items c.args.centre c.index-in-Full.result.now (ap (λ (s : State). s.centres) c.self.view_is) c.requires c.index-in-Full.ensures in
-    let count = c.count-count.ensures.value ∙ ap (λ (k : Kept). length k.held) here ∙ counts c.args.self.now c.args.centre c.requires w stands in
-    (subst (λ (r : World × Outcome). StandsFor c.args.self.now r.0) (sym is) stands, ap Full count ∙ ap (λ (r : World × Outcome). r.1) (sym is))
+    let stood = centre_stands _ w (rw (← c.self.view_is) at stands) c.args.centre c.index-in-Full.result.now (rw (← c.self.view_is) at c.requires) c.index-in-Full.ensures in
+    rw (arrives (goal.at.returns-in-Full-clause-performs c).After-arrival arrivals.Full c.in-Full.is w stands)
+    (stands, ap Full (c.count-count.ensures.value ∙ stood.count))
 
 pub returns-in-Taken-clause-performs : goal.returns-in-Taken-clause-performs
 returns-in-Taken-clause-performs c = λ w stands.
-    let packet_found = found (goal.at.returns-in-Taken-clause-performs c).In-Some in
-    let how = arrival (goal.at.returns-in-Taken-clause-performs c).After-arrival ∙ c.in-Taken.is in
-    let is = delivers c.args.self.now c.args.centre c.args.index c.in-Some.packet.now c.requires packet_found arrivals.Taken how w stands in
-    let next = takes c.args.self.now c.args.centre c.args.index c.in-Some.packet.now c.requires packet_found how w stands in
-    let heard = c.acknowledge-ack.ensures.performs (with_taken w c.args.centre) (subst (λ (s : State). StandsFor s (with_taken w c.args.centre)) (sym (c.take.ensures.taken c.in-Some.packet.now packet_found)) next) in
-    (subst (λ (r : World × Outcome). StandsFor c.acknowledge-ack.new.self r.0) (sym is) heard.0, ap (Taken c.in-Some.packet.now.number) heard.1 ∙ ap (λ (r : World × Outcome). r.1) (sym is))
+    let here = rw (← c.self.view_is) at stands in
+    let there = rw (← c.self.view_is) at c.requires in
+    let stood = centre_stands _ w here c.args.centre c.index_mut.result.now there c.index_mut.ensures.value in
+    let next = takes _ w here c.args.centre c.index.result.now there c.index.ensures c.args.index c.in-Some.packet.now (sym c.in-Some.ensures) arrivals.Taken (sym c.in-Taken.ensures) refl
+    c.take.new.self (c.take.ensures w.update.record_limit w.update.edits (centre_at w c.args.centre) stood) in
+    let heard = c.acknowledge-ack.ensures.performs (with_applied w c.args.centre) next in
+    rw (arrives (goal.at.returns-in-Taken-clause-performs c).After-arrival arrivals.Taken c.in-Taken.is w stands) (heard.0, ap (Taken c.in-Some.packet.now.number) heard.1)

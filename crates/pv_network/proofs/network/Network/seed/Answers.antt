@@ -1,36 +1,21 @@
-use Rattle.std.proofs.Common.{◌≡◌, Bool, true, false, not, Option, None, Some, Bor, length, refl, ap, sym, ◌∙◌}
-use Rattle.std.specs.Prelude.{is_none, is_some, option_copied}
-use Rattle.pv_network.specs.declared.record.Record.{Record}
-use Rattle.pv_network.specs.Edits.{edit_at, frame_at}
+use Rattle.std.proofs.Common.{ap}
 use Rattle.pv_frame.specs.Content.{frame_of_row}
-use Rattle.pv_network.specs.Replies.{stored_reply}
-use Rattle.pv_network.specs.Standing.{State, refusal_of}
-use Rattle.pv_network.proofs.Counts.{none-option_map}
-use Rattle.pv_network.proofs.Seeding.{seeds}
+use Rattle.pv_frame.proofs.CallerLemmas.{IsValid-frame_of_row}
+use Rattle.pv_network.specs.declared.outcome.Outcome.TheVariants.{Reply}
+use Rattle.pv_network.specs.declared.record.TheConstants.{OPERATOR}
+use Rattle.pv_network.specs.UpdateCentre.{judgement_of}
+use Rattle.pv_network.proofs.Performing.{frame_of_cells-row}
+use Rattle.pv_network.proofs.Soundness.{sound_judged}
+use Rattle.pv_network.proofs.Standing.{update_replaced}
 use Rattle.pv_network.proofs.network.Network.seed.Goals as goal
 
--- the one test is the other turned round
-turned : (a b : Bool) → b ≡ not a → a ≡ not b
-turned true true is = absurd cc
-turned true false is = refl
-turned false true is = refl
-turned false false is = absurd cc
-
--- a borrowed record is there where the record is
-some_copied : (found : Option (Bor Record)) → is_none (option_copied found) ≡ not (is_some found)
-some_copied None = refl
-some_copied (Some edit) = refl
-
--- nothing is refused, and the record is stored
-pub returns-in-None-clause-performs : goal.returns-in-None-clause-performs
-returns-in-None-clause-performs c = λ w stands.
-    let s = c.args.self.now in
-    let is_new : c.is_none-is_new.result ≡ is_none (frame_at s.edits c.args.name) =
-    turned c.is_none-is_new.result (is_some c.last_of.result) c.is_none-is_new.ensures
-    ∙ sym (some_copied c.last_of.result)
-    ∙ ap (λ (o : Option Record). is_none o) c.last_of.ensures
-    ∙ sym (none-option_map (edit_at c.self.inside.edits.edits c.args.name))
-    ∙ ap (λ (t : State). is_none (frame_at t.edits c.args.name)) c.self.view_is in
-    let taken : refusal_of s (is_none (frame_at s.edits c.args.name)) ≡ None = ap (refusal_of s) (sym is_new) ∙ sym c.refusal.ensures ∙ c.in-None.is in
-    let told : c.stored.result ≡ stored_reply (length s.edits) = c.stored.ensures ∙ ap stored_reply c.store-place.ensures.place in
-    rw (c.store-place.ensures.stored, told, c.of_row.ensures) (seeds s c.args.name (frame_of_row c.args.row.now) taken w stands)
+-- the Update Centre does it
+pub returns-clause-performs : goal.returns-clause-performs
+returns-clause-performs c = λ w stands.
+    let row = c.args.row.now in
+    let here = rw (← c.self.view_is) at stands in
+    let sound = sound_judged w c.args.name (frame_of_row row) (IsValid-frame_of_row row c.requires.seven_bits) here.sound in
+    rw (frame_of_cells-row row c.requires) (
+      update_replaced _ w here (judgement_of w.update OPERATOR c.args.name (frame_of_row row)).stored c.seed.new.self (c.seed.ensures.stored w.update here.update) sound,
+      ap Reply (c.seed.ensures.reply w.update here.update),
+    )

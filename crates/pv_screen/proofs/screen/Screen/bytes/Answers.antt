@@ -1,5 +1,5 @@
 use Rattle.std.proofs.Common.{refl, subst, sym}
-use Rattle.pv_screen.specs.Grid.{IsGrid, blank}
+use Rattle.pv_screen.specs.Grid.{IsGrid, blank_grid}
 use Rattle.pv_screen.specs.Showing.{HasCells, IsScreen}
 use Rattle.pv_screen.specs.Terminal.{new_display}
 use Rattle.pv_screen.proofs.Shows.{IsReady-new, IsRow-last}
@@ -16,4 +16,5 @@ pub returns-in-Row-clause-screen : goal.returns-in-Row-clause-screen
 returns-in-Row-clause-screen c = λ has.
     let fits = subst HasCells c.in-Row.is has in
     let after = c.message.ensures.ready fits new_display IsReady-new in
-    subst IsScreen (sym c.in-Row.is) (IsRow-last blank c.in-Row.cells refl (subst IsGrid (c.message.ensures.shows fits new_display IsReady-new) after.cells))
+    subst IsScreen (sym c.in-Row.is)
+    (IsRow-last blank_grid c.in-Row.cells refl (subst IsGrid (c.message.ensures.shows fits new_display IsReady-new) after.cells))

@@ -1,0 +1,40 @@
+ghost use Rattle.std.specs.Prelude.{◌≡◌};
+ghost use Rattle.prestel.specs.Words.{word_named};
+
+/// The first word of a line that asks for an event.
+#[derive(Clone, Copy, Debug, PartialEq, Eq)]
+pub enum Word {
+    /// `seed NAME TEXT`
+    Seed,
+    /// `send C`
+    Send,
+    /// `deliver C K`
+    Deliver,
+    /// `view C NAME`
+    View,
+    /// `at C`
+    At,
+    /// `list`
+    List,
+}
+
+/// The word that a text is. `None` exactly when it is none of them.
+pub fn word_of(text: &[u8]) -> Option<Word>
+    ensures { result ≡ word_named text.now }
+{
+    if text == b"seed".as_slice() {
+        Some(Word::Seed)
+    } else if text == b"send".as_slice() {
+        Some(Word::Send)
+    } else if text == b"deliver".as_slice() {
+        Some(Word::Deliver)
+    } else if text == b"view".as_slice() {
+        Some(Word::View)
+    } else if text == b"at".as_slice() {
+        Some(Word::At)
+    } else if text == b"list".as_slice() {
+        Some(Word::List)
+    } else {
+        None
+    }
+}

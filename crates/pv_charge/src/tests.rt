@@ -1,0 +1,93 @@
+use crate::{Bill, LAST_MOMENT, LINE_BYTES, Line};
+use pv_fields::{In, Out};
+use pv_page::{AccountNo, FrameName};
+use std::test::Fail;
+
+const SPELLING: [u8; LINE_BYTES] = [
+    0, 0, 0, 0, 0, 0, 0, 7, 0, 0, 0, 9, 0, 0, 0, 2, 0x54, 0x0b, 0xe3, 0xff, 0, 0, 0, 5, b'c', 0,
+    99, 0, 0, 0, 1,
+];
+
+fn line() -> Option<Line> {
+    Some(Line {
+        serial: 7,
+        number: 9,
+        account: AccountNo::of_number(9_999_999_999)?,
+        name: FrameName::of_text(b"5c")?,
+        price: 99,
+        moment: 1,
+    })
+}
+
+#[test]
+fn a_line_is_spelled_part_by_part(rt: HostRuntime) -> Result<(), Fail> {
+    let line = line().ok_or("a line")?;
+    let mut slice = [0xee; LINE_BYTES + 1];
+    let mut out = Out::new(&mut slice);
+    line.encode(&mut out)?;
+    assert_eq!(rt; out.written(), LINE_BYTES);
+    assert_eq!(rt; &slice[..LINE_BYTES], SPELLING.as_slice());
+    assert!(rt;
+        line.encode(&mut Out::new(&mut slice[..LINE_BYTES - 1]))
+            .is_err()
+    );
+    Ok(())
+}
+
+#[test]
+fn a_line_is_read_before_other_bytes(rt: HostRuntime) -> Result<(), Fail> {
+    let mut slice = [0xee; LINE_BYTES + 1];
+    slice[..LINE_BYTES].copy_from_slice(&SPELLING);
+    let mut bytes = In::new(&slice);
+    assert_eq!(rt; Line::decode(&mut bytes), line());
+    assert_eq!(rt; bytes.left(), 1);
+    assert_eq!(rt; Line::decode(&mut bytes), None);
+    assert_eq!(rt; bytes.left(), 1);
+    assert_eq!(rt;
+        Line::decode(&mut In::new(&SPELLING[..LINE_BYTES - 1])),
+        None
+    );
+    Ok(())
+}
+
+/// A byte of the spelling, and a value that makes it no line's.
+const WRONG: [(usize, u8); 6] = [
+    (14, 3),
+    (20, 0x3c),
+    (24, b'`'),
+    (24, b'{'),
+    (26, 100),
+    (27, 0xf5),
+];
+
+#[test]
+fn a_part_out_of_its_range_is_no_line(rt: HostRuntime) -> Result<(), Fail> {
+    for &(at, byte) in &WRONG {
+        let mut bytes = SPELLING;
+        bytes[at] = byte;
+        assert_eq!(rt; Line::decode(&mut In::new(&bytes)), None);
+    }
+    let mut last = SPELLING;
+    last[27..].copy_from_slice(&LAST_MOMENT.to_be_bytes());
+    assert!(rt; Line::decode(&mut In::new(&last)).is_some());
+    last[27..].copy_from_slice(&(LAST_MOMENT + 1).to_be_bytes());
+    assert!(rt; Line::decode(&mut In::new(&last)).is_none());
+    Ok(())
+}
+
+#[test]
+fn a_bill_adds_the_prices(rt: HostRuntime) -> Result<(), Fail> {
+    let line = line().ok_or("a line")?;
+    let mut bill = Bill::new();
+    for _ in 0..3 {
+        bill.add(&line);
+    }
+    assert_eq!(rt;
+        bill,
+        Bill {
+            lines: 3,
+            pence: 297
+        }
+    );
+    Ok(())
+}

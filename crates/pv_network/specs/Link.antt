@@ -1,0 +1,49 @@
+-- The link between the Update Centre and a centre: its packets, and the end that sends down.
+use Rattle.std.specs.Prelude.{ℕ, ◌+◌, Bool, ◌&&◌, nat_lt, nat_le, List, [], ◌∷◌, ◌++◌, length, Option, Some, None, slice_index_or, if◌then◌else◌}
+use Rattle.std.specs.List.{sum_by}
+use Rattle.pv_network.specs.declared.record.Record.{Record}
+use Rattle.pv_network.specs.declared.packet.Packet.{Packet}
+
+-- an end that sends: all numbers below the one are acknowledged, and the other is to be sent next
+pub record End : Type 0 where
+  pub acknowledged : ℕ
+  pub next : ℕ
+
+-- a link: the packets that went down and the acknowledgements that went up, in the order made, and the end that sends down
+pub record Link : Type 0 where
+  pub down : List Packet
+  pub up : List ℕ
+  pub sending : End
+
+-- a link on which nothing was sent
+abbrev pub new_link : Link
+new_link = record { down = []; up = []; sending = record { acknowledged = 0; next = 0 } }
+
+-- the link of a centre; after the last centre there is none, and a new one stands for it
+abbrev pub link_in : List Link → ℕ → Link
+link_in links c = slice_index_or links c new_link
+
+-- how many packets were made on some links, in both directions
+abbrev pub packet_count : List Link → ℕ
+packet_count links = sum_by (λ link. length link.down + length link.up) links
+
+-- as many packets were made on the links as may be: 20,000
+abbrev pub is_packets_full : List Link → Bool
+is_packets_full links = nat_le 20000 (packet_count links)
+
+-- The number that an end sends next, of those below a count: from the acknowledged one up, in turn, and again. There is
+-- none if all of them are acknowledged.
+abbrev pub next_number : End → ℕ → Option ℕ
+next_number end count = if nat_le count end.acknowledged then None
+    else Some (if nat_le end.acknowledged end.next && nat_lt end.next count then end.next else end.acknowledged)
+
+-- a record goes down in a packet, and the end goes on after it
+abbrev pub with_packet : Link → ℕ → Record → Link
+with_packet link number edit = record link {
+  down = link.down ++ record { number = number; edit = edit } ∷ [];
+  sending = record { acknowledged = link.sending.acknowledged; next = number + 1 };
+}
+
+-- an acknowledgement of this many records goes up
+abbrev pub with_acknowledgement : Link → ℕ → Link
+with_acknowledgement link count = record link { up = link.up ++ count ∷ [] }

@@ -1,0 +1,51 @@
+use super::*;
+
+#[test]
+fn a_line_is_a_word_and_parts(rt: HostRuntime) {
+    let (word, tail) = split_word(b"keys 0  a b");
+    assert_eq!(rt; word, b"keys".as_slice());
+    let Some((0, part)) = two(&Below(1), &AllOf, tail) else {
+        panic!(rt; "keys");
+    };
+    assert_eq!(rt; part.bytes(), b" a b".as_slice());
+    let made = three_as(
+        &Below(2),
+        &Number,
+        &Below(9),
+        b" 1 2 3",
+        |(a, b, c)| (c, b, a),
+    );
+    assert_eq!(rt; made, Some((3, 2, 1)));
+    assert_eq!(rt; three(&Number, &Number, &Number, b" 1 2"), None);
+    assert_eq!(rt;
+        two_as(&Number, &Number, b" 1 2", |(a, b)| (b, a)),
+        Some((2, 1))
+    );
+    assert_eq!(rt; one_as(&Number, b" 7", |n| n), Some(7));
+    assert_eq!(rt; one(&Number, b"7"), None);
+    assert_eq!(rt; none_as(b"", 5), Some(5));
+    assert_eq!(rt; none_as(b" ", 5), None);
+}
+
+#[test]
+fn numbers_are_decimal_and_nothing_else(rt: HostRuntime) {
+    assert_eq!(rt; number_of(b"18446744073709551615"), Some(u64::MAX));
+    let others: [&[u8]; 7] = [
+        b"",
+        b"01",
+        b"+1",
+        b"-1",
+        b" 1",
+        b"1a",
+        b"18446744073709551616",
+    ];
+    for other in others {
+        assert_eq!(rt; number_of(other), None, "at {other:?}");
+    }
+}
+
+#[test]
+fn lines_end_with_a_newline(rt: HostRuntime) {
+    assert_eq!(rt; first_line(b"a\n\nb"), (b"a".as_slice(), b"\nb".as_slice()));
+    assert_eq!(rt; first_line(b"b"), (b"b".as_slice(), b"".as_slice()));
+}
