@@ -1,87 +1,61 @@
--- Worked examples of notation, rows and mosaics, computed from the definitions.
-use Rattle.std.proofs.Common.{◌≡◌, true, false, [], ◌∷◌, codes, map, refl, Ok, Err, arith}
+-- Worked examples, computed from the definitions: each constant at the last value that fits, and the next.
+use Rattle.std.proofs.Common.{◌≡◌, true, false, [], ◌∷◌, ◌++◌, codes, map, replicate, refl, Ok, Err, lit≤, arith}
 use Rattle.std.specs.Char.{digit_char, digit_value}
 use Rattle.std.specs.List.{range_with_len}
-use Rattle.std.proofs.lemmas.List.Elements.{All-nil, All-cons}
 use Rattle.pv_cells.specs.Mosaic.{Block, IsMosaic}
-use Rattle.pv_cells.specs.Notation.{notation_of, ReadsByte}
-use Rattle.pv_cells.specs.Row.{IsCell, TellsRow}
-use Rattle.pv_cells.specs.declared.error.NotationError.TheVariants.{TooLong, BadEscape}
+use Rattle.pv_cells.specs.Notation.{is_printable, notation_of, ReadsAs}
+use Rattle.pv_cells.specs.Row.{IsCell, row_of_text}
+use Rattle.pv_cells.specs.declared.error.NotationError.TheVariants.{TooLong, BadEscape, BadByte}
+use Rattle.pv_cells.specs.declared.reading.TheConstants.{ROW_LENGTH}
 
 -- ---- notation
 
--- hexadecimal digits are written in lower case
-pub digits_written : map digit_char (range_with_len 0 16) ≡ codes "0123456789abcdef"
-digits_written = refl
+-- hexadecimal digits are written in lower case, and read in upper case too
+pub digits :
+    (map digit_char (range_with_len 0 16) ≡ codes "0123456789abcdef") × (map digit_value (codes "0123456789ABCDEF") ≡ range_with_len 0 16)
+digits = (refl, refl)
 
--- and read in upper case, too
-pub digits_read : map digit_value (codes "0123456789ABCDEF") ≡ range_with_len 0 16
-digits_read = refl
+-- a space and a tilde can be printed, and the bytes before and after them cannot
+pub printable : map is_printable (31 ∷ 32 ∷ 126 ∷ 127 ∷ []) ≡ false ∷ true ∷ true ∷ false ∷ []
+printable = refl
 
--- attributes, the backslash and the bytes from 127 on are escaped; a space and a tilde are not
+-- attributes, the backslash and the bytes from 127 on are escaped
 pub notation_of-row : notation_of (65 ∷ 3 ∷ 92 ∷ 32 ∷ 126 ∷ 127 ∷ 255 ∷ []) ≡ codes "A\\03\\5c ~\\7f\\ff"
 notation_of-row = refl
 
--- an escape in upper case is read as its byte
-pub reads_upper_case : ReadsByte (codes "\\1F") 31
-reads_upper_case = (refl, omega arith, omega arith, refl)
+-- any byte may be written as an escape, with digits of either case
+pub reads-escapes : ReadsAs (codes "\\41\\fF") (65 ∷ 255 ∷ [])
+reads-escapes = (codes "\\fF", refl, ([], refl, refl))
 
 -- ---- rows
 
--- a letter and an attribute are the row of these two cells, with blank ones behind them
-pub told_row : TellsRow 4 (codes "A\\03") (Ok (65 ∷ 3 ∷ 32 ∷ 32 ∷ []))
-told_row = record {
-  front = codes "A\\03";
-  rest = [];
-  cells = 65 ∷ 3 ∷ [];
-  whole = refl;
-  reads = (codes "A", codes "\\03", (refl, (refl, refl), (codes "\\03", [], (refl, (refl, omega arith, omega arith, refl), refl))));
-  are_cells = All-cons IsCell 65 (3 ∷ []) (omega arith) (All-cons IsCell 3 [] (omega arith) (All-nil IsCell));
-  ends = (refl, omega arith, refl);
-}
+-- cells are 0 to 127
+pub cells : IsCell 127 × ¬ IsCell 128
+cells = (lit≤ tt, λ is. omega (arith, is))
 
--- a backslash with one digit behind it is a bad escape, at the place of the backslash
-pub told_bad_escape : TellsRow 4 (codes "A\\8") (Err (BadEscape 1))
-told_bad_escape = record {
-  front = codes "A";
-  rest = codes "\\8";
-  cells = 65 ∷ [];
-  whole = refl;
-  reads = (codes "A", [], (refl, (refl, refl), refl));
-  are_cells = All-cons IsCell 65 [] (omega arith) (All-nil IsCell);
-  ends = (omega arith, (refl, refl, λ cell is reads. reads));
-}
+-- forty cells are a row, and blanks fill it up
+pub rows : (row_of_text ROW_LENGTH (replicate 40 65) ≡ Ok (replicate 40 65)) × (row_of_text 4 (codes "A\\03") ≡ Ok (65 ∷ 3 ∷ 32 ∷ 32 ∷ []))
+rows = (refl, refl)
 
--- a cell too many is too long, also where it is no cell
-pub told_too_long : TellsRow 1 (65 ∷ 128 ∷ []) (Err TooLong)
-told_too_long = record {
-  front = 65 ∷ [];
-  rest = 128 ∷ [];
-  cells = 65 ∷ [];
-  whole = refl;
-  reads = (65 ∷ [], [], (refl, (refl, refl), refl));
-  are_cells = All-cons IsCell 65 [] (omega arith) (All-nil IsCell);
-  ends = (omega arith, refl);
-}
+-- a 41st is too long, whatever it is
+pub too-long : (row_of_text ROW_LENGTH (replicate 41 65) ≡ Err TooLong) × (row_of_text 1 (65 ∷ 128 ∷ []) ≡ Err TooLong)
+too-long = (refl, refl)
+
+-- a backslash before less than two digits, or before a number over 127, is a bad escape
+pub bad-escapes : (row_of_text 4 (codes "A\\8") ≡ Err (BadEscape 1)) × (row_of_text 4 (codes "\\41\\80") ≡ Err (BadEscape 3))
+bad-escapes = (refl, refl)
+
+-- a byte that cannot be printed is a bad byte
+pub bad-bytes : (row_of_text 4 (codes "A" ++ 31 ∷ []) ≡ Err (BadByte 1)) × (row_of_text 4 (127 ∷ []) ≡ Err (BadByte 0))
+bad-bytes = (refl, refl)
 
 -- ---- mosaics
 
 -- the block in which no square is lit
 abbrev dark_block : Block
-dark_block = record { top_left = false; top_right = false; middle_left = false; middle_right = false; bottom_left = false; bottom_right = false }
+dark_block =
+    record { top_left = false; top_right = false; middle_left = false; middle_right = false; bottom_left = false; bottom_right = false }
 
--- the block in which every square is lit
-abbrev full_block : Block
-full_block = record { top_left = true; top_right = true; middle_left = true; middle_right = true; bottom_left = true; bottom_right = true }
-
--- the dark mosaic is a space
-pub dark : IsMosaic 0 0x20
-dark = (dark_block, (refl, refl))
-
--- the full mosaic is the last code
-pub full : IsMosaic 95 0x7f
-full = (full_block, (refl, refl))
-
--- the mosaic in which the bottom right square alone is lit is the first of those above the capitals
-pub bottom_right_alone : IsMosaic 64 0x60
-bottom_right_alone = (record dark_block { bottom_right = true }, (refl, refl))
+-- the dark mosaic is a space, and the bottom right square is the first after the capitals
+pub mosaics : IsMosaic 0 0x20 × IsMosaic 64 0x60
+mosaics = ((dark_block, (refl, refl)), (record dark_block { bottom_right = true }, (refl, refl)))

@@ -1,6 +1,4 @@
 mod Canonical
 mod Facts
-mod OneOutcome
-mod Pieces
 mod Rows
 mod Squares

@@ -1,116 +1,99 @@
--- What is known of a row that is being read, and what is told of its text at the end.
-use Rattle.std.proofs.Common.{◌≡◌, ℕ, ◌+◌, ◌-◌, ◌<◌, ◌≤◌, List, [], ◌∷◌, ◌++◌, length, take, drop, set, replicate, Ok, Err, refl, sym, ap, ◌∙◌, subst, arith}
+-- What a text is read as, cell by cell.
+use Rattle.std.proofs.Common.{◌≡◌, ℕ, zero, suc, ◌-◌, ◌≤◌, Bool, ◌==◌, List, [], ◌∷◌, length, replicate, Option, Some, None, Result, Ok, leb, refl, sym, ap, ◌∙◌, subst, arith}
+use Rattle.std.specs.Prelude.{option_map, unwrap_or}
 use Rattle.std.specs.List.{All}
-use Rattle.std.proofs.Math.Seq.{take-add}
-use Rattle.std.proofs.lemmas.List.{append-nil, take-append-drop, length-take-le, length-set, take_more_set, take_all, drop-set-lt, drop-drop, drop-replicate, length-drop}
-use Rattle.std.proofs.lemmas.List.Elements.{All-push, All-append, All-same, All-replicate}
-use Rattle.pv_cells.specs.Notation.{ReadsByte, ReadsAs}
-use Rattle.pv_cells.specs.Row.{IsCell, BeginsFault, Ends, TellsRow, filled}
+use Rattle.std.proofs.lemmas.Bool.{leb-true, le-leb}
+use Rattle.std.proofs.lemmas.Bool.Decides.{nat_tests}
+use Rattle.std.proofs.lemmas.List.Elements.{All-nil, All-cons, All-head, All-tail, All-append, All-same, All-replicate}
+use Rattle.pv_fields.specs.Padded.{padded_list}
+use Rattle.pv_fields.specs.Reading.{many_at}
+use Rattle.pv_fields.specs.Refusals.{first_of, unless}
+use Rattle.pv_fields.proofs.CallerLemmas.{some_if-some, unless_ok}
+use Rattle.pv_cells.specs.Notation.{notation_at, ReadsAs}
+use Rattle.pv_cells.specs.Row.{IsCell, cell_at, row_errors, row_of_text, SpellsCells}
 use Rattle.pv_cells.specs.declared.error.NotationError.{NotationError}
-use Rattle.pv_cells.specs.declared.error.NotationError.TheVariants.{TooLong, BadEscape, BadByte}
-use Rattle.pv_cells.specs.declared.reading.TheConstants.{BLANK}
-use Rattle.pv_cells.proofs.Pieces.{ReadsAs-push}
+use Rattle.pv_cells.specs.declared.reading.TheConstants.{BLANK, LAST_CELL}
 
--- so many cells of a row were read, from the text up to a place, and the others are blank
-pub record RowSoFar (width : ℕ) (text row : List ℕ) (count at : ℕ) : Type 0 where
-  -- the place is in the text, or at its end
-  pub within : at ≤ length text
-  -- no more were read than the row has
-  pub room : count ≤ width
-  -- the row is as wide as it should be
-  pub is_row : length row ≡ width
-  -- the text up to the place is read as what stands first in the row
-  pub reads : ReadsAs (take at text) (take count row)
-  -- each of these is a cell
-  pub are_cells : All IsCell (take count row)
-  -- all behind it is blank
-  pub blank : drop count row ≡ replicate (width - count) BLANK
+-- ---- cells
 
--- no bytes begin with the fault that the text is too long
-too_long_begins_nowhere : (at : ℕ) (rest : List ℕ) → BeginsFault at rest TooLong → ⊥
-too_long_begins_nowhere at [] begins = begins
-too_long_begins_nowhere at (first ∷ rest) begins = begins
+-- a cell that is read is a byte of at most 127
+cell_found : (o : Option (ℕ × List ℕ)) (text : List ℕ) (cell : ℕ × List ℕ) → notation_at text ≡ o → cell_at text ≡ Some cell
+    → IsCell cell.0 × (notation_at text ≡ Some cell)
+cell_found None text cell is some = let never : None ≡ Some cell = rw is at some in absurd cc
+cell_found (Some byte) text cell is some =
+    let test = some_if-some (leb byte.0 LAST_CELL) byte cell (rw is at some) in
+    subst (λ c. IsCell c.0 × (notation_at text ≡ Some c)) test.1 (leb-true _ _ test.0, is)
 
-module _ {width : ℕ} {text row : List ℕ} {count at : ℕ} (so_far : RowSoFar width text row count at) where
-  -- the cells that were read are as many as were counted
-  count_is : length (take count row) ≡ count
-  count_is = length-take-le count row (omega (arith, so_far.room, so_far.is_row))
+-- and such a byte is read as a cell
+cell_again : (text : List ℕ) (cell : ℕ) (rest : List ℕ) → notation_at text ≡ Some (cell, rest) → IsCell cell
+    → cell_at text ≡ Some (cell, rest)
+cell_again text cell rest is small = rw (is, le-leb cell LAST_CELL small) refl
 
-  -- the bytes that were read end at the place
-  at_is : length (take at text) ≡ at
-  at_is = length-take-le at text so_far.within
+-- what was found of at most n cells
+record IsFound (n : ℕ) (text : List ℕ) (found : List ℕ × List ℕ) : Type 0 where
+  reads : found.1 ≡ [] → ReadsAs text found.0
+  are_cells : All IsCell found.0
+  fits : length found.0 ≤ n
 
-  -- with one more put behind them, a row begins with the cells and this one
-  one_more : (cell : ℕ) → count < width → take (count + 1) (set row count cell) ≡ take count row ++ cell ∷ []
-  one_more cell room = take_more_set row count cell (omega (arith, so_far.is_row))
+-- the first cell, if there is one, and those of the rest
+found_next : (n : ℕ) (text : List ℕ) (o : Option (ℕ × List ℕ)) → cell_at text ≡ o
+    → ((rest : List ℕ) → IsFound n rest (many_at cell_at n rest))
+    → IsFound (suc n) text (unwrap_or (option_map (λ x. let more = many_at cell_at n x.1 in (x.0 ∷ more.0, more.1)) o) ([], text))
+found_next n text None is others = record { reads = λ end. end; are_cells = All-nil IsCell; fits = omega arith }
+found_next n text (Some cell) is others =
+    let first = cell_found (notation_at text) text cell refl is in
+    let more = others cell.1 in
+    record {
+      reads = λ end. (cell.1, first.1, more.reads end);
+      are_cells = All-cons IsCell cell.0 (many_at cell_at n cell.1).0 first.0 more.are_cells;
+      fits = omega (arith, more.fits);
+    }
 
-  -- where a cell is read from what follows, one more cell of the row is read
-  pub cell_more : (cell size : ℕ) → count < width → size ≤ length (drop at text) → ReadsByte (take size (drop at text)) cell → IsCell cell → RowSoFar width text (set row count cell) (count + 1) (at + size)
-  cell_more cell size room within reads is_cell = record {
-    within = omega (arith, so_far.within, length-drop at text);
-    room = omega arith;
-    is_row = length-set row count cell ∙ so_far.is_row;
-    reads = rw (take-add at size text, one_more cell room) (ReadsAs-push _ _ _ cell so_far.reads reads);
-    are_cells = rw (one_more cell room) (All-push IsCell (take count row) cell so_far.are_cells is_cell);
-    blank =
-        drop-set-lt (count + 1) row count cell (omega arith)
-        ∙ sym (drop-drop 1 count row)
-        ∙ ap (λ left. drop 1 left) so_far.blank
-        ∙ drop-replicate 1 (width - count) BLANK
-        ∙ ap (λ n. replicate n BLANK) (omega arith);
-  }
+is_found : (n : ℕ) (text : List ℕ) → IsFound n text (many_at cell_at n text)
+is_found zero text = record { reads = λ end. end; are_cells = All-nil IsCell; fits = omega arith }
+is_found (suc n) text = found_next n text (cell_at text) refl (is_found n)
 
-  -- the row is the cells that were read, and blank ones behind them
-  row_is : row ≡ filled width (take count row)
-  row_is =
-      sym (take-append-drop count row)
-      ∙ ap (λ left. take count row ++ left) (so_far.blank ∙ ap (λ n. replicate (width - n) BLANK) (sym count_is))
+-- all cells of a text are found, if they are few enough
+many_reads : (cells text : List ℕ) (n : ℕ) → ReadsAs text cells → All IsCell cells → length cells ≤ n → many_at cell_at n text ≡ (cells, [])
+many_reads [] text zero reads are_cells fits = ap (λ rest. ([], rest)) reads
+many_reads [] text (suc n) reads are_cells fits = ap (many_at cell_at (suc n)) reads
+many_reads (cell ∷ cells) text zero reads are_cells fits = absurd (omega (arith, fits))
+many_reads (cell ∷ cells) text (suc n) (rest, is, reads) are_cells fits =
+    let more = many_reads cells rest n reads (All-tail IsCell cell cells are_cells) (omega (arith, fits)) in
+    rw (cell_again text cell rest is (All-head IsCell cell cells are_cells), more) refl
 
-  -- each place of the row holds a cell
-  pub holds_cells : All IsCell row
-  holds_cells =
-      All-same IsCell row (filled width (take count row)) row_is
-      (All-append IsCell (take count row) (replicate (width - length (take count row)) BLANK) so_far.are_cells
-      (All-replicate IsCell (width - length (take count row)) BLANK (omega arith)))
+-- ---- the row of a text
 
-  -- where the text ends, the row is what is told of it
-  pub ended : length text ≤ at → TellsRow width text (Ok row)
-  ended all = record {
-    front = take at text;
-    rest = [];
-    cells = take count row;
-    whole = sym (take_all at text all) ∙ sym (append-nil (take at text));
-    reads = so_far.reads;
-    are_cells = so_far.are_cells;
-    ends = (refl, omega (arith, count_is, so_far.room), row_is);
-  }
+-- what has no error is read to its end
+no_error : (is_full : Bool) (at : ℕ) (rest : List ℕ) → first_of (row_errors is_full at rest) ≡ None → rest ≡ []
+no_error is_full at [] none = refl
+no_error is_full at (first ∷ rest) none = absurd (grind (arith, nat_tests))
 
-  -- where more text follows and the row is full, it is told that the text is too long
-  pub full : at < length text → count ≡ width → TellsRow width text (Err TooLong)
-  full more is_full = record {
-    front = take at text;
-    rest = drop at text;
-    cells = take count row;
-    whole = sym (take-append-drop at text);
-    reads = so_far.reads;
-    are_cells = so_far.are_cells;
-    ends = (omega (arith, length-drop at text), count_is ∙ is_full);
-  }
+module _ (width : ℕ) (text row : List ℕ) where
+  -- a row that is read is spelled by the text
+  pub row_found : row_of_text width text ≡ Ok row → SpellsCells width text row
+  row_found is =
+      let found = many_at cell_at width text in
+      let both = unless_ok _ _ _ is in
+      let facts = is_found width text in
+      record {
+        cells = found.0;
+        reads = facts.reads (no_error _ _ found.1 both.0);
+        are_cells = facts.are_cells;
+        fits = facts.fits;
+        row_is = sym both.1;
+      }
 
-  -- where the row has room, a fault that begins here is what the reading ends with
-  fault_ends : (told : NotationError) → BeginsFault at (drop at text) told → count < width → Ends width (take count row) at (drop at text) (Err told)
-  fault_ends TooLong begins room = absurd (too_long_begins_nowhere at (drop at text) begins)
-  fault_ends (BadEscape place) begins room = (omega (arith, count_is), begins)
-  fault_ends (BadByte place) begins room = (omega (arith, count_is), begins)
+  -- a row that is spelled is read
+  pub row_again : SpellsCells width text row → row_of_text width text ≡ Ok row
+  row_again spells =
+      let row_from : List ℕ × List ℕ → Result (List ℕ) NotationError = λ found.
+      unless (first_of (row_errors (length found.0 == width) (length text - length found.1) found.1)) (padded_list BLANK width found.0) in
+      ap row_from (many_reads spells.cells text width spells.reads spells.are_cells spells.fits) ∙ ap Ok (sym spells.row_is)
 
-  -- where the row has room and a fault begins in place of a cell, that fault is told of the text
-  pub fault : (told : NotationError) → count < width → BeginsFault at (drop at text) told → TellsRow width text (Err told)
-  fault told room begins = record {
-    front = take at text;
-    rest = drop at text;
-    cells = take count row;
-    whole = sym (take-append-drop at text);
-    reads = so_far.reads;
-    are_cells = so_far.are_cells;
-    ends = subst (λ place. Ends width (take count row) place (drop at text) (Err told)) (sym at_is) (fault_ends told begins room);
-  }
+  -- each element of such a row is a cell
+  pub row_cells : SpellsCells width text row → All IsCell row
+  row_cells spells =
+      let blanks = width - length spells.cells in
+      All-same IsCell row (padded_list BLANK width spells.cells) spells.row_is
+      (All-append IsCell spells.cells (replicate blanks BLANK) spells.are_cells (All-replicate IsCell blanks BLANK (omega arith)))

@@ -11,17 +11,17 @@ pub record Block : Type 0 where
   pub bottom_left : Bool
   pub bottom_right : Bool
 
--- a square's part in the sum: its weight where it is lit
-abbrev pub lit : Bool → ℕ → ℕ
-lit is_lit weight = if is_lit then weight else 0
+-- a square's part in the sum: its weight if it is lit
+abbrev pub part_of : Bool → ℕ → ℕ
+part_of is_lit weight = if is_lit then weight else 0
 
 -- the sum of the weights of the lit squares
 abbrev pub weight_of : Block → ℕ
 weight_of block =
-    lit block.top_left TOP_LEFT + lit block.top_right TOP_RIGHT
-    + lit block.middle_left MIDDLE_LEFT + lit block.middle_right MIDDLE_RIGHT
-    + lit block.bottom_left BOTTOM_LEFT + lit block.bottom_right BOTTOM_RIGHT
+    part_of block.top_left TOP_LEFT + part_of block.top_right TOP_RIGHT
+    + part_of block.middle_left MIDDLE_LEFT + part_of block.middle_right MIDDLE_RIGHT
+    + part_of block.bottom_left BOTTOM_LEFT + part_of block.bottom_right BOTTOM_RIGHT
 
--- some block has this sum of weights, and its code is that sum above the code of the dark one
+-- some block has this sum of weights, and its code is that sum added to the code of the dark mosaic
 abbrev pub IsMosaic : ℕ → ℕ → Type 0
 IsMosaic weights code = (block : Block) × ((weights ≡ weight_of block) × (code ≡ DARK + weights))

@@ -1,7 +1,10 @@
--- Rows of cells, and what is told of a text that should be one.
-use Rattle.std.specs.Prelude.{◌≡◌, ℕ, ◌-◌, ◌<◌, ◌≤◌, false, List, [], ◌∷◌, ◌++◌, length, take, replicate, Result, Ok, Err}
+-- Rows of cells, and the texts that they are read from.
+use Rattle.std.specs.Prelude.{◌≡◌, ℕ, ◌-◌, ◌≤◌, ◌==◌, Bool, List, [], ◌∷◌, length, Option, Some, Result}
 use Rattle.std.specs.List.{All}
-use Rattle.pv_cells.specs.Notation.{can_be_printed, ReadsByte, ReadsAs}
+use Rattle.pv_fields.specs.Padded.{padded_list}
+use Rattle.pv_fields.specs.Reading.{Parser, at_most, many_at}
+use Rattle.pv_fields.specs.Refusals.{first_of, some_if, unless}
+use Rattle.pv_cells.specs.Notation.{notation_at, ReadsAs}
 use Rattle.pv_cells.specs.declared.error.NotationError.{NotationError}
 use Rattle.pv_cells.specs.declared.error.NotationError.TheVariants.{TooLong, BadEscape, BadByte}
 use Rattle.pv_cells.specs.declared.writing.TheConstants.{BACKSLASH}
@@ -11,33 +14,27 @@ use Rattle.pv_cells.specs.declared.reading.TheConstants.{BLANK, LAST_CELL}
 abbrev pub IsCell : ℕ → Type 0
 IsCell cell = cell ≤ LAST_CELL
 
--- the cells, and blank ones behind them up to the width
-abbrev pub filled : ℕ → List ℕ → List ℕ
-filled width cells = cells ++ replicate (width - length cells) BLANK
+-- the cell that a text begins with
+abbrev pub cell_at : Parser ℕ
+cell_at = at_most LAST_CELL notation_at
 
--- where a cell should begin, the rest of the text begins with this fault, whose place this is
-abbrev pub BeginsFault : ℕ → List ℕ → NotationError → Type 0
-BeginsFault at [] fault = ⊥
-BeginsFault at (first ∷ rest) TooLong = ⊥
-BeginsFault at (first ∷ rest) (BadEscape place) =
-    (place ≡ at) × (first ≡ BACKSLASH) × ((cell : ℕ) → IsCell cell → ¬ ReadsByte (take 3 (first ∷ rest)) cell)
-BeginsFault at (first ∷ rest) (BadByte place) = (place ≡ at) × (can_be_printed first ≡ false)
+-- the errors of a text of which a rest at some place was not read, in the order of their refusal
+abbrev pub row_errors : Bool → ℕ → List ℕ → List (Option NotationError)
+row_errors is_full at [] = []
+row_errors is_full at (first ∷ rest) =
+    some_if is_full TooLong ∷ some_if (first == BACKSLASH) (BadEscape at) ∷ Some (BadByte at) ∷ []
 
--- what is told of a row so wide, where a text is read as cells up to a place, and has this rest from there on:
--- the row, if there is no rest; that it is too long, if the row is full; or the fault that the rest begins with
-abbrev pub Ends : ℕ → List ℕ → ℕ → List ℕ → Result (List ℕ) NotationError → Type 0
-Ends width cells at rest (Ok row) = (rest ≡ []) × (length cells ≤ width) × (row ≡ filled width cells)
-Ends width cells at rest (Err TooLong) = (0 < length rest) × (length cells ≡ width)
-Ends width cells at rest (Err (BadEscape place)) = (length cells < width) × BeginsFault at rest (BadEscape place)
-Ends width cells at rest (Err (BadByte place)) = (length cells < width) × BeginsFault at rest (BadByte place)
+-- the row of a text: its cells and then blanks up to the width, or its first error
+abbrev pub row_of_text : ℕ → List ℕ → Result (List ℕ) NotationError
+row_of_text width text =
+    let found = many_at cell_at width text in
+    let errors = row_errors (length found.0 == width) (length text - length found.1) found.1 in
+    unless (first_of errors) (padded_list BLANK width found.0)
 
--- what is told of a text that should be a row so wide, its row or its first fault: the text has a front that is
--- read as cells, and a rest at which that is told
-pub record TellsRow (width : ℕ) (text : List ℕ) (outcome : Result (List ℕ) NotationError) : Type 0 where
-  pub front : List ℕ
-  pub rest : List ℕ
+-- the text is a notation of cells that fit into the width, and the row is these cells and then blanks
+pub record SpellsCells (width : ℕ) (text row : List ℕ) : Type 0 where
   pub cells : List ℕ
-  pub whole : text ≡ front ++ rest
-  pub reads : ReadsAs front cells
+  pub reads : ReadsAs text cells
   pub are_cells : All IsCell cells
-  pub ends : Ends width cells (length front) rest outcome
+  pub fits : length cells ≤ width
+  pub row_is : row ≡ padded_list BLANK width cells

@@ -1,10 +1,10 @@
 use thiserror::Error;
 
-/// Why a text is no row in notation: its first fault from the left. Places count the text's bytes
-/// from 0.
+/// Why a text is no row in notation: its first error from the left. Places are indexes of the text's
+/// bytes.
 #[derive(Clone, Copy, Debug, PartialEq, Eq, Error)]
 pub enum NotationError {
-    /// More text follows where the row is full.
+    /// The text goes on after the row is full.
     #[error("the text has more cells than the row")]
     TooLong,
     /// A backslash is not followed by the two hexadecimal digits of a cell.
@@ -14,7 +14,7 @@ pub enum NotationError {
         at: usize,
     },
     /// A byte is outside 0x20 to 0x7E.
-    #[error("the byte at {at} cannot stand in a text")]
+    #[error("the byte at {at} cannot be printed")]
     BadByte {
         /// The byte's place.
         at: usize,

@@ -1,7 +1,7 @@
 ghost use Rattle.std.specs.Prelude.{◌≡◌, ℕ, ◌+◌, ◌<◌, ◌≤◌, ◌⊎◌, ◌↔◌, Some, IfSome, IsNone, IsBitSet};
 ghost use Rattle.pv_cells.specs.Mosaic.{Block, weight_of, IsMosaic};
 
-// A mosaic is a block of six squares, two in each of three lines, each of them lit or not. The weights
+// A mosaic is a block of six squares, two in each of three lines, and each square is lit or dark. The weights
 // and the codes are those of the block mosaics in the Prestel Terminal Specification of the British
 // Post Office.
 
@@ -28,7 +28,7 @@ pub const BOTTOM_RIGHT: u8 = 64;
 pub const DARK: u8 = 0x20;
 
 /// The code of the mosaic whose lit squares have this sum of weights: 0x20 to 0x3F without the bottom
-/// right square, 0x60 to 0x7F with it. None exactly where the number has a bit that is no square's
+/// right square, 0x60 to 0x7F with it. `None` exactly when the number has a bit that is no square's
 /// weight.
 pub fn mosaic(weights: u8) -> Option<u8>
     ensures found { IfSome result (λ code. IsMosaic weights code) }
@@ -44,8 +44,8 @@ pub fn mosaic(weights: u8) -> Option<u8>
     }
 }
 
-/// The sum of the weights of the lit squares in the mosaic of this code. None exactly outside 0x20 to
-/// 0x3F and 0x60 to 0x7F, where no mosaic is.
+/// The sum of the weights of the lit squares in the mosaic of this code. `None` exactly outside 0x20 to
+/// 0x3F and 0x60 to 0x7F.
 pub fn weights_of(code: u8) -> Option<u8>
     ensures found { IfSome result (λ weights. IsMosaic weights code) }
     ensures only { (weights : ℕ) → IsMosaic weights code → result ≡ Some weights }
@@ -64,14 +64,18 @@ pub fn weights_of(code: u8) -> Option<u8>
 pub fn squares_have_their_codes()
     ensures top_left { DARK + TOP_LEFT ≡ 0x21 }
     ensures top_right { DARK + TOP_RIGHT ≡ 0x22 }
+
+    // The second line.
     ensures middle_left { DARK + MIDDLE_LEFT ≡ 0x24 }
     ensures middle_right { DARK + MIDDLE_RIGHT ≡ 0x28 }
+
+    // The third line.
     ensures bottom_left { DARK + BOTTOM_LEFT ≡ 0x30 }
     ensures bottom_right { DARK + BOTTOM_RIGHT ≡ 0x60 }
 {}
 
-/// A law: no two mosaics have the same weights, and none the same code. So [`mosaic`] and
-/// [`weights_of`] undo each other.
+/// A law: different mosaics have different weights and different codes. So [`mosaic`] and
+/// [`weights_of`] are inverse.
 pub fn mosaics_are_one_to_one()
     ensures squares { (one other : Block) → weight_of one ≡ weight_of other → one ≡ other }
     ensures code { (weights one other : ℕ) → IsMosaic weights one → IsMosaic weights other

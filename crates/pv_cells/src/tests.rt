@@ -1,6 +1,6 @@
 use crate::{
     BOTTOM_LEFT, BOTTOM_RIGHT, MIDDLE_LEFT, MIDDLE_RIGHT, NotationError, TOP_LEFT, TOP_RIGHT,
-    cells_of, mosaic, notation, row_of, weights_of,
+    cells_of, first_byte, mosaic, notation, push_notation, row_of, weights_of,
 };
 use pv_fields::{NoRoom, Out};
 use std::test::Fail;
@@ -23,8 +23,8 @@ fn a_row_is_read_and_filled(rt: HostRuntime) -> Result<(), Fail> {
 }
 
 #[test]
-fn the_first_fault_is_told_by_its_place(rt: HostRuntime) {
-    let faults: [(&[u8], NotationError); 14] = [
+fn the_first_error_is_returned_with_its_place(rt: HostRuntime) {
+    let errors: [(&[u8], NotationError); 14] = [
         (b"A\\8", NotationError::BadEscape { at: 1 }),
         (b"\\", NotationError::BadEscape { at: 0 }),
         (b"AB\\g0", NotationError::BadEscape { at: 2 }),
@@ -49,8 +49,8 @@ fn the_first_fault_is_told_by_its_place(rt: HostRuntime) {
             NotationError::BadByte { at: 39 },
         ),
     ];
-    for (text, fault) in faults {
-        assert_eq!(rt; row_of(text), Err(fault));
+    for (text, error) in errors {
+        assert_eq!(rt; row_of(text), Err(error));
     }
 }
 
@@ -65,6 +65,30 @@ fn notation_is_canonical(rt: HostRuntime) -> Result<(), Fail> {
     assert_eq!(rt; out.written(), 18);
     notation(&[1, b'A', b'B', b'C'], &mut out)?;
     assert_eq!(rt; &into, b"A\\03\\5c ~\\7f\\ff\\1b\\01ABC");
+    Ok(())
+}
+
+#[test]
+fn notation_is_appended_to_a_text(rt: HostRuntime) -> Result<(), Fail> {
+    let mut text = Vec::from_slice(rt.alloc(), b"screen ")?;
+    push_notation(&[0x0c, b'A', b'\\', 0xff, b'~'], &mut text)?;
+    assert_eq!(rt; text.as_slice(), b"screen \\0cA\\5c\\ff~".as_slice());
+    Ok(())
+}
+
+#[test]
+fn bytes_are_read_one_by_one(rt: HostRuntime) -> Result<(), Fail> {
+    let mut text: &[u8] = b"A\\Ff\\00~";
+    let mut bytes = Vec::new(rt.alloc());
+    while let Some((byte, rest)) = first_byte(text) {
+        bytes.push(byte).ok().ok_or("memory")?;
+        text = rest;
+    }
+    assert_eq!(rt; bytes.as_slice(), [b'A', 0xff, 0, b'~'].as_slice());
+    assert_eq!(rt; text, b"".as_slice());
+    for wrong in [b"\\f", b"\\\\", b"\x7f0", b"\x1f0"] {
+        assert_eq!(rt; first_byte(wrong), None, "at {wrong:?}");
+    }
     Ok(())
 }
 

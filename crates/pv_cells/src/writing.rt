@@ -1,16 +1,23 @@
-ghost use Rattle.std.specs.Prelude.{◌≡◌, ◌<◌, ◌≤◌, ◌↔◌, length, IsTrue, IsErr, OnOk, OnErr};
+ghost use Rattle.std.specs.Prelude.{◌≡◌, ◌++◌, ◌∷◌, [], ◌/◌, ◌%◌, ◌<◌, ◌≤◌, ◌↔◌, length, IsTrue, IsErr, OnOk, OnErr};
 ghost use Rattle.std.specs.Char.{digit_char};
 ghost use Rattle.pv_fields.specs.Out.{room_of, Appends};
 ghost use Rattle.pv_cells.specs.Notation.{is_plain, notation_of_byte, notation_of};
 
 use pv_fields::{NoRoom, Out};
+use std::alloc::AllocError;
 
 /// The byte that begins an escape.
 pub const BACKSLASH: u8 = b'\\';
 
-/// Appends the canonical notation of the bytes: each byte of 0x20 to 0x7E but the backslash as itself,
-/// each other one as a backslash and its two hexadecimal digits in lower case. Answers [`NoRoom`]
-/// exactly where that does not fit, and then nothing was appended.
+/// The lowest byte that can be printed: the space.
+pub const FIRST_PRINTABLE: u8 = b' ';
+
+/// The highest byte that can be printed: the tilde.
+pub const LAST_PRINTABLE: u8 = b'~';
+
+/// Appends the canonical notation of the bytes: each byte of 0x20 to 0x7E except the backslash as
+/// itself, each other one as a backslash and its two hexadecimal digits in lower case. [`NoRoom`] exactly
+/// when that does not fit; then nothing is appended.
 pub fn notation(cells: &[u8], out: &mut Out) -> Result<(), NoRoom>
     ensures ok { OnOk result (Appends out.old out.new (notation_of cells.now)) }
     ensures refused { IsErr result ↔ (room_of out.old < length (notation_of cells.now)) }
@@ -20,12 +27,23 @@ pub fn notation(cells: &[u8], out: &mut Out) -> Result<(), NoRoom>
         return Err(NoRoom);
     }
     for cell in cells {
-        byte_notation(*cell, out)?;
+        put_byte(*cell, out);
     }
     Ok(())
 }
 
-/// Whether the notation of the bytes fits into so much room.
+/// Appends the canonical notation of the bytes to a text, as [`notation`] does to a slice. An error
+/// leaves the text with a prefix of that notation.
+pub fn push_notation(bytes: &[u8], text: &mut Vec<u8>) -> Result<(), AllocError>
+    ensures ok { OnOk result (text.new.items ≡ text.old.items ++ notation_of bytes.now) }
+{
+    for byte in bytes {
+        push_byte(*byte, text)?;
+    }
+    Ok(())
+}
+
+/// Whether the notation of the bytes fits into the room.
 fn fits(bytes: &[u8], room: usize) -> bool
     ensures { IsTrue result ↔ (length (notation_of bytes.now) ≤ room) }
 {
@@ -47,23 +65,44 @@ fn notation_length(byte: u8) -> usize
     if is_plain(byte) { 1 } else { 3 }
 }
 
-/// Appends the notation of one byte.
-fn byte_notation(byte: u8, out: &mut Out) -> Result<(), NoRoom>
-    ensures ok { OnOk result (Appends out.old out.new (notation_of_byte byte)) }
-    ensures refused { IsErr result ↔ (room_of out.old < length (notation_of_byte byte)) }
-    ensures err { OnErr result (out.new ≡ out.old) }
+/// Appends the notation of a byte, for which there is room.
+fn put_byte(byte: u8, out: &mut Out)
+    requires { length (notation_of_byte byte) ≤ room_of out.old }
+    ensures { Appends out.old out.new (notation_of_byte byte) }
 {
     if is_plain(byte) {
-        return out.u8(byte);
+        out.put_u8(byte);
+    } else {
+        out.put_run(&escape(byte));
     }
-    out.run(&[BACKSLASH, digit(byte / 16), digit(byte % 16)])
 }
 
-/// Whether the byte stands for itself.
+/// Appends the notation of a byte to a text.
+fn push_byte(byte: u8, text: &mut Vec<u8>) -> Result<(), AllocError>
+    ensures { OnOk result (text.new.items ≡ text.old.items ++ notation_of_byte byte) }
+{
+    if is_plain(byte) {
+        text.push(byte)?;
+        return Ok(());
+    }
+    text.push(BACKSLASH)?;
+    text.push(digit(byte / 16))?;
+    text.push(digit(byte % 16))?;
+    Ok(())
+}
+
+/// Whether the byte is written as itself.
 pub(crate) fn is_plain(byte: u8) -> bool
     ensures { result ≡ is_plain byte }
 {
-    matches!(byte, 0x20..=0x7e) && byte != BACKSLASH
+    matches!(byte, FIRST_PRINTABLE..=LAST_PRINTABLE) && byte != BACKSLASH
+}
+
+/// A backslash and the two hexadecimal digits of a byte.
+fn escape(byte: u8) -> [u8; 3]
+    ensures { result ≡ BACKSLASH ∷ digit_char (byte / 16) ∷ digit_char (byte % 16) ∷ [] }
+{
+    [BACKSLASH, digit(byte / 16), digit(byte % 16)]
 }
 
 /// The hexadecimal digit of a number, in lower case.

@@ -35,6 +35,17 @@ pub puts_then : {T E : Type 0} {first second : Out} {one : List ℕ} (third : Ou
 puts_then third other (Ok x) before after = appends_then before after
 puts_then third other (Err e) before less = refused_then other before less
 
+-- what the slice holds of an `Out` that began empty: the bytes, and what it held after them
+pub slice_after : (first last : Out) (bytes : List ℕ) → written_of first ≡ [] → Appends first last bytes
+    → (last.into.now ≡ bytes ++ drop (length bytes) (rest_of first)) × (length (written_of last) ≡ length bytes)
+slice_after first last bytes empty appends =
+    let written : written_of last ≡ bytes = appends.written ∙ ap (λ none. none ++ bytes) empty in (
+      sym (take-append-drop last.count last.into.now)
+          ∙ ap (λ rest. written_of last ++ rest) appends.rest
+          ∙ ap (λ all. all ++ drop (length bytes) (rest_of first)) written,
+      ap length written,
+    )
+
 -- ---- an encoder of a list, item by item
 
 -- one more item is appended

@@ -7,7 +7,7 @@ use Rattle.std.proofs.lemmas.Bool.{cases_lt, ltb-false, le-ltb, eqb-true, leb-tr
 use Rattle.std.proofs.lemmas.List.{take_at, drop_at, append-nil, nil_from_length, take-append-drop, length-append, length-take, get_or-drop, get_or-take, get_or_past, get_or-append-add}
 use Rattle.std.proofs.lemmas.List.Concat.{flat_map-cons}
 use Rattle.std.proofs.lemmas.Nat.{be_bytes_2, be_bytes_4, be_bytes_8, from_be_bytes-to_be_bytes_2, from_be_bytes-to_be_bytes_4, from_be_bytes-to_be_bytes_8}
-use Rattle.pv_fields.specs.Reading.{Parser, ◌>>=◌, Gives, byte_at, number_at, run_at, nothing_at, passing, ◌⊗◌, map_at, chain_at, rest_at, list_at, text_at, with_prefix, times, whole, GivesAll, within, at_most, IsBytes, ReadsBefore, ReadsLast, Reads, ReadsBack, Missing}
+use Rattle.pv_fields.specs.Reading.{Parser, ◌>>=◌, Gives, byte_at, number_at, run_at, nothing_at, passing, ◌⊗◌, map_at, chain_at, rest_at, list_at, text_at, with_prefix, times, many_at, whole, GivesAll, within, at_most, IsBytes, ReadsBefore, ReadsLast, Reads, ReadsBack, Missing}
 
 -- a step that found a value
 bind_some : {A B : Type 0} (r : Option A) (f : A → Option B) (y : B) → (r >>= f) ≡ Some y → (x : A) × (r ≡ Some x) × (f x ≡ Some y)
@@ -463,3 +463,34 @@ module _ {A : Type 0} (read : Parser A) where
       let one : with_prefix prefix (times read (count - i) bytes) ≡ Some (prefix, bytes) =
       rw k (ap (λ (xs : List A). Some (xs, bytes)) (append-nil prefix)) in
       sym so_far ∙ one
+
+-- ---- a loop that reads as many values as there are, up to a count
+
+-- the values that were read before, and those that are found after them
+abbrev pub prepend : {A : Type 0} → List A → List A × List ℕ → List A × List ℕ
+prepend prefix found = (prefix ++ found.0, found.1)
+
+module _ {A : Type 0} (read : Parser A) (prefix : List A) (bytes : List ℕ) (total : List A × List ℕ) where
+  -- it read one more
+  pub many_more : (count i : ℕ) (x : A) (after : List ℕ) → i < count → read bytes ≡ Some (x, after)
+      → prepend prefix (many_at read (count - i) bytes) ≡ total
+      → prepend (prefix ++ x ∷ []) (many_at read (count - (i + 1)) after) ≡ total
+  many_more count i x after lt next so_far =
+      let k : count - i ≡ suc (count - (i + 1)) = omega arith in
+      let found = many_at read (count - (i + 1)) after in
+      let one : prepend prefix (many_at read (count - i) bytes) ≡ (prefix ++ x ∷ found.0, found.1) = rw (k, next) refl in
+      ap (λ xs. (xs, found.1)) (append_assoc prefix (x ∷ []) found.0) ∙ sym one ∙ so_far
+
+  -- no further one can be read
+  pub many_ends : (n : ℕ) → read bytes ≡ None → prepend prefix (many_at read n bytes) ≡ total → total ≡ (prefix, bytes)
+  many_ends zero none so_far = sym so_far ∙ ap (λ xs. (xs, bytes)) (append-nil prefix)
+  many_ends (suc n) none so_far =
+      let end : prepend prefix (many_at read (suc n) bytes) ≡ (prefix ++ [], bytes) = rw none refl in
+      sym so_far ∙ end ∙ ap (λ xs. (xs, bytes)) (append-nil prefix)
+
+  -- as many were read as it may
+  pub many_done : (count i : ℕ) → count ≤ i → prepend prefix (many_at read (count - i) bytes) ≡ total → total ≡ (prefix, bytes)
+  many_done count i le so_far =
+      let k : count - i ≡ 0 = omega arith in
+      let end : prepend prefix (many_at read (count - i) bytes) ≡ (prefix ++ [], bytes) = rw k refl in
+      sym so_far ∙ end ∙ ap (λ xs. (xs, bytes)) (append-nil prefix)

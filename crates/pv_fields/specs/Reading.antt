@@ -1,5 +1,5 @@
 -- Parsers: the value that bytes begin with, and the rest of the bytes.
-use Rattle.std.specs.Prelude.{◌≡◌, ℕ, zero, suc, ◌<◌, List, [], ◌∷◌, ◌++◌, length, take, drop, get_or, Option, Some, None, Result, Ok, Err, Bool, nat_lt, nat_le, ◌&&◌, ◌==◌, if◌then◌else◌}
+use Rattle.std.specs.Prelude.{◌≡◌, ℕ, zero, suc, ◌<◌, List, [], ◌∷◌, ◌++◌, length, take, drop, get_or, Option, Some, None, option_map, unwrap_or, Result, Ok, Err, Bool, nat_lt, nat_le, ◌&&◌, ◌==◌, if◌then◌else◌}
 use Rattle.std.specs.Int.{Width, byte_len, from_be_bytes}
 
 -- finds a value at the beginning of bytes, and the bytes after it; or no value
@@ -80,6 +80,12 @@ text_at low high = chain_at (within low high byte_at) run_at
 -- the values that were read before, with those that are still to be read
 abbrev pub with_prefix : {A : Type 0} → List A → Option (List A × List ℕ) → Option (List A × List ℕ)
 with_prefix prefix read = read >>= λ x. Some (prefix ++ x.0, x.1)
+
+-- as many values as there are one after the other, up to a count, and the rest of the bytes
+abbrev pub many_at : {A : Type 0} → Parser A → ℕ → List ℕ → List A × List ℕ
+many_at read zero bytes = ([], bytes)
+many_at read (suc count) bytes =
+    unwrap_or (option_map (λ x. let more = many_at read count x.1 in (x.0 ∷ more.0, more.1)) (read bytes)) ([], bytes)
 
 -- a value that takes all the bytes that are left
 abbrev pub rest_at : {A : Type 0} → (List ℕ → Option A) → Parser A

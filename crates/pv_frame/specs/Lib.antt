@@ -1,6 +1,7 @@
+pub mod Codes
 pub mod Content
-pub mod Faults
+pub mod Errors
 pub mod Memory
+pub mod Raw
 pub mod Reading
-pub mod Sound
 pub mod Spelling

@@ -1,12 +1,14 @@
-ghost use Rattle.std.specs.Prelude.{◌≡◌, ◌++◌, length, drop, All};
+ghost use Rattle.std.specs.Prelude.{◌≡◌, ◌↔◌, All, IsOk, IfOk, IfErr, Some, Ok};
 ghost use Rattle.pv_cells.specs.Row.{IsCell};
 
+use crate::codec_error::FrameCodecError;
 use crate::frame::Frame;
-use crate::layout::BODY_CELLS;
+use crate::frame_error::FrameError;
+use crate::layout::FIRST_ROW;
 use pv_cells::ROW_LENGTH;
 use std::marker::Model;
 
-/// A frame that has a meaning, as [`Frame::check`] takes it. Contracts see what it holds.
+/// A valid frame: one that [`Frame::check`] accepts. Contracts see what it holds.
 #[derive(Clone, Copy, Debug, PartialEq, Eq)]
 pub struct CheckedFrame {
     frame: Frame,
@@ -14,44 +16,61 @@ pub struct CheckedFrame {
 
 impl Model for CheckedFrame {
     ghost use Rattle.pv_frame.specs.Content.{Content};
-    ghost use Rattle.pv_frame.specs.Sound.{IsSound};
+    ghost use Rattle.pv_frame.specs.Errors.{IsValid};
 
     ghost Value = { Content };
 
     ghost view = { λ c. c.frame };
 
-    ghost invariant = { λ c. IsSound c.frame };
+    ghost invariant = { λ c. IsValid c.frame };
 
     ghost inverse = { λ frame. record { frame = frame } };
 }
 
 impl CheckedFrame {
-    ghost use Rattle.pv_frame.specs.Content.{frame_of_row};
-    ghost use Rattle.pv_frame.specs.Sound.{IsSound};
+    ghost use Rattle.pv_frame.specs.Content.{Content, frame_of_row};
+    ghost use Rattle.pv_frame.specs.Errors.{IsValid, HasRanges, error_of};
+    ghost use Rattle.pv_frame.specs.Spelling.{HasSpelling, spelling_of};
+    ghost use Rattle.pv_frame.specs.Reading.{decode_of};
 
-    /// The frame that is blank but for its row 2.
+    /// The frame, if it is valid. The error is that of [`Frame::check`].
+    pub fn of(frame: Frame) -> Result<CheckedFrame, FrameError>
+        ensures ok { IsOk result ↔ IsValid frame }
+        ensures value { IfOk result (λ checked. checked ≡ frame) }
+        ensures err { IfErr result (λ error. error_of frame ≡ Some error) }
+    {
+        frame.check()?;
+        Ok(CheckedFrame { frame })
+    }
+
+    /// A frame that is blank except for its row 2.
     pub fn of_row(row: &[u8; ROW_LENGTH]) -> CheckedFrame
         requires { All IsCell row.now }
         ensures { result ≡ frame_of_row row.now }
     {
         let mut frame = Frame::blank();
-        put_row_2(row, &mut frame.body);
+        frame.set_row(FIRST_ROW, row);
         CheckedFrame { frame }
+    }
+
+    /// The frame that the bytes spell, as [`Frame::decode`] reads it.
+    pub fn decode(bytes: &[u8]) -> Result<CheckedFrame, FrameCodecError>
+        ensures found { IfOk result (λ frame.
+            HasSpelling frame × (bytes.now ≡ spelling_of frame)) }
+        ensures only { (frame : Content) → HasSpelling frame → bytes.now ≡ spelling_of frame →
+            result ≡ Ok frame }
+        ensures exact { result ≡ decode_of bytes.now }
+    {
+        let frame = Frame::decode(bytes)?;
+        Ok(CheckedFrame { frame })
     }
 
     /// The frame.
     pub fn frame(&self) -> &Frame
         ensures value { result.now ≡ self.now }
-        ensures sound { IsSound self.now }
+        ensures valid { IsValid self.now }
+        ensures ranges { HasRanges self.now }
     {
         &self.frame
     }
-}
-
-/// Writes a row over the first one of a body.
-fn put_row_2(row: &[u8; ROW_LENGTH], body: &mut [u8; BODY_CELLS])
-    ensures value { body.new ≡ row.now ++ drop ROW_LENGTH body.old }
-    ensures length { length body.new ≡ BODY_CELLS }
-{
-    body[..ROW_LENGTH].copy_from_slice(row);
 }

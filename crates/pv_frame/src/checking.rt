@@ -1,35 +1,35 @@
-ghost use Rattle.std.specs.Prelude.{◌≡◌, ◌<◌, nat_lt, not, position, None, Some, OnOk, IfErr};
-ghost use Rattle.std.specs.List.{list_any, list_all};
-ghost use Rattle.pv_frame.specs.Faults.{first_of, lies_in_body, meets, first_meeting, takes_text, has_shape, faults_of_fields};
+ghost use Rattle.std.specs.Prelude.{◌≡◌, not, position, None, Some, OnOk, IfErr};
+ghost use Rattle.std.specs.List.{list_all};
+ghost use Rattle.pv_fields.specs.Refusals.{first_of};
+ghost use Rattle.pv_frame.specs.Errors.{is_cell, lies_in_body, meets, first_meeting, takes_text, has_shape, field_errors, parts_error};
 
 use crate::field::Field;
 use crate::frame_error::FrameError;
 use crate::kind::Kind;
-use crate::layout::MAIL_TEXTS;
-use pv_cells::LAST_CELL;
+use crate::layout::{LAST_PRICE, MAIL_TEXTS};
 
-/// Whether a byte is no cell.
-pub(crate) fn has_wrong_cell(bytes: &[u8]) -> bool
-    ensures { result ≡ list_any (nat_lt LAST_CELL) bytes.now }
+/// Whether all bytes are cells.
+fn are_cells(bytes: &[u8]) -> bool
+    ensures { result ≡ list_all is_cell bytes.now }
 {
-    bytes.iter().any(|byte| *byte > LAST_CELL)
+    bytes.is_ascii()
 }
 
-/// The place of the first field that does not lie in the body.
+/// The index of the first field that does not lie in the body.
 fn first_outside(fields: &[Field]) -> Option<usize>
     ensures { result ≡ position (λ field. not (lies_in_body field)) fields.now }
 {
     fields.iter().position(|field| !field.lies_in_body())
 }
 
-/// The place of the first of the others with which the field shares a cell.
+/// The index of the first of the others that the field shares a cell with.
 fn first_met(field: &Field, others: &[Field]) -> Option<usize>
     ensures { result ≡ position (meets field.now) others.now }
 {
     others.iter().position(|other| field.meets(other))
 }
 
-/// The places of the first field that shares a cell with a later one, and of the first such.
+/// The index of the first field that shares a cell with a later one, and that of the first such.
 fn first_meeting(fields: &[Field]) -> Option<(usize, usize)>
     ensures { result ≡ first_meeting 0 fields.now }
 {
@@ -70,10 +70,10 @@ fn are_texts(fields: &[Field]) -> bool
     fields.iter().all(|field| field.takes_text())
 }
 
-/// Whether a frame of this kind may have the fields.
-pub(crate) fn check_fields(kind: Kind, fields: &[Field]) -> Result<(), FrameError>
-    ensures ok { OnOk result (first_of (faults_of_fields kind fields.now) ≡ None) }
-    ensures err { IfErr result (λ fault. first_of (faults_of_fields kind fields.now) ≡ Some fault) }
+/// The first error of the fields of a frame of this kind.
+fn check_fields(kind: Kind, fields: &[Field]) -> Result<(), FrameError>
+    ensures ok { OnOk result (first_of (field_errors kind fields.now) ≡ None) }
+    ensures err { IfErr result (λ error. first_of (field_errors kind fields.now) ≡ Some error) }
 {
     if let Some(i) = first_outside(fields) {
         return Err(FrameError::FieldRange { i });
@@ -85,4 +85,25 @@ pub(crate) fn check_fields(kind: Kind, fields: &[Field]) -> Result<(), FrameErro
         return Err(FrameError::Shape);
     }
     Ok(())
+}
+
+/// The first error of a frame with these parts.
+pub(crate) fn check_parts(
+    title: &[u8],
+    body: &[u8],
+    price: u16,
+    kind: Kind,
+    fields: &[Field],
+) -> Result<(), FrameError>
+    ensures ok { OnOk result (parts_error title.now body.now price kind fields.now ≡ None) }
+    ensures err { IfErr result (λ error.
+        parts_error title.now body.now price kind fields.now ≡ Some error) }
+{
+    if !(are_cells(title) && are_cells(body)) {
+        return Err(FrameError::Cell);
+    }
+    if price > LAST_PRICE {
+        return Err(FrameError::Price);
+    }
+    check_fields(kind, fields)
 }

@@ -26,7 +26,7 @@ pub struct Field {
 }
 
 impl Field {
-    /// No field: what stands in a frame behind its last field.
+    /// No field: an empty place of a frame, after its last field.
     pub const NONE: Field = Field {
         row: 0,
         column: 0,
@@ -36,9 +36,9 @@ impl Field {
 }
 
 impl Field {
-    ghost use Rattle.pv_frame.specs.Faults.{end_of, lies_in_body, meets, takes_account, takes_text};
+    ghost use Rattle.pv_frame.specs.Errors.{end_of, lies_in_body, meets, takes_account, takes_text};
 
-    /// The column behind the last cell.
+    /// The column after the last cell.
     fn end(&self) -> usize
         ensures { result ≡ end_of self.now }
     {

@@ -1,18 +1,18 @@
 use pv_cells::ROW_LENGTH;
 
-/// How many cells a title has.
+/// The number of cells of a title.
 pub const TITLE_CELLS: usize = 24;
 
-/// How many rows a body has.
+/// The number of rows of a body.
 pub const BODY_ROWS: usize = 22;
 
-/// How many cells a body has.
+/// The number of cells of a body.
 pub const BODY_CELLS: usize = BODY_ROWS * ROW_LENGTH;
 
-/// How many routes a frame has, one for each digit.
+/// The number of routes of a frame, one for each digit.
 pub const ROUTES: usize = 10;
 
-/// How many fields a frame has at most.
+/// The greatest number of fields of a frame.
 pub const FIELDS: usize = 8;
 
 /// The greatest price, in pence.
@@ -24,46 +24,37 @@ pub const FIRST_ROW: u8 = 2;
 /// The last row that a field may lie in.
 pub const LAST_ROW: u8 = 23;
 
-/// How many digits the field of an account has.
+/// The number of digits of the field for an account.
 pub const ACCOUNT_DIGITS: u8 = 10;
 
-/// How many texts a mail frame has at most.
+/// The greatest number of texts of a mail frame.
 pub const MAIL_TEXTS: usize = 6;
-
-// The bytes of a frame. Each part stands at a place of its own.
 
 /// The version of a spelling, its first byte.
 pub const VERSION: u8 = 1;
 
-/// Where the title stands.
-pub(crate) const TITLE_AT: usize = 1;
-
-/// Where the body stands.
-pub(crate) const BODY_AT: usize = TITLE_AT + TITLE_CELLS;
-
-/// Where the code of the kind stands.
-pub(crate) const KIND_AT: usize = BODY_AT + BODY_CELLS;
-
-/// Where the first route stands.
-pub(crate) const ROUTES_AT: usize = KIND_AT + 1;
-
-/// How many bytes a route takes.
+/// The number of bytes of a route.
 pub(crate) const ROUTE_BYTES: usize = 4;
 
-/// The number of a digit that leads nowhere.
+/// The number of bytes of all routes.
+pub(crate) const ROUTES_SIZE: usize = ROUTE_BYTES * ROUTES;
+
+/// The number that spells a digit without a route.
 pub(crate) const NO_ROUTE: u32 = 0xffff_ffff;
 
-/// Where the price stands.
-pub(crate) const PRICE_AT: usize = ROUTES_AT + ROUTE_BYTES * ROUTES;
-
-/// Where the group stands.
-pub(crate) const GROUP_AT: usize = PRICE_AT + 1;
-
-/// Where the number of fields stands.
-pub(crate) const COUNT_AT: usize = GROUP_AT + 2;
-
-/// Where the first field stands, and how many bytes a frame without fields takes.
-pub const FIELDS_AT: usize = COUNT_AT + 1;
-
-/// How many bytes a field takes.
+/// The number of bytes of a field.
 pub const FIELD_BYTES: usize = 4;
+
+// The places of codes in the bytes of a frame: as many bytes as the parts before them take.
+
+/// The place of the frame's kind, after the version, the title and the body.
+pub(crate) const KIND_AT: usize = 1 + TITLE_CELLS + BODY_CELLS;
+
+/// The place of the first route, after the kind.
+pub(crate) const ROUTES_AT: usize = KIND_AT + 1;
+
+/// The place of the number of fields, after the routes, the price and the group.
+pub(crate) const COUNT_AT: usize = ROUTES_AT + ROUTES_SIZE + 3;
+
+/// The place of the first field, and the number of bytes of a frame without fields.
+pub const FIELDS_AT: usize = COUNT_AT + 1;

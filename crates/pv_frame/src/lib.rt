@@ -2,19 +2,22 @@
 //!
 //! A [`Frame`] has a title of 24 cells, a body of 22 rows, a [`Kind`], a route for each digit, a
 //! price in pence, a closed user group, and up to eight [`Field`]s, which a caller fills in. A frame
-//! of the kind Information has no field, one of the kind Response has some, and one of the kind Mail
-//! has a field for the ten digits of an account and then one to six for words.
+//! of the kind Information has no field. One of the kind Response has at least one. One of the kind
+//! Mail has a field for the ten digits of an account and then one to six for words.
 //!
-//! - [`Frame::blank`] is a frame with nothing on it. Its parts are public; [`Frame::add_field`] puts
-//!   a field behind the others.
-//! - [`Frame::check`] tells whether a frame has a meaning, or its first [`FrameError`].
-//! - A [`CheckedFrame`] is a frame that `check` takes: its type keeps that.
-//! - [`Frame::encode`] appends the one spelling of a frame, 950 bytes and four for each field, and
-//!   [`Frame::decode`] reads it, or tells the [`FrameCodecError`] that stands first.
+//! - [`Frame::blank`] is a frame with nothing on it. Its parts are public, [`Frame::set_row`] writes
+//!   a row of the body, and [`Frame::add_field`] puts a field after the others.
+//! - [`Frame::check`] returns whether a frame is valid, or its first [`FrameError`].
+//! - A [`CheckedFrame`] is a valid frame: its type guarantees that.
+//! - [`Frame::encode`] appends the one spelling of a frame, 950 bytes and four for each field.
+//!   [`Frame::decode`] reads it, or returns the first [`FrameCodecError`].
 //!
-//! Contracts see a frame as its `Content`: lists of cells, of routes and of fields, without the free
-//! places behind the last field. `IsFrame` says what every frame keeps, and `IsSound` which frames
-//! have a meaning. No call takes memory. A caller makes a frame, spells it and reads it again:
+//! Contracts see a frame as its `Content`: lists of cells, of routes and of fields, without the empty
+//! places after the last field. `IsFrame` is the invariant of every frame, and `IsValid` says that it
+//! has no error. The layout of the bytes is one definition, `Raw`: the parts in their order, without
+//! meaning. The errors of bytes and the frame that they spell are functions of it.
+//!
+//! No call allocates. A caller makes a frame, spells it and reads it again:
 //!
 //! ```text
 //! let mut frame = Frame::blank();
@@ -29,14 +32,14 @@
 mod checked_frame;
 mod checking;
 mod codec_error;
+mod codes;
 mod field;
 mod frame;
 mod frame_error;
 mod kind;
 mod law;
 mod layout;
-mod reading;
-mod writing;
+mod raw;
 
 pub use checked_frame::CheckedFrame;
 pub use codec_error::FrameCodecError;
@@ -44,7 +47,7 @@ pub use field::{Field, FieldKind};
 pub use frame::Frame;
 pub use frame_error::FrameError;
 pub use kind::Kind;
-pub use law::{faults_are_what_they_say, no_spelling_begins_another, one_spelling_is_one_frame};
+pub use law::{fields_meet_in_a_cell, no_spelling_begins_another};
 pub use layout::{
     ACCOUNT_DIGITS, BODY_CELLS, BODY_ROWS, FIELD_BYTES, FIELDS, FIELDS_AT, FIRST_ROW, LAST_PRICE,
     LAST_ROW, MAIL_TEXTS, ROUTES, TITLE_CELLS, VERSION,

@@ -30,12 +30,12 @@ fn spelled() -> [u8; 962] {
     bytes
 }
 
-/// What is refused of bytes, if anything.
-fn refusal(bytes: &[u8]) -> Option<FrameCodecError> {
+/// The error of bytes, if there is one.
+fn error_of(bytes: &[u8]) -> Option<FrameCodecError> {
     Frame::decode(bytes).err()
 }
 
-/// What is refused of the spelled frame with some bytes changed.
+/// The error of the spelled frame with some bytes changed.
 fn changed(changes: &[(usize, u8)]) -> Option<FrameCodecError> {
     let mut bytes = spelled();
     for (at, value) in changes {
@@ -43,7 +43,7 @@ fn changed(changes: &[(usize, u8)]) -> Option<FrameCodecError> {
             *byte = *value;
         }
     }
-    refusal(&bytes)
+    error_of(&bytes)
 }
 
 #[test]
@@ -52,11 +52,11 @@ fn a_blank_frame_takes_950_bytes(rt: HostRuntime) -> Result<(), Fail> {
     let mut out = Out::new(&mut into);
     Frame::blank().encode(&mut out)?;
     assert_eq!(rt; out.written(), 950);
-    assert_eq!(rt; refusal(&into), Some(FrameCodecError::Trailing));
+    assert_eq!(rt; error_of(&into), Some(FrameCodecError::Trailing));
     let mut bytes = [0; 950];
     bytes.copy_from_slice(&into[..950]);
-    assert_eq!(rt; refusal(&bytes), None);
-    assert_eq!(rt; refusal(&bytes[..949]), Some(FrameCodecError::Short));
+    assert_eq!(rt; error_of(&bytes), None);
+    assert_eq!(rt; error_of(&bytes[..949]), Some(FrameCodecError::Short));
     let cases = [
         (0, 2, FrameCodecError::Version),
         (
@@ -71,7 +71,7 @@ fn a_blank_frame_takes_950_bytes(rt: HostRuntime) -> Result<(), Fail> {
         if let Some(byte) = other.get_mut(at) {
             *byte = value;
         }
-        assert_eq!(rt; refusal(&other), Some(wanted), "byte {at}");
+        assert_eq!(rt; error_of(&other), Some(wanted), "byte {at}");
     }
     Ok(())
 }
@@ -134,7 +134,7 @@ fn a_frame_is_made_part_by_part(rt: HostRuntime) -> Result<(), Fail> {
 }
 
 #[test]
-fn a_row_of_cells_makes_a_frame_that_is_checked(rt: HostRuntime) -> Result<(), Fail> {
+fn a_row_of_cells_makes_a_valid_frame(rt: HostRuntime) -> Result<(), Fail> {
     let row = row_of(b"HELLO")?;
     let checked = CheckedFrame::of_row(&row);
     let frame = checked.frame();
@@ -146,7 +146,47 @@ fn a_row_of_cells_makes_a_frame_that_is_checked(rt: HostRuntime) -> Result<(), F
 }
 
 #[test]
-fn one_changed_byte_is_refused_for_what_it_breaks(rt: HostRuntime) {
+fn rows_and_fields_are_replaced(rt: HostRuntime) -> Result<(), Fail> {
+    let mut frame = Frame::decode(&spelled())?;
+    frame.set_row(23, &row_of(b"LAST")?);
+    assert_eq!(rt; &frame.body[840..844], b"LAST".as_slice());
+    assert_eq!(rt; frame.body[839], b' ');
+    assert_eq!(rt; frame.body[0], b'A');
+    assert_eq!(rt; frame.check(), Ok(()));
+    frame.clear_fields();
+    assert_eq!(rt; frame.fields().len(), 0);
+    assert_eq!(rt; frame.check(), Err(FrameError::Shape));
+    frame.kind = Kind::Information;
+    assert_eq!(rt; frame.check(), Ok(()));
+    Ok(())
+}
+
+#[test]
+fn a_checked_frame_is_valid(rt: HostRuntime) -> Result<(), Fail> {
+    let checked = CheckedFrame::decode(&spelled())?;
+    let frame = checked.frame();
+    assert_eq!(rt; Frame::decode(&spelled()), Ok(*frame));
+    assert_eq!(rt; CheckedFrame::of(*frame), Ok(checked));
+    Ok(())
+}
+
+#[test]
+fn errors_have_their_numbers(rt: HostRuntime) {
+    let errors = [
+        FrameError::Cell,
+        FrameError::Price,
+        FrameError::FieldRange { i: 0 },
+        FrameError::FieldsMeet { i: 0, j: 1 },
+        FrameError::Shape,
+        FrameError::Code { at: 905 },
+    ];
+    for (i, error) in errors.iter().enumerate() {
+        assert_eq!(rt; usize::from(error.number()), i + 1);
+    }
+}
+
+#[test]
+fn one_changed_byte_has_the_error_of_what_it_breaks(rt: HostRuntime) {
     let code = |at| Some(FrameCodecError::Invalid(FrameError::Code { at }));
     let range = |i| Some(FrameCodecError::Invalid(FrameError::FieldRange { i }));
     let meet = |i, j| Some(FrameCodecError::Invalid(FrameError::FieldsMeet { i, j }));
@@ -209,17 +249,17 @@ fn one_changed_byte_is_refused_for_what_it_breaks(rt: HostRuntime) {
         (960, 39, range(2)),
         (961, 7, code(961)),
     ];
-    assert_eq!(rt; refusal(&spelled()), None);
+    assert_eq!(rt; error_of(&spelled()), None);
     for (at, value, wanted) in cases {
         assert_eq!(rt; changed(&[(at, value)]), wanted, "{value} at {at}");
     }
 }
 
 #[test]
-fn of_two_faults_the_first_is_told(rt: HostRuntime) {
-    let invalid = |fault| Some(FrameCodecError::Invalid(fault));
+fn of_two_errors_the_first_is_returned(rt: HostRuntime) {
+    let invalid = |error| Some(FrameCodecError::Invalid(error));
     let code = |at| invalid(FrameError::Code { at });
-    // A bad code is told before what is missing behind it, and that before what the frame breaks.
+    // A bad code comes before what is missing after it, and that before the errors of the frame.
     assert_eq!(rt; changed(&[(905, 3), (906, 0xfe), (949, 9)]), code(905));
     assert_eq!(rt; changed(&[(942, 0), (949, 9)]), code(949));
     assert_eq!(rt;
@@ -235,7 +275,7 @@ fn of_two_faults_the_first_is_told(rt: HostRuntime) {
         changed(&[(949, 2), (946, 100)]),
         Some(FrameCodecError::Trailing)
     );
-    // Of what the frame breaks the least code is told.
+    // Of the errors of the frame the first is returned.
     assert_eq!(rt;
         changed(&[(946, 100), (904, 128)]),
         invalid(FrameError::Cell)
@@ -257,11 +297,11 @@ fn each_prefix_is_short(rt: HostRuntime) {
     let bytes = spelled();
     for end in 0..962 {
         assert_eq!(rt;
-            refusal(&bytes[..end]),
+            error_of(&bytes[..end]),
             Some(FrameCodecError::Short),
             "{end} bytes"
         );
     }
-    // Another version is told from the first byte on.
-    assert_eq!(rt; refusal(&[2]), Some(FrameCodecError::Version));
+    // Another version is an error from the first byte on.
+    assert_eq!(rt; error_of(&[2]), Some(FrameCodecError::Version));
 }

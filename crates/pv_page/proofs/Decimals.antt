@@ -1,5 +1,5 @@
 -- The decimal texts of pages and accounts, and the digits that are such a text.
-use Rattle.std.proofs.Common.{◌≡◌, ℕ, zero, suc, ◌+◌, ◌-◌, ◌^◌, ◌<◌, ◌≤◌, ◌≢◌, List, [], ◌∷◌, ◌++◌, length, get_or, take, drop, All, replicate, not, false, None, Ok, decimal, refl, sym, ap, ◌∙◌, inl, inr, arith}
+use Rattle.std.proofs.Common.{◌≡◌, ℕ, zero, suc, ◌+◌, ◌-◌, ◌^◌, ◌<◌, ◌≤◌, ◌≢◌, List, [], ◌∷◌, ◌++◌, length, get_or, take, drop, All, replicate, not, None, decimal, refl, sym, ap, ◌∙◌, inl, inr, arith}
 use Rattle.std.specs.Char.{IsAsciiDigit, is_ascii_digit}
 use Rattle.std.specs.Int.{IsInRange}
 use Rattle.std.specs.List.{position_or_len}
@@ -7,14 +7,12 @@ use Rattle.std.proofs.lemmas.Bool.Decides.{nat_tests}
 use Rattle.std.proofs.lemmas.Grind.{common_steps}
 use Rattle.std.proofs.lemmas.List.Sums.{prefix_len_passes, prefix_len_is}
 use Rattle.std.specs.Str.Parse.{AllDigits, digits_value}
-use Rattle.std.proofs.lemmas.Bool.{cases_eq, cases_lt, lt-ltb, le-ltb, ne_eqb, eqb-false, ltb-false, and_left, and_right, and_from, eq-eqb, false≢true}
+use Rattle.std.proofs.lemmas.Bool.{cases_eq, cases_lt, le-ltb}
 use Rattle.std.proofs.lemmas.List.{get_or_default, append-nil, take-append-drop, take-replicate, length-append, length-replicate}
 use Rattle.std.proofs.lemmas.Str.Parse.{IsNumeralModel, numerals_by_value, tells_digits, tells_by_index, digit_at, digits_value_short}
 use Rattle.std.proofs.lemmas.Fmt.{decimal_digit, decimal_nonempty, decimal_injective, first_decimal, length-decimal-le, digits_decimal, digits_value-decimal, decimal-digits_value}
-use Rattle.pv_fields.specs.Refusals.{first_of, unless}
-use Rattle.pv_fields.proofs.CallerLemmas.{none_of, first_of-one, some_if-none, some_if-false, option_map-none_back, option_map-none, first_of-none}
-use Rattle.pv_page.specs.declared.page_error.PageError.TheVariants.{Empty, TooLong, NotDigit, LeadingZero}
-use Rattle.pv_page.specs.Names.{IsPage, IsAccount, account_text, first_not_digit, has_leading_zero, page_errors, page_of_digits}
+use Rattle.pv_fields.specs.Refusals.{first_of}
+use Rattle.pv_page.specs.Names.{IsPage, IsAccount, account_text, first_not_digit, page_errors}
 
 -- std's words for digits and their value
 pub own : IsNumeralModel (AllDigits 10) (digits_value 10)
@@ -65,7 +63,8 @@ module _ (text : List ℕ) (digits : AllDigits 10 text) (some : 0 < length text)
       decimal-digits_value own text digits some no_leading_zero (omega (arith, page_within))
 
 -- what was written before the end of ten zeros is an account's text
-pub account_text-written : (n at : ℕ) (buffer : List ℕ) → at + length (decimal n) ≡ 10 → drop at buffer ≡ decimal n ++ drop 10 (replicate 10 48)
+pub account_text-written : (n at : ℕ) (buffer : List ℕ) → at + length (decimal n) ≡ 10
+    → drop at buffer ≡ decimal n ++ drop 10 (replicate 10 48)
     → take at buffer ≡ take at (replicate 10 48) → buffer ≡ account_text n
 account_text-written n at buffer start written before =
     let zeros : take at (replicate 10 48) ≡ replicate (10 - length (decimal n)) 48 =
@@ -162,38 +161,20 @@ pub record IsRead (text : List ℕ) : Type 0 where
 -- so is a text without an error
 pub is_read : (text : List ℕ) → first_of (page_errors text) ≡ None → IsRead text
 is_read text none =
-    let empty = none_of _ _ none in
-    let long = none_of _ _ empty.1 in
-    let letter = none_of _ _ long.1 in
-    let leading : has_leading_zero text ≡ false = some_if-none _ LeadingZero (sym (first_of-one _) ∙ letter.1) in
+    let digits : first_not_digit text ≡ None = grind (arith, nat_tests) in
     record {
-      some = omega (arith, eqb-false (length text) 0 (some_if-none _ Empty empty.0));
-      few = ltb-false 9 (length text) (some_if-none _ TooLong long.0);
-      digits = digits_from_none text (option_map-none_back NotDigit (first_not_digit text) letter.0);
-      plain = λ first. elim (cases_lt 1 (length text)) [
-        | inl more ↦ absurd (false≢true (sym leading ∙ and_from _ _ (lt-ltb 1 (length text) more) (eq-eqb _ _ first)))
-        | inr few ↦ omega (arith, eqb-false (length text) 0 (some_if-none _ Empty empty.0))
-      ];
+      some = grind (arith, nat_tests);
+      few = grind (arith, nat_tests);
+      digits = digits_from_none text digits;
+      plain = λ first. grind (arith, nat_tests);
     }
 
 -- a page's text has no error
 pub page_without_error : (text : List ℕ) (n : ℕ) → IsPage n → text ≡ decimal n → first_of (page_errors text) ≡ None
 page_without_error text n page is =
     let len : length text ≡ length (decimal n) = ap length is in
-    let some : 0 < length text = omega (arith, len, page_nonempty n page) in
-    let few : length text ≤ 9 = omega (arith, len, length-page n page) in
-    let digits : AllDigits 10 text = rw is (digits_of_page n page) in
-    let plain : has_leading_zero text ≡ false = elim (cases_lt 1 (length text)) [
-      | inl more ↦ and_right _ _ (ne_eqb (get_or text 0 0) 48 (λ first. first_of_page n page (omega (arith, len, more)) (rw is at first)))
-      | inr one ↦ and_left _ _ (le-ltb 1 (length text) one)
-    ] in
-    first_of-none _ _ (some_if-false _ Empty (ne_eqb (length text) 0 (λ none. omega (arith, none, some))))
-    ∙ first_of-none _ _ (some_if-false _ TooLong (le-ltb 9 (length text) few))
-    ∙ first_of-none _ _ (option_map-none NotDigit (first_not_digit text) (none_from_digits text digits))
-    ∙ first_of-none _ [] (some_if-false (has_leading_zero text) LeadingZero plain)
-
--- it is read as the page
-pub page_read : (text : List ℕ) (n : ℕ) → IsPage n → text ≡ decimal n → page_of_digits text ≡ Ok n
-page_read text n page is =
-    ap (λ o. unless o (digits_value 10 text)) (page_without_error text n page is)
-    ∙ ap Ok (ap (digits_value 10) is ∙ digits_value-page n page)
+    let some = page_nonempty n page in
+    let few = length-page n page in
+    let digits = none_from_digits text (rw is (digits_of_page n page)) in
+    let plain : 1 < length text → get_or text 0 0 ≢ 48 = rw is (first_of_page n page) in
+    grind (arith, nat_tests)

@@ -3,7 +3,7 @@ use std::test::Fail;
 
 #[test]
 fn page_digits_are_read_or_refused(rt: HostRuntime) {
-    let faults: [(&[u8], PageError); 12] = [
+    let errors: [(&[u8], PageError); 12] = [
         (b"", PageError::Empty),
         (b"1234567890", PageError::TooLong),
         (b"12345678x0", PageError::TooLong),
@@ -17,8 +17,8 @@ fn page_digits_are_read_or_refused(rt: HostRuntime) {
         (b"00", PageError::LeadingZero),
         (b"000000000", PageError::LeadingZero),
     ];
-    for (digits, fault) in faults {
-        assert_eq!(rt; PageNo::of_digits(digits), Err(fault), "at {digits:?}");
+    for (digits, error) in errors {
+        assert_eq!(rt; PageNo::of_digits(digits), Err(error), "at {digits:?}");
     }
     let pages: [(&[u8], u32); 5] = [
         (b"0", 0),

@@ -1,7 +1,7 @@
 use Rattle.std.proofs.Common.{sym, ◌∙◌}
 use Rattle.std.proofs.lemmas.List.{take_rest}
 use Rattle.pv_frame.specs.Memory.{no_field}
-use Rattle.pv_frame.proofs.First.{first_meeting-found, first_meeting-passed}
+use Rattle.pv_frame.proofs.Meetings.{first_meeting-found, first_meeting-passed}
 use Rattle.pv_frame.proofs.checking.first_meeting.Goals as goal
 
 pub returns-in-Some : goal.returns-in-Some

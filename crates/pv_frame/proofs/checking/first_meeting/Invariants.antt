@@ -1,5 +1,5 @@
 use Rattle.std.proofs.Common.{◌≡◌, drop}
-use Rattle.pv_frame.specs.Faults.{first_meeting}
+use Rattle.pv_frame.specs.Errors.{first_meeting}
 use Rattle.pv_frame.proofs.checking.first_meeting.Given as goal
 
 -- no field before this one meets a later one

@@ -1,5 +1,5 @@
-use Rattle.pv_frame.proofs.ReadAgain.{no_longer_spelling}
+use Rattle.pv_frame.proofs.OneSpelling.{ReadsBack-frame}
 use Rattle.pv_frame.proofs.law.no_spelling_begins_another.Goals as goal
 
 pub returns : goal.returns
-returns c = no_longer_spelling
+returns c = ReadsBack-frame

@@ -1,0 +1,24 @@
+-- A frame that is blank except for a row is valid.
+use Rattle.std.proofs.Common.{◌≡◌, ℕ, ◌-◌, true, List, ◌++◌, length, drop, replicate, All, refl, ap, ◌∙◌, arith}
+use Rattle.std.specs.List.{list_all}
+use Rattle.std.proofs.lemmas.List.{drop-replicate}
+use Rattle.std.proofs.lemmas.List.Elements.{All-append, All-replicate}
+use Rattle.pv_cells.specs.Row.{IsCell}
+use Rattle.pv_frame.specs.Content.{blank_frame, frame_of_row}
+use Rattle.pv_frame.specs.Errors.{is_cell, IsValid}
+use Rattle.pv_frame.proofs.Cells.{all_cells}
+
+-- the row in place of the first 40 blank cells
+pub row_written : (row : List ℕ) → length row ≡ 40 → record blank_frame { body = row ++ drop 40 blank_frame.body } ≡ frame_of_row row
+unfolding frame_of_row
+row_written row width =
+    let rest : 880 - 40 ≡ 880 - length row = omega (arith, width) in
+    ap (λ cells. record blank_frame { body = row ++ cells }) (drop-replicate 40 880 32 ∙ ap (λ n. replicate n 32) rest)
+
+pub IsValid-frame_of_row : (row : List ℕ) → All IsCell row → IsValid (frame_of_row row)
+unfolding frame_of_row
+IsValid-frame_of_row row are_cells =
+    let blanks = All-replicate IsCell (880 - length row) 32 (omega arith) in
+    let body : list_all is_cell (row ++ replicate (880 - length row) 32) ≡ true =
+    all_cells (row ++ replicate (880 - length row) 32) (All-append IsCell row (replicate (880 - length row) 32) are_cells blanks) in
+    rw body refl

@@ -1,0 +1,9 @@
+use Rattle.std.proofs.Common.{take}
+use Rattle.std.specs.Prelude.{flat_map}
+use Rattle.pv_fields.specs.Out.{Appends}
+use Rattle.pv_frame.specs.Codes.{route_bytes}
+use Rattle.pv_frame.proofs.frame.put_routes.Given as goal
+
+-- the routes so far are appended
+abbrev pub invariant-loop-route : goal.invariant-loop-route
+invariant-loop-route l = Appends l.initial.out l.out (flat_map route_bytes (take l.route-index l.routes))

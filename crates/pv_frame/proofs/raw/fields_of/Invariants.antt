@@ -1,0 +1,13 @@
+use Rattle.std.proofs.Common.{◌≡◌, map, take}
+use Rattle.pv_fields.specs.Padded.{IsPadded}
+use Rattle.pv_frame.specs.declared.layout.TheConstants.{FIELDS}
+use Rattle.pv_frame.specs.Codes.{field_of}
+use Rattle.pv_frame.specs.Memory.{no_field}
+use Rattle.pv_frame.proofs.raw.fields_of.Given as goal
+
+-- the fields so far are read, and the other places are empty
+abbrev pub invariant-loop-i : goal.invariant-loop-i
+invariant-loop-i l = record {
+  places : IsPadded no_field FIELDS l.i l.fields;
+  read : take l.i l.fields ≡ map field_of (take l.i l.chunks);
+}
