@@ -1,5 +1,5 @@
 -- The limits of a charge line, and a line's spelling, computed from the definitions.
-use Rattle.std.proofs.Common.{◌≡◌, ℕ, ◌∷◌, [], Some, refl, length}
+use Rattle.std.proofs.Common.{◌≡◌, ◌∷◌, [], refl, length}
 use Rattle.pv_charge.specs.Line.{Charge, charge_bytes}
 use Rattle.pv_charge.specs.declared.line.TheConstants.{MAX_PRICE, LAST_MOMENT, LINE_BYTES}
 use Rattle.pv_charge.specs.declared.bill.TheConstants.{MAX_BILLED_LINES, MAX_BILLED_PENCE}

@@ -22,15 +22,13 @@ fn line() -> Option<Line> {
 #[test]
 fn a_line_is_spelled_part_by_part(rt: HostRuntime) -> Result<(), Fail> {
     let line = line().ok_or("a line")?;
-    let mut slice = [0xee; LINE_BYTES + 1];
+    let mut slice = [0xee; LINE_BYTES];
     let mut out = Out::new(&mut slice);
     line.encode(&mut out)?;
-    assert_eq!(rt; out.written(), LINE_BYTES);
-    assert_eq!(rt; &slice[..LINE_BYTES], SPELLING.as_slice());
-    assert!(rt;
-        line.encode(&mut Out::new(&mut slice[..LINE_BYTES - 1]))
-            .is_err()
-    );
+    assert_eq!(rt; out.room(), 0);
+    assert_eq!(rt; slice, SPELLING);
+    let mut short = [0xee; LINE_BYTES - 1];
+    assert!(rt; line.encode(&mut Out::new(&mut short)).is_err());
     Ok(())
 }
 
@@ -79,14 +77,13 @@ fn a_part_out_of_its_range_is_no_line(rt: HostRuntime) -> Result<(), Fail> {
 fn a_bill_adds_the_prices(rt: HostRuntime) -> Result<(), Fail> {
     let line = line().ok_or("a line")?;
     let mut bill = Bill::new();
-    for _ in 0..3 {
-        bill.add(&line);
-    }
+    bill.add(&line);
+    bill.add(&line);
     assert_eq!(rt;
         bill,
         Bill {
-            lines: 3,
-            pence: 297
+            lines: 2,
+            pence: 198
         }
     );
     Ok(())

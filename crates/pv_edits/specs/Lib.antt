@@ -1,0 +1,3 @@
+pub mod Taken
+pub mod Record
+pub mod Down

@@ -1,0 +1,26 @@
+//! Edits: what editors wish, what the Update Centre stores, and what a list of records means.
+//!
+//! - [`EditWish`] is what an editor asks for.
+//! - [`Record`] is what the Update Centre stores: an edit, or an item that it took up from a centre.
+//! - [`DownRecord`] is what a centre gets of a record.
+//!
+//! Contracts see a record as its parts. What a list of records means is defined in `specs/`: the frame
+//! of a name, an account, an editor's last number, the owner of a page, and the pages that are open to
+//! an account.
+#![tactic(auto)]
+
+mod down;
+mod law;
+mod parts;
+mod record;
+mod taken;
+mod wish;
+
+pub use down::DownRecord;
+pub use law::no_record_begins_another;
+pub use record::Record;
+pub use taken::Taken;
+pub use wish::EditWish;
+
+#[cfg(test)]
+mod tests;

@@ -1,0 +1,37 @@
+//! What callers send: charge lines, filled response frames and mail.
+//!
+//! - [`Filled`] is what was keyed into one field of a frame.
+//! - [`Fields`] are the one to eight of a response frame.
+//! - [`Reply`] is a filled response frame, [`Mail`] a letter to another account, and a charge line is
+//!   [`pv_charge::Line`].
+//! - [`Item`] is one of these three. It has one spelling in bytes.
+//!
+//! No call allocates. A caller fills a field and sends it:
+//!
+//! ```text
+//! let filled = Filled::of_text(b"TWO TICKETS").ok_or(Unkeyable)?;
+//! let fields = Fields::of_list(&[filled]).ok_or(TooMany)?;
+//! let item = Item::Reply(Reply { account, name, moment, fields });
+//! item.encode(&mut Out::new(&mut bytes))?;
+//! ```
+//!
+//! Contracts see a filled field as the list of its bytes, and the fields as a list of these. They see a
+//! reply as a `Response` and a letter as a `Message` (`specs/Item.antt`).
+#![tactic(auto)]
+
+mod fields;
+mod filled;
+mod item;
+mod law;
+mod mail;
+mod reply;
+
+pub use fields::{Fields, MAX_FIELDS};
+pub use filled::{FIELD_BYTES, Filled};
+pub use item::Item;
+pub use law::no_item_begins_another;
+pub use mail::{FIRST_CELL, LAST_CELL, Mail, TEXT_CELLS};
+pub use reply::Reply;
+
+#[cfg(test)]
+mod tests;
