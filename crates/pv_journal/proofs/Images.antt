@@ -1,14 +1,20 @@
 -- How what each image of a disk has goes on over one call of the disk.
-use Rattle.std.proofs.Common.{◌≡◌, ℕ, List, Option, Some, None, IsSome, IfSome, Result, Ok, Err, OnOk, OnErr, sym, subst, refl}
+use Rattle.std.proofs.Common.{◌≡◌, ℕ, List, length, Option, Some, None, IsSome, IfSome, Result, Ok, Err, IsOk, OnOk, OnErr, sym, subst, refl}
 use Rattle.std.specs.Option.{option_map, ForSome}
-use Rattle.pv_outside.specs.Disk.{Torn, Follows, NoMore, Turns}
-use Rattle.pv_outside.specs.declared.disk.Disk as disk
+use Rattle.pv_outside.specs.Disk.{Torn, overwritten, NoMore, Turns}
+use Rattle.pv_outside.specs.Calls.{Writes}
+use Rattle.pv_outside.specs.declared.tells.Tells as tells
 use Rattle.pv_journal.specs.Journal.{EachImage}
 
 -- what holds whatever was answered holds after an error
 pub on_err : {T E P : Type 0} (r : Result T E) → P → OnErr r P
 on_err (Ok x) p = tt
 on_err (Err e) p = p
+
+-- what holds where a call succeeded holds after a success
+pub if_ok : {T E P : Type 0} (r : Result T E) → (IsOk r → P) → OnOk r P
+if_ok (Ok x) p = p refl
+if_ok (Err e) p = tt
 
 -- what holds whatever was answered holds after a success
 pub on_ok : {T E P : Type 0} (r : Result T E) → P → OnOk r P
@@ -59,7 +65,7 @@ only_text : (o : Option (List ℕ)) (L P : List ℕ → Type 0) → IfSome o (λ
 only_text (Some text) L P durable p told image left = subst P (sym (durable image left)) p
 only_text None L P durable p told image left = absurd (cc told)
 
-module _ {D F : Type 0} (g : disk.Ghosts D F) where
+module _ {D : Type 0} (g : tells.Ghosts D) where
   -- what each image has, the disk has as it reads
   pub text_of_each : (d : D) (P : List ℕ → Type 0) → IfSome (g.reads d) (g.may_leave d) → EachImage g d P → IfSome (g.reads d) P
   text_of_each d P left each = is_text (g.reads d) (g.may_leave d) P left each
@@ -68,19 +74,17 @@ module _ {D F : Type 0} (g : disk.Ghosts D F) where
   pub each_kept : (old new : D) (P : List ℕ → Type 0) → g.reads new ≡ g.reads old → NoMore (g.may_leave old) (g.may_leave new) → EachImage g old P → EachImage g new P
   each_kept old new P same no_more each told image left = each (subst (λ (o : Option (List ℕ)). IsSome o) same told) image (no_more image left)
 
-  -- after a write that succeeded each image has Q, where each torn image of those with P does
-  pub each_written : (old new : D) (P Q : List ℕ → Type 0) (at n : ℕ) (f : List ℕ → List ℕ) → ((d c : List ℕ) → P d → Torn at n d c → Q c)
-      → g.reads new ≡ option_map f (g.reads old) → Follows (Torn at n) (g.may_leave old) (g.may_leave new) → EachImage g old P → EachImage g new Q
-  each_written old new P Q at n f step written follows each told image left =
-      let from = follows image left in
-      step from.0 image (each (map_told f (g.reads old) (g.reads new) written told) from.0 from.1) from.2
+  -- a disk that tells what it reads after a write told it before
+  pub writes_told : {T E : Type 0} (old new : D) (r : Result T E) (at : ℕ) (bytes : List ℕ) → Writes g at bytes old new r → IsSome (g.reads new) → IsSome (g.reads old)
+  writes_told old new (Ok x) at bytes writes = map_told (overwritten at bytes) (g.reads old) (g.reads new) writes.written
+  writes_told old new (Err e) at bytes writes = turns_told (Torn at (length bytes)) (g.reads old) (g.reads new) writes.torn
 
-  -- after a write that failed each image has Q, where each torn image of those with P does
-  pub each_torn : (old new : D) (P Q : List ℕ → Type 0) (at n : ℕ) → ((d c : List ℕ) → P d → Torn at n d c → Q c)
-      → Turns (Torn at n) (g.reads old) (g.reads new) → Follows (Torn at n) (g.may_leave old) (g.may_leave new) → EachImage g old P → EachImage g new Q
-  each_torn old new P Q at n step turns follows each told image left =
-      let from = follows image left in
-      step from.0 image (each (turns_told (Torn at n) (g.reads old) (g.reads new) turns told) from.0 from.1) from.2
+  -- after a write each image has Q, where each torn image of those with P does
+  pub each_written : {T E : Type 0} (old new : D) (r : Result T E) (at : ℕ) (bytes : List ℕ) (P Q : List ℕ → Type 0) → ((d c : List ℕ) → P d → Torn at (length bytes) d c → Q c)
+      → Writes g at bytes old new r → EachImage g old P → EachImage g new Q
+  each_written old new r at bytes P Q step writes each told image left =
+      let from = writes.images image left in
+      step from.0 image (each (writes_told old new r at bytes writes told) from.0 from.1) from.2
 
   -- after a sync that succeeded, of a disk that reads as bytes with P, each image has P
   pub each_synced : (new : D) (P : List ℕ → Type 0) → IfSome (g.reads new) (λ text. (image : List ℕ) → g.may_leave new image → image ≡ text) → IfSome (g.reads new) P → EachImage g new P

@@ -6,6 +6,7 @@ mod Crash
 mod Facts
 mod Gates
 mod Images
+pub mod Moments
 mod Reading
 mod Settle
 mod Unique

@@ -16,6 +16,11 @@ module _ {D F : Type 0} where
   IsDiskFault (Broken at) = ⊥
   IsDiskFault (TooMany count) = ⊥
 
+  -- a reading ended at a call of the disk that failed
+  abbrev pub ReadFailsOnDisk : {T : Type 0} → Result T (OpenFault D F) → Type 0
+  ReadFailsOnDisk (Ok value) = ⊥
+  ReadFailsOnDisk (Err fault) = IsDiskFault fault
+
   -- at the start, whatever the disk tells: the bytes that were kept are not the mark
   abbrev pub IsStartFault : OpenFault D F → Type 0
   IsStartFault (Disk failure) = Unit {0}
@@ -61,6 +66,11 @@ module _ {D F : Type 0} where
   abbrev pub IsAppendDiskFault : AppendFault D F → Type 0
   IsAppendDiskFault (AppendDisk failure) = Unit {0}
   IsAppendDiskFault (Full count) = ⊥
+
+  -- an append ended at a call of the disk that failed
+  abbrev pub FailsOnDisk : {T : Type 0} → Result T (AppendFault D F) → Type 0
+  FailsOnDisk (Ok value) = ⊥
+  FailsOnDisk (Err fault) = IsAppendDiskFault fault
 
   -- the journal was full, of this limit, and is as it was; or there was room
   abbrev pub IsFull : Log D → Log D → AppendFault D F → Type 0

@@ -1,8 +1,9 @@
 -- What a journal holds, over any disk.
-use Rattle.std.specs.Prelude.{◌≡◌, ◌↔◌, ℕ, ◌+◌, ◌≤◌, List, ◌++◌, length, drop, All, Option, Some, None, IsSome, IfSome}
-use Rattle.std.specs.Option.{option_map}
-use Rattle.pv_outside.specs.Disk.{NoMore, Budget, HasCalls, IsEndless, fused}
-use Rattle.pv_outside.specs.declared.disk.Disk as disk
+use Rattle.std.specs.Prelude.{◌≡◌, ◌⊎◌, ℕ, ◌+◌, ◌≤◌, List, ◌++◌, length, drop, All, Option, Some, None, IsSome, IfSome}
+use Rattle.pv_outside.specs.Counts.{Rose}
+use Rattle.pv_outside.specs.Disk.{NoMore, Budget, CallsPassed, HasCalls, IsEndless}
+use Rattle.pv_outside.specs.declared.disk.TheConstants.{KEPT_CALLS}
+use Rattle.pv_outside.specs.declared.tells.Tells as tells
 use Rattle.pv_journal.specs.Text.{IsBody, front, Spells, SpellsEither}
 use Rattle.pv_journal.specs.Log.{Log, IsStillReading}
 use Rattle.pv_journal.specs.declared.journal.Phase.TheVariants.{Resting, InHand}
@@ -12,7 +13,7 @@ abbrev pub HasLeft : ℕ → Option Budget → Type 0
 HasLeft n (Some b) = b.left ≡ Some n
 HasLeft n None = ⊥
 
-module _ {D F : Type 0} (g : disk.Ghosts D F) where
+module _ {D : Type 0} (g : tells.Ghosts D) where
   -- where the disk tells what it reads, each image that a crash now may leave has P
   abbrev pub EachImage : D → (List ℕ → Type 0) → Type 0
   EachImage d P = IsSome (g.reads d) → (image : List ℕ) → g.may_leave d image → P image
@@ -33,6 +34,34 @@ module _ {D F : Type 0} (g : disk.Ghosts D F) where
   abbrev pub IsPaid : D → D → Type 0
   IsPaid old new = (n : ℕ) → HasLeft n (g.budget old) → (m : ℕ) × HasLeft m (g.budget new) × (g.clock new + m ≤ g.clock old + n)
 
+  -- where the disk tells what it reads, and has not forgotten this time of its clock, each image that a crash at a moment since
+  -- might have left has P
+  abbrev pub AtEachMoment : ℕ → D → (List ℕ → Type 0) → Type 0
+  AtEachMoment t d P = IsSome (g.reads d) → (g.has_forgotten d t → ⊥) → (image : List ℕ) → g.left_since d t image → P image
+
+  -- Time went on over calls that write no more than is kept: where the disk tells what it reads, a crash since a time before
+  -- them might have left what it might have left then, or an image with P.
+  pub record TimePasses (old new : D) (P : List ℕ → Type 0) : Type 0 where
+    pub told : IsSome (g.reads new) → IsSome (g.reads old)
+    pub later : g.clock old ≤ g.clock new
+    pub since : (t : ℕ) (image : List ℕ) → t ≤ g.clock old → IsSome (g.reads new) → g.left_since new t image → g.left_since old t image ⊎ (P image ⊎ g.has_forgotten new t)
+    pub stays : (t : ℕ) → t ≤ g.clock old → g.has_forgotten old t → g.has_forgotten new t
+    pub forgets : (t : ℕ) → t ≤ g.clock old → g.has_forgotten new t → g.has_forgotten old t ⊎ CallsPassed (KEPT_CALLS + 1) t (g.clock new)
+
+  -- A crash at any moment of these calls, and right after them, leaves an image with P.
+  pub record LeavesOnly (old new : D) (P : List ℕ → Type 0) : Type 0 where
+    pub each : AtEachMoment (g.clock old) new P
+    pub now : EachImage new P
+    -- the moment before them is forgotten only once it lies too many calls back
+    pub known : g.has_forgotten new (g.clock old) → CallsPassed (KEPT_CALLS + 1) (g.clock old) (g.clock new)
+    -- for a run that began earlier
+    pub time : TimePasses old new P
+
+  -- at least n calls have succeeded, and where the disk tells how many were left, so many were
+  pub record HasMade (n : ℕ) (old new : D) : Type 0 where
+    pub clock : CallsPassed n (g.clock old) (g.clock new)
+    pub left : (k : ℕ) → HasLeft k (g.budget old) → (m : ℕ) × HasLeft m (g.budget new) × (m + n ≤ k)
+
   -- nothing was written: the disk reads as before, a crash may leave no further image, and it tells its room and its calls
   -- as before, but for the calls that succeeded
   pub record Remains (old new : D) : Type 0 where
@@ -42,16 +71,25 @@ module _ {D F : Type 0} (g : disk.Ghosts D F) where
     pub told : (room : ℕ) → HasCalls 0 room (g.budget old) → HasCalls 0 room (g.budget new)
     pub paid : IsPaid old new
     pub counted : g.faults old ≤ g.faults new
+    pub time : TimePasses old new (g.may_leave old)
 
-  -- so many further calls pass, and nothing else has changed
-  pub record IsFused (calls : ℕ) (old new : D) : Type 0 where
-    pub left : g.budget new ≡ option_map (fused calls) (g.budget old)
-    pub reads : g.reads new ≡ g.reads old
-    pub images : (image : List ℕ) → g.may_leave new image ↔ g.may_leave old image
-    pub clock : g.clock new ≡ g.clock old
-    pub since : (t : ℕ) (image : List ℕ) → g.left_since new t image ↔ g.left_since old t image
-    pub forgotten : (t : ℕ) → g.has_forgotten new t ↔ g.has_forgotten old t
-    pub faults : g.faults new ≡ g.faults old
+  -- What calls of the disk take of it, of which at most so many succeed: it tells its room and its calls as before, but for
+  -- those that succeeded, and its faults rise where one fails.
+  pub record Spends (most : ℕ) (Fails : Type 0) (old new : D) : Type 0 where
+    pub calls : g.clock new ≤ g.clock old + most
+    pub endless : (room : ℕ) → IsEndless room (g.budget old) → IsEndless room (g.budget new)
+    pub told : (room : ℕ) → HasCalls 0 room (g.budget old) → HasCalls 0 room (g.budget new)
+    pub paid : IsPaid old new
+    pub counted : g.faults old ≤ g.faults new
+    pub failed : Fails → Rose (g.faults old) (g.faults new)
+
+  -- Calls of the disk that write nothing, of which at most so many succeed, and of which one fails where Fails. None does
+  -- where calls pass without end.
+  pub record ReadsOnly (most : ℕ) (Fails : Type 0) (old new : D) : Type 0 where
+    pub same : Remains old new
+    pub calls : g.clock new ≤ g.clock old + most
+    pub failed : Fails → Rose (g.faults old) (g.faults new)
+    pub passes : (room : ℕ) → IsEndless room (g.budget old) → Fails → ⊥
 
   -- the journal has counted these bodies, and its gate is behind them
   pub record HasCounted (log : Log D) (bodies : List (List ℕ)) : Type 0 where

@@ -1,9 +1,8 @@
 ghost use Rattle.std.specs.Prelude.{◌≡◌, ℕ, ◌+◌, ◌≤◌, [], ◌∷◌, ◌++◌, OnOk, IsOk, IsErr};
 ghost use Rattle.std.specs.Option.{option_map};
-ghost use Rattle.pv_outside.specs.Counts.{Rose};
 ghost use Rattle.pv_outside.specs.Disk.{overwritten, CallsPassed, HasCalls, IsEndless};
 ghost use Rattle.pv_journal.specs.Text.{Spells};
-ghost use Rattle.pv_journal.specs.Journal.{EachImage, IsDurable, IsSynced, IsPaid};
+ghost use Rattle.pv_journal.specs.Journal.{EachImage, IsDurable, IsSynced, Spends};
 ghost use Rattle.pv_journal.specs.declared.block.TheConstants.{MARK};
 
 use pv_outside::Disk;
@@ -14,17 +13,12 @@ const EMPTY: [u8; 9] = [b'P', b'V', b'J', b'O', b'U', b'R', b'N', b'1', 0];
 /// Makes the disk a journal without bodies. It makes three calls of the disk, and stops at the first that
 /// fails: then the disk need not be a journal, and `format` is to be called again.
 pub fn format<D: Disk>(disk: &mut D) -> Result<(), D::Failure>
-    ensures empty { OnOk result (EachImage ⟦<D as Disk>⟧ disk.new (λ image. Spells image [])) }
+    ensures empty { OnOk result (EachImage D.Tells disk.new (λ image. Spells image [])) }
     ensures written { OnOk result (D.reads disk.new ≡ option_map (overwritten 0 (MARK ++ 0 ∷ [])) (D.reads disk.old)) }
-    ensures durable { OnOk result (IsDurable ⟦<D as Disk>⟧ disk.new) }
-    ensures synced { OnOk result (IsSynced ⟦<D as Disk>⟧ disk.new) }
-    ensures endless { (room : ℕ) → IsEndless room (D.budget disk.old) → IsEndless room (D.budget disk.new) }
-    ensures told { (room : ℕ) → HasCalls 0 room (D.budget disk.old) → HasCalls 0 room (D.budget disk.new) }
-    ensures calls { D.clock disk.new ≤ D.clock disk.old + 3 }
+    ensures durable { OnOk result (IsDurable D.Tells disk.new) }
+    ensures synced { OnOk result (IsSynced D.Tells disk.new) }
     ensures all_three { OnOk result (CallsPassed 3 (D.clock disk.old) (D.clock disk.new)) }
-    ensures paid { IsPaid ⟦<D as Disk>⟧ disk.old disk.new }
-    ensures counted { D.faults disk.old ≤ D.faults disk.new }
-    ensures failed { IsErr result → Rose (D.faults disk.old) (D.faults disk.new) }
+    ensures spends { Spends D.Tells 3 (IsErr result) disk.old disk.new }
     ensures passes { HasCalls 3 9 (D.budget disk.old) → IsOk result }
 {
     disk.sync()?;

@@ -1,9 +1,7 @@
 ghost use Rattle.std.specs.Prelude.{◌≡◌, ◌↔◌, ◌+◌, ◌<◌, ◌≤◌, ℕ, ◌++◌, length, take, drop, slice_index, IfOk, IfErr, OnOk, IsErr, IfSome, IsTrue};
-ghost use Rattle.pv_outside.specs.Counts.{Rose};
-ghost use Rattle.pv_outside.specs.Disk.{IsEndless};
 ghost use Rattle.pv_journal.specs.Text.{first_eight};
-ghost use Rattle.pv_journal.specs.Journal.{Remains, IsSynced, IsDurable};
-ghost use Rattle.pv_journal.specs.Faults.{IsDiskFault, IsStartFault, StartFaultShows};
+ghost use Rattle.pv_journal.specs.Journal.{ReadsOnly, IsSynced, IsDurable};
+ghost use Rattle.pv_journal.specs.Faults.{ReadFailsOnDisk, IsStartFault, StartFaultShows};
 
 use crate::block::{MARK, MAX_BLOCK};
 use crate::fault::OpenFault;
@@ -11,15 +9,13 @@ use pv_outside::Disk;
 
 /// Syncs the disk, and answers how many bytes it has, if these begin with the mark.
 pub(crate) fn length_behind_mark<D: Disk>(disk: &mut D) -> Result<u64, OpenFault<D>>
-    ensures same { Remains ⟦<D as Disk>⟧ disk.old disk.new }
+    ensures reads_only { ReadsOnly D.Tells 3 (ReadFailsOnDisk result) disk.old disk.new }
     ensures length { IfOk result (λ end. 8 ≤ end) }
     ensures marked { IfOk result (λ end. IfSome (D.reads disk.old) (λ text. (length text ≡ end) × (text ≡ MARK ++ drop 8 text))) }
-    ensures durable { OnOk result (IsDurable ⟦<D as Disk>⟧ disk.new) }
-    ensures synced { OnOk result (IsSynced ⟦<D as Disk>⟧ disk.new) }
+    ensures durable { OnOk result (IsDurable D.Tells disk.new) }
+    ensures synced { OnOk result (IsSynced D.Tells disk.new) }
     ensures refused { IfErr result IsStartFault }
     ensures shown { IfErr result (λ fault. IfSome (D.reads disk.old) (λ text. StartFaultShows text fault)) }
-    ensures failed { IfErr result (λ fault. IsDiskFault fault → Rose (D.faults disk.old) (D.faults disk.new)) }
-    ensures passes { IfErr result (λ fault. (room : ℕ) → IsEndless room (D.budget disk.old) → IsDiskFault fault → ⊥) }
 {
     let mut first = [0; 8];
     match first_bytes(disk, &mut first) {
@@ -31,14 +27,12 @@ pub(crate) fn length_behind_mark<D: Disk>(disk: &mut D) -> Result<u64, OpenFault
 
 /// Syncs the disk, reads the first eight bytes, filled up with 0, and answers how many bytes there are.
 fn first_bytes<D: Disk>(disk: &mut D, into: &mut [u8; 8]) -> Result<u64, D::Failure>
-    ensures same { Remains ⟦<D as Disk>⟧ disk.old disk.new }
+    ensures reads_only { ReadsOnly D.Tells 3 (IsErr result) disk.old disk.new }
     ensures length { IfOk result (λ end. IfSome (D.reads disk.old) (λ text. length text ≡ end)) }
     ensures bytes { OnOk result (IfSome (D.reads disk.old) (λ text. into.new ≡ first_eight text)) }
     ensures filled { IfOk result (λ end. end < 8 → slice_index into.new 7 ≡ 0) }
-    ensures durable { OnOk result (IsDurable ⟦<D as Disk>⟧ disk.new) }
-    ensures synced { OnOk result (IsSynced ⟦<D as Disk>⟧ disk.new) }
-    ensures failed { IsErr result → Rose (D.faults disk.old) (D.faults disk.new) }
-    ensures passes { IsErr result → (room : ℕ) → IsEndless room (D.budget disk.old) → ⊥ }
+    ensures durable { OnOk result (IsDurable D.Tells disk.new) }
+    ensures synced { OnOk result (IsSynced D.Tells disk.new) }
 {
     disk.sync()?;
     let end = disk.len()?;
@@ -65,14 +59,11 @@ pub(crate) fn read_block<D: Disk>(
 ) -> Result<usize, D::Failure>
     requires within { gate ≤ end }
     requires told { IfSome (D.reads disk.old) (λ text. length text ≡ end) }
-    ensures same { Remains ⟦<D as Disk>⟧ disk.old disk.new }
+    ensures reads_only { ReadsOnly D.Tells 1 (IsErr result) disk.old disk.new }
     ensures held { IfOk result (λ held. (held ≤ MAX_BLOCK) × (gate + held ≤ end)) }
     ensures bytes { IfOk result (λ held. IfSome (D.reads disk.old) (λ text. take held into.new ≡ take MAX_BLOCK (drop gate text))) }
-    ensures durable { IsDurable ⟦<D as Disk>⟧ disk.old → IsDurable ⟦<D as Disk>⟧ disk.new }
-    ensures synced { IsSynced ⟦<D as Disk>⟧ disk.old → IsSynced ⟦<D as Disk>⟧ disk.new }
-    ensures calls { D.clock disk.new ≤ D.clock disk.old + 1 }
-    ensures failed { IsErr result → Rose (D.faults disk.old) (D.faults disk.new) }
-    ensures passes { IsErr result → (room : ℕ) → IsEndless room (D.budget disk.old) → ⊥ }
+    ensures durable { IsDurable D.Tells disk.old → IsDurable D.Tells disk.new }
+    ensures synced { IsSynced D.Tells disk.old → IsSynced D.Tells disk.new }
 {
     let held = (end - gate).min(MAX_BLOCK as u64) as usize;
     disk.read(gate, &mut into[..held])?;

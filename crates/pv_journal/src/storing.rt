@@ -1,9 +1,8 @@
 ghost use Rattle.std.specs.Prelude.{◌≡◌, ◌⊎◌, ℕ, ◌+◌, ◌^◌, ◌<◌, ◌≤◌, List, [], ◌∷◌, ◌++◌, length, take, IfSome, IsErr, IsOk, OnOk, OnErr};
 ghost use Rattle.std.specs.Option.{ForSome};
-ghost use Rattle.pv_outside.specs.Counts.{Rose};
-ghost use Rattle.pv_outside.specs.Disk.{CallsPassed, HasCalls, IsEndless};
+ghost use Rattle.pv_outside.specs.Disk.{HasCalls};
 ghost use Rattle.pv_journal.specs.Text.{IsBody, front, Spells, SpellsEither, written_behind, HasClosedGate, MayHaveBody};
-ghost use Rattle.pv_journal.specs.Journal.{EachImage, IsSynced, IsPaid};
+ghost use Rattle.pv_journal.specs.Journal.{EachImage, IsSynced, LeavesOnly, HasMade, Spends};
 
 use crate::block::MAX_BLOCK;
 use pv_outside::Disk;
@@ -14,28 +13,24 @@ pub(crate) fn store<D: Disk>(disk: &mut D, gate: u64, body: &[u8]) -> Result<(),
     requires place { gate < 2 ^ 63 }
     requires closed { ForSome (D.reads disk.old) (HasClosedGate gate) }
 
-    // Where each image spelled a list whose gate this is, each spells it with the body, or perhaps without.
-    ensures stored { OnOk result ((bodies : List (List ℕ)) → gate ≡ length (front bodies) → EachImage ⟦<D as Disk>⟧ disk.old (λ image. Spells image bodies)
-        → EachImage ⟦<D as Disk>⟧ disk.new (λ image. Spells image (bodies ++ body.now ∷ []))) }
-    ensures in_hand { OnErr result ((bodies : List (List ℕ)) → gate ≡ length (front bodies) → EachImage ⟦<D as Disk>⟧ disk.old (λ image. Spells image bodies)
-        → EachImage ⟦<D as Disk>⟧ disk.new (SpellsEither bodies body.now)) }
+    // Where each image spelled a list whose gate this is, then a crash at any moment of the call leaves one
+    // that spells it without the body or with it, and after an Ok each spells it with the body.
+    ensures moments { (bodies : List (List ℕ)) → gate ≡ length (front bodies) → EachImage D.Tells disk.old (λ image. Spells image bodies)
+        → LeavesOnly D.Tells disk.old disk.new (SpellsEither bodies body.now) }
+    ensures stored { OnOk result ((bodies : List (List ℕ)) → gate ≡ length (front bodies) → EachImage D.Tells disk.old (λ image. Spells image bodies)
+        → EachImage D.Tells disk.new (λ image. Spells image (bodies ++ body.now ∷ []))) }
 
-    // Until two calls of the disk have succeeded, each image spells the list without it.
-    ensures early { OnErr result ((bodies : List (List ℕ)) → gate ≡ length (front bodies) → EachImage ⟦<D as Disk>⟧ disk.old (λ image. Spells image bodies)
-        → CallsPassed 2 (D.clock disk.old) (D.clock disk.new) ⊎ EachImage ⟦<D as Disk>⟧ disk.new (λ image. Spells image bodies)) }
+    // Until two calls of the disk have succeeded, it leaves one that spells the list without it.
+    ensures early { (bodies : List (List ℕ)) → gate ≡ length (front bodies) → EachImage D.Tells disk.old (λ image. Spells image bodies)
+        → HasMade D.Tells 2 disk.old disk.new ⊎ LeavesOnly D.Tells disk.old disk.new (λ image. Spells image bodies) }
 
     ensures next_gate { OnOk result (IfSome (D.reads disk.new) (HasClosedGate (gate + length body.now + 3))) }
     ensures same_gate { OnErr result (IfSome (D.reads disk.new) (MayHaveBody gate (length body.now))) }
 
-    ensures synced { OnOk result (IsSynced ⟦<D as Disk>⟧ disk.new) }
-    ensures endless { (room : ℕ) → IsEndless room (D.budget disk.old) → IsEndless room (D.budget disk.new) }
-    ensures told { (room : ℕ) → HasCalls 0 room (D.budget disk.old) → HasCalls 0 room (D.budget disk.new) }
-    ensures passes { HasCalls 4 (gate + length body.now + 4) (D.budget disk.old) → IsSynced ⟦<D as Disk>⟧ disk.old → IsOk result }
-    ensures calls { D.clock disk.new ≤ D.clock disk.old + 4 }
-    ensures all_four { OnOk result (CallsPassed 4 (D.clock disk.old) (D.clock disk.new)) }
-    ensures paid { IsPaid ⟦<D as Disk>⟧ disk.old disk.new }
-    ensures counted { D.faults disk.old ≤ D.faults disk.new }
-    ensures failed { IsErr result → Rose (D.faults disk.old) (D.faults disk.new) }
+    ensures synced { OnOk result (IsSynced D.Tells disk.new) }
+    ensures passes { HasCalls 4 (gate + length body.now + 4) (D.budget disk.old) → IsSynced D.Tells disk.old → IsOk result }
+    ensures all_four { OnOk result (HasMade D.Tells 4 disk.old disk.new) }
+    ensures spends { Spends D.Tells 4 (IsErr result) disk.old disk.new }
 {
     let mut bytes = [0; MAX_BLOCK];
     let length = spell(body, &mut bytes);

@@ -108,6 +108,20 @@ module _ (range : Range) (old new : Medium) (clock : new.clock ≡ min (old.cloc
     ]
   ]
 
+  -- a time that was forgotten stays so
+  stays : (t : ℕ) → t ≤ old.clock → IsForgotten old t → IsForgotten new t
+  stays t le (inl ended) = inl (omega (arith, ended, clock))
+  stays t le (inr far) = elim (cases_lt KEPT_BYTES range.size) [
+    | inl large ↦ elim (cases_lt new.clock COUNT_END) [
+      | inl counts ↦ inr (omega (arith, far, clock, counts, length_large large))
+      | inr ended ↦ inl ended
+    ]
+    | inr small ↦ elim (cases_lt new.clock COUNT_END) [
+      | inl counts ↦ inr (omega (arith, far, clock, counts, length_small small))
+      | inr ended ↦ inl ended
+    ]
+  ]
+
   -- each call of a disk in memory lets time go on as the trait says
-  pub elapses : Elapses old.clock new.clock (IsForgotten old) (IsForgotten new) (LeftSince old) (LeftSince new) (IsImage (moment_of new)) range.size
-  elapses = record { nothing_else = nothing_else; keeps = keeps; forgets = forgets }
+  pub elapses : old.clock ≤ COUNT_END → Elapses old.clock new.clock (IsForgotten old) (IsForgotten new) (LeftSince old) (LeftSince new) (IsImage (moment_of new)) range.size
+  elapses ends = record { later = omega (arith, clock, ends); stays = stays; nothing_else = nothing_else; keeps = keeps; forgets = forgets }

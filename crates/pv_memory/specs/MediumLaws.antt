@@ -1,6 +1,7 @@
 -- What holds of every disk in memory.
 use Rattle.std.specs.Prelude.{◌≡◌, ◌⊎◌, ℕ, zero, suc, ◌-◌, ◌≤◌, List, [], ◌∷◌, None}
 use Rattle.std.proofs.Common.{inl, inr, subst, arith}
+use Rattle.pv_outside.specs.declared.failed.TheConstants.{COUNT_END}
 use Rattle.pv_memory.specs.Medium.{Medium, Moment, Change, IsImage, LeftIn, moment_of, IsForgotten, LeftSince}
 
 -- a new disk with this room, which has no bytes, and of which the calls of these numbers fail
@@ -24,3 +25,8 @@ only_now m image (inr there) = inl (subst (λ (n : ℕ). LeftIn (moment_of m) m.
   where
     none : m.clock - m.clock ≡ 0
     none = omega arith
+
+-- this moment is not forgotten, unless the clock stands at its end
+pub now_is_known : (m : Medium) → IsForgotten m m.clock → COUNT_END ≤ m.clock
+now_is_known m (inl ended) = ended
+now_is_known m (inr far) = absurd (omega (arith, far))

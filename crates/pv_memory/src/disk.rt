@@ -1,16 +1,18 @@
 ghost use Rattle.std.specs.Prelude.{◌≡◌, ◌↔◌, ◌+◌, ◌≤◌, [], Option, Some, None, false, length, IfOk, IsOk, IsErr, IfSome, OnOk, OnErr, is_ok, ◌&&◌, not, List, slice_range, ℕ};
 ghost use Rattle.std.specs.Option.{option_map, ForSome};
 ghost use Rattle.pv_outside.specs.Counts.{Rose};
-ghost use Rattle.pv_outside.specs.Disk.{overwritten, Torn, Follows, NoMore, Turns, clock_after, Elapses, after_call, after_write, after_sync, budget_after, CanCall, CanWrite, IsSpent, fused};
+ghost use Rattle.pv_outside.specs.declared.failed.TheConstants.{COUNT_END};
+ghost use Rattle.pv_outside.specs.Disk.{after_call, after_sync};
+ghost use Rattle.pv_outside.specs.Calls.{Looks, Writes, IsFused};
 ghost use Rattle.pv_memory.specs.Medium.{Medium, moment_of, IsImage, IsForgotten, LeftSince, budget_of, can_pass, has_room, image_of, after_pass, after_failing, after_looking, after_writing, after_syncing};
-ghost use Rattle.pv_memory.specs.MediumLaws.{now_counts, only_now, fresh};
+ghost use Rattle.pv_memory.specs.MediumLaws.{now_counts, only_now, now_is_known, fresh};
 ghost use Rattle.std.specs.Prelude.{refl};
 ghost use Rattle.std.proofs.Common.{inl};
 
 use crate::bytes::{catch_up, overwrite, restore};
 use crate::faults::Faults;
 use crate::past::{Past, Range};
-use pv_outside::{Disk, Failed, Fused, KEPT_BYTES, MAX_UNSYNCED};
+use pv_outside::{Disk, Failed, Fused, KEPT_BYTES, MAX_UNSYNCED, Tells};
 use std::alloc::{AllocError, Global};
 use std::marker::Model;
 
@@ -91,6 +93,7 @@ impl MemDisk {
         ensures counted { self.old.plan.faults ≤ self.new.plan.faults }
         ensures failed { IsErr result → Rose self.old.plan.faults self.new.plan.faults }
         ensures exact { is_ok result ≡ (can_pass self.old && not is_refused) }
+        ensures ends { self.old.clock ≤ COUNT_END }
     {
         if self.faults.next_fails() {
             return Err(Failed);
@@ -111,9 +114,7 @@ impl MemDisk {
     }
 }
 
-impl Disk for MemDisk {
-    type Failure = Failed;
-
+impl Tells for MemDisk {
     ghost reads = { λ m. Some m.text };
 
     ghost may_leave = { λ m. IsImage (moment_of m) };
@@ -127,6 +128,10 @@ impl Disk for MemDisk {
     ghost budget = { budget_of };
 
     ghost faults = { λ m. m.plan.faults };
+}
+
+impl Disk for MemDisk {
+    type Failure = Failed;
 
     ghost reads_is_left = { λ m. inl refl };
 
@@ -134,19 +139,13 @@ impl Disk for MemDisk {
 
     ghost only_now = { only_now };
 
+    ghost now_is_known = { now_is_known };
+
     ghost any_if_forgotten = { λ m t image forgotten. inl forgotten };
 
     fn len(&mut self) -> Result<u64, Failed>
         ensures len { IfOk result (λ n. IfSome (Some self.old.text) (λ text. n ≡ length text)) }
-        ensures reads { Some self.new.text ≡ Some self.old.text }
-        ensures images { NoMore (IsImage (moment_of self.old)) (IsImage (moment_of self.new)) }
-        ensures clock { self.new.clock ≡ clock_after result self.old.clock }
-        ensures time { Elapses self.old.clock self.new.clock (IsForgotten self.old) (IsForgotten self.new) (LeftSince self.old) (LeftSince self.new) (IsImage (moment_of self.new)) 0 }
-        ensures budget { budget_of self.new ≡ budget_after result after_call (budget_of self.old) }
-        ensures passes { CanCall (budget_of self.old) → IsOk result }
-        ensures spent { IsSpent (budget_of self.old) → IsErr result }
-        ensures counted { self.old.plan.faults ≤ self.new.plan.faults }
-        ensures failed { IsErr result → Rose self.old.plan.faults self.new.plan.faults }
+        ensures looks { Looks ⟦<MemDisk as Tells>⟧ after_call self.old self.new result }
 
         // It fails exactly where it is named to or no further call passes, and then it changes nothing.
         ensures exact { is_ok result ≡ can_pass self.old }
@@ -160,15 +159,7 @@ impl Disk for MemDisk {
     fn read(&mut self, at: u64, into: &mut [u8]) -> Result<(), Failed>
         requires within { ForSome (Some self.old.text) (λ text. at + length into.old ≤ length text) }
         ensures bytes { OnOk result (IfSome (Some self.old.text) (λ text. into.new ≡ slice_range text at (at + length into.old))) }
-        ensures reads { Some self.new.text ≡ Some self.old.text }
-        ensures images { NoMore (IsImage (moment_of self.old)) (IsImage (moment_of self.new)) }
-        ensures clock { self.new.clock ≡ clock_after result self.old.clock }
-        ensures time { Elapses self.old.clock self.new.clock (IsForgotten self.old) (IsForgotten self.new) (LeftSince self.old) (LeftSince self.new) (IsImage (moment_of self.new)) 0 }
-        ensures budget { budget_of self.new ≡ budget_after result after_call (budget_of self.old) }
-        ensures passes { CanCall (budget_of self.old) → IsOk result }
-        ensures spent { IsSpent (budget_of self.old) → IsErr result }
-        ensures counted { self.old.plan.faults ≤ self.new.plan.faults }
-        ensures failed { IsErr result → Rose self.old.plan.faults self.new.plan.faults }
+        ensures looks { Looks ⟦<MemDisk as Tells>⟧ after_call self.old self.new result }
 
         // It fails exactly where it is named to or no further call passes, and then it changes nothing.
         ensures exact { is_ok result ≡ can_pass self.old }
@@ -184,16 +175,7 @@ impl Disk for MemDisk {
 
     fn write(&mut self, at: u64, bytes: &[u8]) -> Result<(), Failed>
         requires within { ForSome (Some self.old.text) (λ text. at ≤ length text) }
-        ensures written { OnOk result (Some self.new.text ≡ option_map (overwritten at bytes.now) (Some self.old.text)) }
-        ensures torn { OnErr result (Turns (Torn at (length bytes.now)) (Some self.old.text) (Some self.new.text)) }
-        ensures images { Follows (Torn at (length bytes.now)) (IsImage (moment_of self.old)) (IsImage (moment_of self.new)) }
-        ensures clock { self.new.clock ≡ clock_after result self.old.clock }
-        ensures time { Elapses self.old.clock self.new.clock (IsForgotten self.old) (IsForgotten self.new) (LeftSince self.old) (LeftSince self.new) (IsImage (moment_of self.new)) (length bytes.now) }
-        ensures budget { budget_of self.new ≡ budget_after result after_write (budget_of self.old) }
-        ensures passes { CanWrite (budget_of self.old) (at + length bytes.now) → IsOk result }
-        ensures spent { IsSpent (budget_of self.old) → IsErr result }
-        ensures counted { self.old.plan.faults ≤ self.new.plan.faults }
-        ensures failed { IsErr result → Rose self.old.plan.faults self.new.plan.faults }
+        ensures writes { Writes ⟦<MemDisk as Tells>⟧ at bytes.now self.old self.new result }
 
         // It fails exactly where it is named to, no further call passes or it has no room, and then it
         // changes nothing.
@@ -215,15 +197,7 @@ impl Disk for MemDisk {
 
     fn sync(&mut self) -> Result<(), Failed>
         ensures durable { OnOk result (IfSome (Some self.new.text) (λ text. (image : List ℕ) → IsImage (moment_of self.new) image → image ≡ text)) }
-        ensures reads { Some self.new.text ≡ Some self.old.text }
-        ensures images { NoMore (IsImage (moment_of self.old)) (IsImage (moment_of self.new)) }
-        ensures clock { self.new.clock ≡ clock_after result self.old.clock }
-        ensures time { Elapses self.old.clock self.new.clock (IsForgotten self.old) (IsForgotten self.new) (LeftSince self.old) (LeftSince self.new) (IsImage (moment_of self.new)) 0 }
-        ensures budget { budget_of self.new ≡ budget_after result after_sync (budget_of self.old) }
-        ensures passes { CanCall (budget_of self.old) → IsOk result }
-        ensures spent { IsSpent (budget_of self.old) → IsErr result }
-        ensures counted { self.old.plan.faults ≤ self.new.plan.faults }
-        ensures failed { IsErr result → Rose self.old.plan.faults self.new.plan.faults }
+        ensures looks { Looks ⟦<MemDisk as Tells>⟧ after_sync self.old self.new result }
 
         // It fails exactly where it is named to or no further call passes, and then it changes nothing.
         ensures exact { is_ok result ≡ can_pass self.old }
@@ -239,13 +213,7 @@ impl Disk for MemDisk {
 
 impl Fused for MemDisk {
     fn fuse(&mut self, calls: u32)
-        ensures left { budget_of self.new ≡ option_map (fused calls) (budget_of self.old) }
-        ensures reads { Some self.new.text ≡ Some self.old.text }
-        ensures images { (image : List ℕ) → IsImage (moment_of self.new) image ↔ IsImage (moment_of self.old) image }
-        ensures clock { self.new.clock ≡ self.old.clock }
-        ensures since { (t : ℕ) (image : List ℕ) → LeftSince self.new t image ↔ LeftSince self.old t image }
-        ensures forgotten { (t : ℕ) → IsForgotten self.new t ↔ IsForgotten self.old t }
-        ensures faults { self.new.plan.faults ≡ self.old.plan.faults }
+        ensures fused { IsFused ⟦<MemDisk as Tells>⟧ calls self.old self.new }
 
         // So many further calls pass, also of a disk that does not tell its budget.
         ensures exact { self.new ≡ record self.old { left = Some calls } }

@@ -2,7 +2,7 @@
 use Rattle.std.proofs.Common.{◌≡◌, ℕ, ◌<◌, ◌≤◌, List, [], ◌∷◌, ◌++◌, length, map, All, Err, refl, sym, ◌∙◌, ap, subst, arith, append_assoc}
 use Rattle.std.proofs.lemmas.List.{map_push, map-append, append-nil, length-append, length-map}
 use Rattle.std.proofs.lemmas.List.Elements.{All-push}
-use Rattle.pv_outside.specs.declared.disk.Disk as disk
+use Rattle.pv_outside.specs.declared.tells.Tells as tells
 use Rattle.pv_journal.specs.Text.{Spells}
 use Rattle.pv_journal.specs.Log.{Log}
 use Rattle.pv_journal.specs.Journal.{DiskSpells, IsReading, Remains}
@@ -18,7 +18,7 @@ use Rattle.pv_outside.specs.declared.limits.Limits.{Limits}
 use Rattle.pv_node.proofs.Rooms.{meets_more}
 use Rattle.pv_node.proofs.Records.{all_at, first_of}
 
-module _ {S State Request Rec Reply D F : Type 0} (r : rules.Ghosts S State Request Rec Reply) (d : disk.Ghosts D F) where
+module _ {S State Request Rec Reply D : Type 0} (r : rules.Ghosts S State Request Rec Reply) (d : tells.Ghosts D) where
   -- a journal that was read so far has counted the records that were read
   pub read_count : (log : Log D) (state : State) (records : List Rec) → HasRead r d log state records → log.count ≡ length records
   read_count log state records read = read.journal.counted.count ∙ length-map records r.spelling
@@ -65,7 +65,7 @@ module _ {S State Request Rec Reply D F : Type 0} (r : rules.Ghosts S State Requ
       (f.0, all_at r.is_record records f.0 f.1 all, f.3, room records f.1 f.0 state (ap (λ (l : List Rec). records ++ l) f.2) stood refl)
 
   -- on a disk that stands for records within the limit, a fault of the journal's reading is a failure of the disk
-  pub only_outside : (old : Log D) (state : State) (records more : List Rec) (into : List ℕ) (fault : OpenFault D F) → HasRead r d old state records → length (records ++ more) ≤ old.limit
+  pub only_outside : {F : Type 0} (old : Log D) (state : State) (records more : List Rec) (into : List ℕ) (fault : OpenFault D F) → HasRead r d old state records → length (records ++ more) ≤ old.limit
       → IsNext old (Err fault) → NextSpells (map r.spelling more) into (Err fault) → IsOutside (fault_of fault)
   only_outside old state records more into (Disk failure) read within known spells = tt
   only_outside old state records more into (NotFormatted kept) read within known spells = spells
@@ -74,7 +74,7 @@ module _ {S State Request Rec Reply D F : Type 0} (r : rules.Ghosts S State Requ
       absurd (omega (arith, read_count old state records read, known.1, spells, within, length-append records more, length-map more r.spelling))
 
   -- what a node tells as a failure of the disk was one in the journal
-  pub disk_fault : (fault : OpenFault D F) → IsOpenDiskFault (fault_of fault) → Rattle.pv_journal.specs.Faults.IsDiskFault fault
+  pub disk_fault : {F : Type 0} (fault : OpenFault D F) → IsOpenDiskFault (fault_of fault) → Rattle.pv_journal.specs.Faults.IsDiskFault fault
   disk_fault (Disk failure) is = tt
   disk_fault (NotFormatted kept) is = is
   disk_fault (Broken at) is = is
@@ -116,7 +116,7 @@ module _ {S State Request Rec Reply D F : Type 0} (r : rules.Ghosts S State Requ
       b.1 ∙ ap (λ (l : List Rec). so_far.records ++ l) (are_all b.0 (subst (λ (l : List Rec). DiskStands r d old.disk l) b.1 (stands_still began.disk old.disk all so_far.same stands))) ∙ append-nil so_far.records
 
   -- where the disk stands for records that have room, a fault of the next step is none that the bytes show
-  pub fails_outside : (began old : Log D) (first state : State) (so_far : GoesOn began old first state) (fault : NodeFault D F)
+  pub fails_outside : {F : Type 0} (began old : Log D) (first state : State) (so_far : GoesOn began old first state) (fault : NodeFault D F)
       → ((records more : List Rec) → HasRead r d old state records → DiskStands r d old.disk (records ++ more) → Meets r (r.limits_of state) (records ++ more) → IsOutside fault)
       → (all : List Rec) → DiskStands r d began.disk all → Meets r (r.limits_of first) all → IsOutside fault
   fails_outside began old first state so_far fault outside all stands meets =

@@ -3,11 +3,12 @@ use Rattle.std.proofs.Common.{◌≡◌, ℕ, ◌<◌, ◌≤◌, List, [], ◌�
 use Rattle.std.proofs.lemmas.List.{map_push, length-map}
 use Rattle.std.proofs.lemmas.Option.{none-some}
 use Rattle.std.proofs.lemmas.List.Elements.{All-push}
-use Rattle.pv_outside.specs.declared.disk.Disk as disk
+use Rattle.pv_outside.specs.declared.tells.Tells as tells
 use Rattle.pv_journal.specs.declared.journal.Phase.{Phase}
 use Rattle.pv_journal.specs.declared.journal.Phase.TheVariants.{Reading, Resting, InHand}
 use Rattle.pv_journal.specs.Log.{Log, most}
-use Rattle.pv_journal.specs.Journal.{EachImage, Holds, HoldsInHand}
+use Rattle.pv_journal.specs.Journal.{LeavesOnly, Holds, HoldsInHand}
+use Rattle.pv_journal.proofs.Moments.{only_weaker}
 use Rattle.pv_journal.specs.Text.{Spells, SpellsEither}
 use Rattle.pv_node.specs.declared.rules.Rules as rules
 use Rattle.pv_node.specs.Parts.{Parts}
@@ -22,7 +23,7 @@ count_within (Reading end) count limit within = within
 count_within Resting count limit within = within
 count_within (InHand size) count limit within = omega (arith, within)
 
-module _ {S State Request Rec Reply D F : Type 0} (r : rules.Ghosts S State Request Rec Reply) (d : disk.Ghosts D F) where
+module _ {S State Request Rec Reply D : Type 0} (r : rules.Ghosts S State Request Rec Reply) (d : tells.Ghosts D) where
   -- a node with nothing in hand stands for the records whose spellings its journal holds and for which its state stands
   pub stands_at_rest : (log : Log D) (state : State) (records : List Rec) → Holds d log (map r.spelling records) → All r.is_record records → Meets r (r.limits_of state) records → r.stands state records
       → StandsFor r d (record { journal = log; state = state; hand = None }) records
@@ -58,6 +59,11 @@ module _ {S State Request Rec Reply D F : Type 0} (r : rules.Ghosts S State Requ
       (meets_more r same_room (r.limits_of old.state) old.state records rec (meets_alone (r.limits_of old.state) records old.hand stands.meets) stands.state refl fits room_for))
       (subst (λ (s : State). r.stands s (records ++ rec ∷ [])) (sym (absorbed ∙ ap (r.after old.state rec) stands.count)) stood))
 
+  -- what spells the spellings of records, perhaps with that of one more, stands for these, perhaps with that one
+  pub either : (records : List Rec) (rec : Rec) → All r.is_record records → r.is_record rec → (image : List ℕ) → SpellsEither (map r.spelling records) (r.spelling rec) image → Stands r image records ⊎ Stands r image (records ++ rec ∷ [])
+  either records rec each spelled image (inl without) = inl (record { text = without; each = each })
+  either records rec each spelled image (inr longer) = inr (record { text = subst (λ (l : List (List ℕ)). Spells image l) (sym (map_push r.spelling records rec)) longer; each = All-push r.is_record records rec each spelled })
+
   -- a record that the journal has in hand leaves what the node stood for
   pub taken : (same_room : (one other : State) (records : List Rec) (rec : Rec) → r.stands one records → r.stands other records → r.limits_of one ≡ r.limits_of other → r.fits one rec → r.fits other rec)
       (old : Parts D State Rec) (log : Log D) (rec : Rec) (records : List Rec) → StandsFor r d old records → HoldsInHand d log (map r.spelling records) (r.spelling rec)
@@ -71,12 +77,8 @@ module _ {S State Request Rec Reply D F : Type 0} (r : rules.Ghosts S State Requ
         each = stands.each;
         meets = (meets, meets_more r same_room (r.limits_of old.state) old.state records rec meets stands.state refl fits room_for);
         journal = holds;
-        images = λ told image left. either image (holds.images told image left);
+        images = λ told image left. either records rec stands.each spelled image (holds.images told image left);
       }
-    where
-      either : (image : List ℕ) → SpellsEither (map r.spelling records) (r.spelling rec) image → Stands r image records ⊎ Stands r image (records ++ rec ∷ [])
-      either image (inl without) = inl (record { text = without; each = stands.each })
-      either image (inr longer) = inr (record { text = subst (λ (l : List (List ℕ)). Spells image l) (sym (map_push r.spelling records rec)) longer; each = All-push r.is_record records rec stands.each spelled })
 
   -- the journal of a node with nothing in hand holds the spellings of its records
   pub holds_at_rest : (node : Parts D State Rec) (records : List Rec) → StandsFor r d node records → node.hand ≡ None → Holds d node.journal (map r.spelling records)
@@ -86,10 +88,10 @@ module _ {S State Request Rec Reply D F : Type 0} (r : rules.Ghosts S State Requ
   pub holds_in_hand : (node : Parts D State Rec) (records : List Rec) (rec : Rec) → StandsFor r d node records → node.hand ≡ Some rec → HoldsInHand d node.journal (map r.spelling records) (r.spelling rec)
   holds_in_hand node records rec stands some = subst (λ (h : Option Rec). Keeps r d node.journal records h) some stands.journal
 
-  -- images that spell the spellings of records stand for these
-  pub images_stand : {A : Type 0} (disk : D) (records : List Rec) → All r.is_record records → A ⊎ EachImage d disk (λ image. Spells image (map r.spelling records)) → A ⊎ EachImage d disk (λ image. Stands r image records)
-  images_stand disk records each (inl late) = inl late
-  images_stand disk records each (inr images) = inr (λ told image left. record { text = images told image left; each = each })
+  -- what spells the spellings of records stands for these
+  pub only_stand : {A : Type 0} {old new : D} (records : List Rec) → All r.is_record records → A ⊎ LeavesOnly d old new (λ image. Spells image (map r.spelling records)) → A ⊎ LeavesOnly d old new (λ image. Stands r image records)
+  only_stand records each (inl late) = inl late
+  only_stand records each (inr only) = inr (only_weaker d (λ image spells. record { text = spells; each = each }) only)
 
   -- a settling at which nothing was in hand changes nothing
   pub settled_same : (old new : Parts D State Rec) (stored : Option Rec) → IsSettled r d old new stored → old.hand ≡ None → new ≡ old

@@ -1,9 +1,9 @@
 -- What a node answers, and what it stands for then.
-use Rattle.std.specs.Prelude.{◌≡◌, ◌≢◌, ◌⊎◌, ℕ, ◌+◌, ◌*◌, ◌<◌, ◌≤◌, List, Option, Some, None, Result, Ok, Err, OnErr}
+use Rattle.std.specs.Prelude.{◌≡◌, ◌≢◌, ◌⊎◌, ℕ, ◌+◌, ◌*◌, ◌<◌, ◌≤◌, List, [], ◌∷◌, ◌++◌, Option, Some, None, Result, Ok, Err}
 use Rattle.pv_outside.specs.Counts.{Rose}
-use Rattle.pv_outside.specs.Disk.{CallsPassed, HasCalls, IsEndless}
-use Rattle.pv_outside.specs.declared.disk.Disk as disk
-use Rattle.pv_journal.specs.Journal.{EachImage, IsPaid}
+use Rattle.pv_outside.specs.Disk.{HasCalls, IsEndless}
+use Rattle.pv_outside.specs.declared.tells.Tells as tells
+use Rattle.pv_journal.specs.Journal.{LeavesOnly, HasMade, IsPaid}
 use Rattle.pv_node.specs.declared.rules.Rules as rules
 use Rattle.pv_node.specs.declared.decision.Decision.{Decision}
 use Rattle.pv_node.specs.declared.decision.Decision.TheVariants.{Answer, Store}
@@ -11,7 +11,7 @@ use Rattle.pv_node.specs.declared.decision.Told.{Told}
 use Rattle.pv_node.specs.declared.fault.AskFault.{AskFault}
 use Rattle.pv_node.specs.declared.fault.AskFault.TheVariants.{Disk, Full}
 use Rattle.pv_node.specs.Parts.{Parts}
-use Rattle.pv_node.specs.Standing.{Stands, StandsFor, KeepsAll, Gains}
+use Rattle.pv_node.specs.Standing.{Stands, StandsEither, StandsFor, KeepsAll, Gains}
 
 -- a call of the disk failed in the ask
 abbrev pub IsAskDiskFault : {D F : Type 0} → AskFault D F → Type 0
@@ -22,6 +22,16 @@ IsAskDiskFault (Full count) = ⊥
 abbrev pub FailsOnDisk : {T D F : Type 0} → Result T (AskFault D F) → Type 0
 FailsOnDisk (Ok told) = ⊥
 FailsOnDisk (Err fault) = IsAskDiskFault fault
+
+-- the record that is to be stored
+abbrev pub to_store : {Rec Reply : Type 0} → Decision Rec Reply → Option Rec
+to_store (Answer reply) = None
+to_store (Store rec reply) = Some rec
+
+-- these records, and behind them one that was stored
+abbrev pub with_stored : {Rec : Type 0} → List Rec → Option Rec → List Rec
+with_stored records None = records
+with_stored records (Some rec) = records ++ rec ∷ []
 
 module _ {S State Request Rec Reply : Type 0} (r : rules.Ghosts S State Request Rec Reply) where
   -- a record that is to be stored has a spelling, and has room in this state
@@ -35,7 +45,7 @@ module _ {S State Request Rec Reply : Type 0} (r : rules.Ghosts S State Request 
     pub limit : count ≡ (r.limits_of old.state).records
     pub same : new ≡ old
 
-module _ {S State Request Rec Reply D F : Type 0} (r : rules.Ghosts S State Request Rec Reply) (g : disk.Ghosts D F) where
+module _ {S State Request Rec Reply D : Type 0} (r : rules.Ghosts S State Request Rec Reply) (g : tells.Ghosts D) where
   -- nothing was in hand, or what was is not stored
   pub record IsNotStored (old new : Parts D State Rec) : Type 0 where
     pub hand : new.hand ≡ None
@@ -80,25 +90,31 @@ module _ {S State Request Rec Reply D F : Type 0} (r : rules.Ghosts S State Requ
     pub records : KeepsAll r g old new
 
   -- why this record is not stored: a call of the disk failed, or the node is full
-  abbrev pub IsRefused : Parts D State Rec → Parts D State Rec → Rec → AskFault D F → Type 0
+  abbrev pub IsRefused : {F : Type 0} → Parts D State Rec → Parts D State Rec → Rec → AskFault D F → Type 0
   IsRefused old new rec (Disk failure) = IsTaken old new rec
   IsRefused old new rec (Full count) = IsFull r old new count
 
   -- what is answered where this was decided, at a node that has nothing in hand: the reply, behind the record that is stored, with
   -- its place; or Full; or a failure of the disk
-  abbrev pub CarriesOut : Decision Rec Reply → Parts D State Rec → Parts D State Rec → Result (Told Reply) (AskFault D F) → Type 0
+  abbrev pub CarriesOut : {F : Type 0} → Decision Rec Reply → Parts D State Rec → Parts D State Rec → Result (Told Reply) (AskFault D F) → Type 0
   CarriesOut (Answer reply) old new result = (result ≡ Ok (record { reply = reply; number = None })) × (new ≡ old)
   CarriesOut (Store rec reply) old new (Ok told) = (told ≡ record { reply = reply; number = Some old.journal.count }) × IsKept old new rec
   CarriesOut (Store rec reply) old new (Err fault) = IsRefused old new rec fault
 
   -- what an ask answers: a call of the disk failed in the settling; or the node was settled, and what the judgement is then is
   -- carried out
-  abbrev pub Asks : Request → Parts D State Rec → Parts D State Rec → Result (Told Reply) (AskFault D F) → Type 0
+  abbrev pub Asks : {F : Type 0} → Request → Parts D State Rec → Parts D State Rec → Result (Told Reply) (AskFault D F) → Type 0
   Asks request old new result = (IsUnsettled old new × FailsOnDisk result)
       ⊎ ((settled : Parts D State Rec) × (stored : Option Rec) × IsSettled old settled stored × CarriesOut (r.judgement settled.state request) settled new result)
 
+  -- what a crash at some moment of an ask may leave: an image that stands for the records, perhaps with the one in hand; or one that
+  -- stands for those that there are once the node is settled, perhaps with the one that is to be stored then
+  abbrev pub AskLeaves : Request → Parts D State Rec → List Rec → List ℕ → Type 0
+  AskLeaves request old records image = StandsEither r records old.hand image
+      ⊎ ((settled : Parts D State Rec) × (stored : Option Rec) × IsSettled old settled stored × StandsEither r (with_stored records stored) (to_store (r.judgement settled.state request)) image)
+
   -- What an ask, or a part of it, takes of the disk, of which at most so many calls succeed.
-  pub record Spends {T : Type 0} (most : ℕ) (old new : Parts D State Rec) (result : Result T (AskFault D F)) : Type 0 where
+  pub record Spends {T F : Type 0} (most : ℕ) (old new : Parts D State Rec) (result : Result T (AskFault D F)) : Type 0 where
     pub calls : g.clock new.journal.disk ≤ g.clock old.journal.disk + most
     -- a disk that tells its budget has no less room, and each call that succeeded is one of those that were left
     pub paid : IsPaid g old.journal.disk new.journal.disk
@@ -108,6 +124,6 @@ module _ {S State Request Rec Reply D F : Type 0} (r : rules.Ghosts S State Requ
     pub counted : g.faults old.journal.disk ≤ g.faults new.journal.disk
     pub failed : FailsOnDisk result → Rose (g.faults old.journal.disk) (g.faults new.journal.disk)
     pub passes : old.hand ≡ None → (records : List Rec) → StandsFor r g old records → HasCalls 4 (9 + 2051 * (r.limits_of old.state).records) (g.budget old.journal.disk) → FailsOnDisk result → ⊥
-    -- where nothing was in hand, each image stands for the records without the new one until two calls have succeeded
-    pub early : old.hand ≡ None → OnErr result ((records : List Rec) → StandsFor r g old records
-        → CallsPassed 2 (g.clock old.journal.disk) (g.clock new.journal.disk) ⊎ EachImage g new.journal.disk (λ image. Stands r image records))
+    -- where nothing was in hand, a crash at any moment leaves the records without the new one until two calls have succeeded
+    pub early : old.hand ≡ None → (records : List Rec) → StandsFor r g old records
+        → HasMade g 2 old.journal.disk new.journal.disk ⊎ LeavesOnly g old.journal.disk new.journal.disk (λ image. Stands r image records)

@@ -40,10 +40,14 @@ clock_after (Err failure) clock = clock
 
 -- Time goes on by one call, which wrote so many bytes.
 pub record Elapses (clock_before clock_now : ℕ) (forgot_before forgot_now : ℕ → Type 0) (since_before since_now : ℕ → List ℕ → Type 0) (may_leave_now : List ℕ → Type 0) (size : ℕ) : Type 0 where
+  -- it never goes back
+  pub later : clock_before ≤ clock_now
   -- a crash since t might have left what it might have left before, or what it may leave now
   pub nothing_else : (t : ℕ) (image : List ℕ) → t ≤ clock_before → since_now t image → since_before t image ⊎ (may_leave_now image ⊎ forgot_now t)
   -- what it might have left before still counts
   pub keeps : (t : ℕ) (image : List ℕ) → t ≤ clock_before → since_before t image → since_now t image
+  -- a time that is forgotten stays so
+  pub stays : (t : ℕ) → t ≤ clock_before → forgot_before t → forgot_now t
   -- a time is forgotten only once it lies too many calls back, or before a large write
   pub forgets : (t : ℕ) → t ≤ clock_before → forgot_now t → forgot_before t ⊎ (CallsPassed (KEPT_CALLS + 1) t clock_now ⊎ (KEPT_BYTES < size))
 

@@ -25,6 +25,7 @@ mod limits;
 mod sink;
 mod source;
 mod status;
+mod tells;
 
 pub use disk::{Disk, Fused, KEPT_BYTES, KEPT_CALLS, MAX_UNSYNCED};
 pub use failed::{COUNT_END, Failed};
@@ -32,6 +33,7 @@ pub use limits::{Limits, MAX_FRAMES, MAX_RECORDS};
 pub use sink::Sink;
 pub use source::Source;
 pub use status::Status;
+pub use tells::Tells;
 
 #[cfg(test)]
 mod tests;

@@ -1,5 +1,6 @@
-use Rattle.std.proofs.Common.{refl}
+use Rattle.std.proofs.Common.{refl, arith}
+use Rattle.pv_journal.proofs.CallerLemmas.{reads_most}
 use Rattle.pv_journal.proofs.opening.length_behind_mark.Goals as goal
 
-pub returns-in-Err-clause-passes : goal.returns-in-Err-clause-passes
-returns-in-Err-clause-passes g c = λ room endless _. c.in-Err.ensures.passes refl room endless
+pub returns-in-Err-clause-reads_only : goal.returns-in-Err-clause-reads_only
+returns-in-Err-clause-reads_only g c = reads_most g.D.Tells (omega arith) (λ _. refl) c.in-Err.ensures.reads_only
