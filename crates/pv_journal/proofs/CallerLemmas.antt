@@ -1,10 +1,10 @@
 -- What crates above may cite: a disk that was not called, or that was called in two stretches.
 use Rattle.std.proofs.Common.{◌⊎◌, ⊎_elim, ℕ, ◌+◌, ◌<◌, ◌≤◌, Result, Ok, Err, IsOk, IsErr, ◌∙◌, refl, arith}
-use Rattle.pv_outside.specs.declared.tells.Tells as tells
+use Rattle.pv_outside.specs.declared.reports.Reports as reports
 use Rattle.pv_journal.specs.Journal.{HasLeft, IsPaid, Remains, Spends, ReadsOnly, HasMade}
 use Rattle.pv_journal.proofs.Moments.{time_none, time_weaker, time_then}
 
-module _ {D : Type 0} (g : tells.Ghosts D) where
+module _ {D : Type 0} (g : reports.Ghosts D) where
   -- where no call was made, none was taken from those that were left
   pub paid_none : (d : D) → IsPaid g d d
   paid_none d = λ n has. (n, has, omega arith)

@@ -2,9 +2,9 @@
 use Rattle.std.proofs.Common.{◌≡◌, ℕ, zero, suc, ◌+◌, ◌-◌, ◌≤◌, Option, Some, None, IfSome, Result, Ok, Err, IsOk, IsErr, sym, ◌∙◌, ap, subst, arith}
 use Rattle.std.proofs.lemmas.Bool.{false≢true}
 use Rattle.std.specs.Option.{option_map}
-use Rattle.pv_outside.specs.Disk.{Budget, clock_after, budget_after, CallsPassed, HasCalls, IsEndless, IsSpent, CanCall}
-use Rattle.pv_outside.specs.Calls.{IsCall, Looks}
-use Rattle.pv_outside.specs.declared.tells.Tells as tells
+use Rattle.pv_outside.specs.Disk.{Budget, clock_after, budget_after, IsLaterBy, HasCalls, IsEndless, IsSpent, CanCall}
+use Rattle.pv_outside.specs.Calls.{IsCall, WritesNothing}
+use Rattle.pv_outside.specs.declared.reports.Reports as reports
 use Rattle.pv_journal.specs.Journal.{HasLeft, Remains, Spends, ReadsOnly, HasMade}
 use Rattle.pv_journal.proofs.Moments.{time_look}
 
@@ -57,7 +57,7 @@ left_after (Ok x) pay pays (Some b) new is spent ok (suc k) has =
     (k, subst (HasLeft k) (sym is) ((pays b).1 ∙ ap (option_map (λ n. n - 1)) has ∙ ap Some (one_less k)), omega arith)
 
 -- a call that succeeds is one on the clock
-passed_after : {T E : Type 0} (r : Result T E) (before now : ℕ) → now ≡ clock_after r before → IsOk r → CallsPassed 1 before now
+passed_after : {T E : Type 0} (r : Result T E) (before now : ℕ) → now ≡ clock_after r before → IsOk r → IsLaterBy 1 before now
 passed_after (Ok x) before now is ok = omega (arith, is)
 passed_after (Err e) before now is ok = absurd (false≢true ok)
 
@@ -72,7 +72,7 @@ endless_passes r None can room endless fails = endless
 endless_passes (Ok x) (Some b) can room endless fails = false≢true fails
 endless_passes (Err e) (Some b) can room endless fails = false≢true (can (λ some. subst (λ (o : Option ℕ). IfSome o (λ n. ⊥)) (sym endless.1 ∙ some) tt))
 
-module _ {D : Type 0} (g : tells.Ghosts D) {T E : Type 0} {pay : Budget → Budget} (pays : Pays pay) (old new : D) (r : Result T E) where
+module _ {D : Type 0} (g : reports.Ghosts D) {T E : Type 0} {pay : Budget → Budget} (pays : Pays pay) (old new : D) (r : Result T E) where
   -- one call of a disk takes at most one of those that are left, and only if it succeeds
   pub spends_call : {size : ℕ} {Can : Option Budget → Type 0} → IsCall g size pay Can old new r → Spends g 1 (IsErr r) old new
   spends_call call = record {
@@ -102,7 +102,7 @@ module _ {D : Type 0} (g : tells.Ghosts D) {T E : Type 0} {pay : Budget → Budg
   }
 
   -- a call that wrote nothing, whatever it answers, leaves the disk as it was but for the call that was paid
-  pub remains_after : Looks g pay old new r → Remains g old new
+  pub remains_after : WritesNothing g pay old new r → Remains g old new
   remains_after looks =
       let spends = spends_call looks.call in
       record {
@@ -116,7 +116,7 @@ module _ {D : Type 0} (g : tells.Ghosts D) {T E : Type 0} {pay : Budget → Budg
       }
 
   -- a call that writes nothing
-  pub reads_once : Looks g pay old new r → ReadsOnly g 1 (IsErr r) old new
+  pub reads_once : WritesNothing g pay old new r → ReadsOnly g 1 (IsErr r) old new
   reads_once looks = record {
     same = remains_after looks;
     calls = one_at_most r (g.clock old) (g.clock new) looks.call.clock;

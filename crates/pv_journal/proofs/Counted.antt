@@ -3,7 +3,7 @@ use Rattle.std.proofs.Common.{◌≡◌, ◌≢◌, inl, inr, ℕ, ◌+◌, List
 use Rattle.std.proofs.lemmas.List.{get_or_at, drop_at, flat_map_more, length_push}
 use Rattle.std.proofs.lemmas.List.Elements.{All-push}
 use Rattle.std.specs.Int.{w16, to_be_bytes}
-use Rattle.pv_outside.specs.declared.tells.Tells as tells
+use Rattle.pv_outside.specs.declared.reports.Reports as reports
 use Rattle.pv_journal.specs.declared.block.TheConstants.{MARK}
 use Rattle.pv_journal.specs.Text.{IsBody, block, front, Spells, SpellsEither, HasBlock}
 use Rattle.pv_journal.specs.Log.{Log}
@@ -43,7 +43,7 @@ is_dropped bodies body text shut (inl without) = without
 is_dropped bodies body text shut (inr with_body) = absurd (shut (open_byte bodies body text with_body))
 
 -- a journal whose count rose by one, and whose gate moved behind the block of a body, has counted that body too
-pub counted_more : {D : Type 0} (g : tells.Ghosts D) (old new : Log D) (bodies : List (List ℕ)) (body : List ℕ) → HasCounted g old bodies → IsBody body
+pub counted_more : {D : Type 0} (g : reports.Ghosts D) (old new : Log D) (bodies : List (List ℕ)) (body : List ℕ) → HasCounted g old bodies → IsBody body
     → new.count ≡ old.count + 1 → new.gate ≡ old.gate + length body + 3 → HasCounted g new (bodies ++ body ∷ [])
 counted_more g old new bodies body counted sized count gate = record {
   count = omega (arith, count, counted.count, length_push bodies body);

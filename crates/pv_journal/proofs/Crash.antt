@@ -4,7 +4,7 @@ use Rattle.std.proofs.lemmas.List.{take_at, drop_at, drop_more, flat_map_more, g
 use Rattle.std.proofs.lemmas.List.Elements.{All-push}
 use Rattle.std.proofs.lemmas.Bool.{cases_eq}
 use Rattle.std.specs.Int.{w16, to_be_bytes}
-use Rattle.pv_outside.specs.Disk.{Torn, overwritten}
+use Rattle.pv_outside.specs.Disk.{Torn, text_after_write}
 use Rattle.pv_journal.specs.declared.block.TheConstants.{MARK}
 use Rattle.pv_journal.specs.Text.{IsBody, block, front, Spells, SpellsEither, written_behind}
 
@@ -74,7 +74,7 @@ module _ (bodies : List (List ℕ)) where
       }
 
   -- the first write of an append, where it succeeds, leaves the body whole behind the gate
-  pub staged : (at : ℕ) (body text : List ℕ) → at ≡ length (front bodies) + 1 → Spells text bodies → IsStaged bodies body (overwritten at (written_behind body) text)
+  pub staged : (at : ℕ) (body text : List ℕ) → at ≡ length (front bodies) + 1 → Spells text bodies → IsStaged bodies body (text_after_write at (written_behind body) text)
   staged at body text is spells =
       let closed_front = front bodies ++ spells.gate ∷ [] in
       let split : text ≡ closed_front ++ spells.rest = spells.text ∙ sym (append_assoc (front bodies) (spells.gate ∷ []) spells.rest) in
@@ -112,7 +112,7 @@ module _ (bodies : List (List ℕ)) where
       ]
 
   -- the write of the open gate, where it succeeds, makes the body the last of the list
-  pub stored : (at : ℕ) (body text : List ℕ) → at ≡ length (front bodies) → IsBody body → IsStaged bodies body text → Spells (overwritten at (1 ∷ []) text) (bodies ++ body ∷ [])
+  pub stored : (at : ℕ) (body text : List ℕ) → at ≡ length (front bodies) → IsBody body → IsStaged bodies body text → Spells (text_after_write at (1 ∷ []) text) (bodies ++ body ∷ [])
   stored at body text is sized staged =
       let behind = written_behind body ++ staged.rest in
       let before : take at text ≡ front bodies = ap (λ (l : List ℕ). take at l) staged.text ∙ take_at (front bodies) (staged.gate ∷ behind) at (sym is) in

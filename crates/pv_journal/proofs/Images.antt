@@ -1,9 +1,9 @@
 -- How what each image of a disk has goes on over one call of the disk.
 use Rattle.std.proofs.Common.{◌≡◌, ℕ, List, length, Option, Some, None, IsSome, IfSome, Result, Ok, Err, IsOk, OnOk, OnErr, sym, subst, refl}
 use Rattle.std.specs.Option.{option_map, ForSome}
-use Rattle.pv_outside.specs.Disk.{Torn, overwritten, NoMore, Turns}
-use Rattle.pv_outside.specs.Calls.{Writes}
-use Rattle.pv_outside.specs.declared.tells.Tells as tells
+use Rattle.pv_outside.specs.Disk.{Torn, text_after_write, NoMore, Turns}
+use Rattle.pv_outside.specs.Calls.{WritesAt}
+use Rattle.pv_outside.specs.declared.reports.Reports as reports
 use Rattle.pv_journal.specs.Journal.{EachImage}
 
 -- what holds whatever was answered holds after an error
@@ -65,7 +65,7 @@ only_text : (o : Option (List ℕ)) (L P : List ℕ → Type 0) → IfSome o (λ
 only_text (Some text) L P durable p told image left = subst P (sym (durable image left)) p
 only_text None L P durable p told image left = absurd (cc told)
 
-module _ {D : Type 0} (g : tells.Ghosts D) where
+module _ {D : Type 0} (g : reports.Ghosts D) where
   -- what each image has, the disk has as it reads
   pub text_of_each : (d : D) (P : List ℕ → Type 0) → IfSome (g.reads d) (g.may_leave d) → EachImage g d P → IfSome (g.reads d) P
   text_of_each d P left each = is_text (g.reads d) (g.may_leave d) P left each
@@ -75,13 +75,13 @@ module _ {D : Type 0} (g : tells.Ghosts D) where
   each_kept old new P same no_more each told image left = each (subst (λ (o : Option (List ℕ)). IsSome o) same told) image (no_more image left)
 
   -- a disk that tells what it reads after a write told it before
-  pub writes_told : {T E : Type 0} (old new : D) (r : Result T E) (at : ℕ) (bytes : List ℕ) → Writes g at bytes old new r → IsSome (g.reads new) → IsSome (g.reads old)
-  writes_told old new (Ok x) at bytes writes = map_told (overwritten at bytes) (g.reads old) (g.reads new) writes.written
+  pub writes_told : {T E : Type 0} (old new : D) (r : Result T E) (at : ℕ) (bytes : List ℕ) → WritesAt g at bytes old new r → IsSome (g.reads new) → IsSome (g.reads old)
+  writes_told old new (Ok x) at bytes writes = map_told (text_after_write at bytes) (g.reads old) (g.reads new) writes.written
   writes_told old new (Err e) at bytes writes = turns_told (Torn at (length bytes)) (g.reads old) (g.reads new) writes.torn
 
   -- after a write each image has Q, where each torn image of those with P does
   pub each_written : {T E : Type 0} (old new : D) (r : Result T E) (at : ℕ) (bytes : List ℕ) (P Q : List ℕ → Type 0) → ((d c : List ℕ) → P d → Torn at (length bytes) d c → Q c)
-      → Writes g at bytes old new r → EachImage g old P → EachImage g new Q
+      → WritesAt g at bytes old new r → EachImage g old P → EachImage g new Q
   each_written old new r at bytes P Q step writes each told image left =
       let from = writes.images image left in
       step from.0 image (each (writes_told old new r at bytes writes told) from.0 from.1) from.2

@@ -3,12 +3,12 @@ use Rattle.std.proofs.Common.{◌⊎◌, inl, inr, ⊎_elim, ℕ, ◌≤◌, Lis
 use Rattle.pv_outside.specs.declared.failed.TheConstants.{COUNT_END}
 use Rattle.pv_outside.specs.declared.disk.TheConstants.{KEPT_BYTES}
 use Rattle.pv_outside.specs.Disk.{Budget}
-use Rattle.pv_outside.specs.Calls.{IsCall, Looks, Writes}
-use Rattle.pv_outside.specs.declared.tells.Tells as tells
+use Rattle.pv_outside.specs.Calls.{IsCall, WritesNothing, WritesAt}
+use Rattle.pv_outside.specs.declared.reports.Reports as reports
 use Rattle.pv_journal.specs.Journal.{EachImage, TimePasses, LeavesOnly, Remains}
 use Rattle.pv_journal.proofs.Images.{writes_told, each_kept}
 
-module _ {D : Type 0} (g : tells.Ghosts D) where
+module _ {D : Type 0} (g : reports.Ghosts D) where
   -- over one call, after which each image has P
   pub time_call : {T E : Type 0} {pay : Budget → Budget} {size : ℕ} {Can : Option Budget → Type 0} (old new : D) (r : Result T E) (P : List ℕ → Type 0) → IsCall g size pay Can old new r
       → size ≤ KEPT_BYTES → (IsSome (g.reads new) → IsSome (g.reads old)) → EachImage g new P → TimePasses g old new P
@@ -53,11 +53,11 @@ module _ {D : Type 0} (g : tells.Ghosts D) where
   }
 
   -- over a write, whatever it answers
-  pub time_write : {T E : Type 0} (old new : D) (r : Result T E) (at : ℕ) (bytes : List ℕ) (P : List ℕ → Type 0) → Writes g at bytes old new r → length bytes ≤ KEPT_BYTES → EachImage g new P → TimePasses g old new P
+  pub time_write : {T E : Type 0} (old new : D) (r : Result T E) (at : ℕ) (bytes : List ℕ) (P : List ℕ → Type 0) → WritesAt g at bytes old new r → length bytes ≤ KEPT_BYTES → EachImage g new P → TimePasses g old new P
   time_write old new r at bytes P writes little each = time_call old new r P writes.call little (writes_told g old new r at bytes writes) each
 
   -- over a call that writes nothing
-  pub time_look : {T E : Type 0} {pay : Budget → Budget} (old new : D) (r : Result T E) → Looks g pay old new r → TimePasses g old new (g.may_leave old)
+  pub time_look : {T E : Type 0} {pay : Budget → Budget} (old new : D) (r : Result T E) → WritesNothing g pay old new r → TimePasses g old new (g.may_leave old)
   time_look old new r looks =
       time_call old new r (g.may_leave old) looks.call (omega arith) (λ told. subst (λ (o : Option (List ℕ)). IsSome o) looks.reads told) (λ told image left. looks.images image left)
 
@@ -93,11 +93,11 @@ module _ {D : Type 0} (g : tells.Ghosts D) where
   }
 
   -- over a write more, after which each image has P
-  pub only_write : {T E : Type 0} {first old new : D} {P : List ℕ → Type 0} {r : Result T E} {at : ℕ} {bytes : List ℕ} → LeavesOnly g first old P → Writes g at bytes old new r → length bytes ≤ KEPT_BYTES → EachImage g new P → LeavesOnly g first new P
+  pub only_write : {T E : Type 0} {first old new : D} {P : List ℕ → Type 0} {r : Result T E} {at : ℕ} {bytes : List ℕ} → LeavesOnly g first old P → WritesAt g at bytes old new r → length bytes ≤ KEPT_BYTES → EachImage g new P → LeavesOnly g first new P
   only_write a writes little each = only_then a (time_write _ _ _ _ _ _ writes little each) each
 
   -- over a call more that writes nothing
-  pub only_look : {T E : Type 0} {pay : Budget → Budget} {first old new : D} {P : List ℕ → Type 0} {r : Result T E} → LeavesOnly g first old P → Looks g pay old new r → LeavesOnly g first new P
+  pub only_look : {T E : Type 0} {pay : Budget → Budget} {first old new : D} {P : List ℕ → Type 0} {r : Result T E} → LeavesOnly g first old P → WritesNothing g pay old new r → LeavesOnly g first new P
   only_look {old = old} {new = new} {P = P} {r = r} a looks =
       only_then a (time_weaker (λ tells image left. a.now (subst (λ (o : Option (List ℕ)). IsSome o) looks.reads tells) image left) (time_look old new r looks)) (each_kept g old new P looks.reads looks.images a.now)
 

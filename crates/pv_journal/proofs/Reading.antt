@@ -5,7 +5,7 @@ use Rattle.std.proofs.Math.Seq.{take-append-add}
 use Rattle.std.proofs.lemmas.Nat.{be_bytes_2}
 use Rattle.std.specs.List.{slice_range}
 use Rattle.std.specs.Int.{w16, to_be_bytes, from_be_bytes}
-use Rattle.pv_journal.specs.Block.{IsWhole}
+use Rattle.pv_journal.specs.Block.{HasBlockOf}
 use Rattle.pv_journal.specs.Text.{block, HasBlock, IsClosed, IsBroken, first_eight}
 use Rattle.std.proofs.lemmas.Bool.{cases_lt}
 use Rattle.pv_journal.specs.declared.block.TheConstants.{MARK}
@@ -18,7 +18,7 @@ two_bytes high low h l (suc (suc i)) = omega arith
 
 -- an open gate, a length in range, and at least so many bytes are a block
 pub has_block : (bytes : List ℕ) (size : ℕ) → 3 ≤ length bytes → get_or bytes 0 0 ≡ 1 → size ≡ get_or bytes 1 0 * 256 + get_or bytes 2 0 → get_or bytes 1 0 < 256 → get_or bytes 2 0 < 256
-    → 0 < size → size ≤ 2048 → size ≤ length bytes - 3 → IsWhole size bytes
+    → 0 < size → size ≤ 2048 → size ≤ length bytes - 3 → HasBlockOf size bytes
 has_block [] size long open_gate is high low some most within = absurd (omega arith)
 has_block (a ∷ []) size long open_gate is high low some most within = absurd (omega arith)
 has_block (a ∷ b ∷ []) size long open_gate is high low some most within = absurd (omega arith)

@@ -3,7 +3,7 @@ use Rattle.std.proofs.Common.{◌≡◌, ◌≢◌, ℕ, ◌+◌, ◌-◌, List,
 use Rattle.std.specs.List.{slice_range}
 use Rattle.std.proofs.lemmas.List.{get_or-take, get_or-drop}
 use Rattle.pv_outside.specs.Disk.{NoMore}
-use Rattle.pv_outside.specs.declared.tells.Tells as tells
+use Rattle.pv_outside.specs.declared.reports.Reports as reports
 use Rattle.pv_journal.specs.Text.{front, Spells, SpellsEither}
 use Rattle.pv_journal.specs.Journal.{EachImage, IsDurable}
 use Rattle.pv_journal.proofs.Counted.{is_stored, is_dropped}
@@ -14,7 +14,7 @@ byte_read : (text into : List ℕ) (at : ℕ) → into ≡ slice_range text at (
 byte_read text into at read =
     ap (λ (l : List ℕ). get_or l 0 0) read ∙ get_or-take (at + 1 - at) (drop at text) 0 0 (omega arith) ∙ get_or-drop at text 0 0 ∙ ap (λ (n : ℕ). get_or text n 0) (let e : at + 0 ≡ at = omega arith in e)
 
-module _ {D : Type 0} (g : tells.Ghosts D) (left : (d : D) → IfSome (g.reads d) (g.may_leave d)) (old synced now : D) (gate : ℕ) (into : List ℕ) (bodies : List (List ℕ)) (body : List ℕ) (is : gate ≡ length (front bodies))
+module _ {D : Type 0} (g : reports.Ghosts D) (left : (d : D) → IfSome (g.reads d) (g.may_leave d)) (old synced now : D) (gate : ℕ) (into : List ℕ) (bodies : List (List ℕ)) (body : List ℕ) (is : gate ≡ length (front bodies))
     (each : EachImage g old (SpellsEither bodies body)) (same : g.reads synced ≡ g.reads old) (no_more : NoMore (g.may_leave old) (g.may_leave synced)) (durable : IsDurable g synced)
     (read : IfSome (g.reads synced) (λ text. into ≡ slice_range text gate (gate + 1))) (same_now : g.reads now ≡ g.reads synced) (no_more_now : NoMore (g.may_leave synced) (g.may_leave now)) where
   -- after the sync the disk reads as the list without the body in hand or with it

@@ -1,9 +1,9 @@
 -- What a journal holds, over any disk.
 use Rattle.std.specs.Prelude.{◌≡◌, ◌⊎◌, ℕ, ◌+◌, ◌≤◌, List, ◌++◌, length, drop, All, Option, Some, None, IsSome, IfSome}
 use Rattle.pv_outside.specs.Counts.{Rose}
-use Rattle.pv_outside.specs.Disk.{NoMore, Budget, CallsPassed, HasCalls, IsEndless}
+use Rattle.pv_outside.specs.Disk.{NoMore, Budget, IsLaterBy, HasCalls, IsEndless}
 use Rattle.pv_outside.specs.declared.disk.TheConstants.{KEPT_CALLS}
-use Rattle.pv_outside.specs.declared.tells.Tells as tells
+use Rattle.pv_outside.specs.declared.reports.Reports as reports
 use Rattle.pv_journal.specs.Text.{IsBody, front, Spells, SpellsEither}
 use Rattle.pv_journal.specs.Log.{Log, IsStillReading}
 use Rattle.pv_journal.specs.declared.journal.Phase.TheVariants.{Resting, InHand}
@@ -13,7 +13,7 @@ abbrev pub HasLeft : ℕ → Option Budget → Type 0
 HasLeft n (Some b) = b.left ≡ Some n
 HasLeft n None = ⊥
 
-module _ {D : Type 0} (g : tells.Ghosts D) where
+module _ {D : Type 0} (g : reports.Ghosts D) where
   -- where the disk tells what it reads, each image that a crash now may leave has P
   abbrev pub EachImage : D → (List ℕ → Type 0) → Type 0
   EachImage d P = IsSome (g.reads d) → (image : List ℕ) → g.may_leave d image → P image
@@ -46,20 +46,20 @@ module _ {D : Type 0} (g : tells.Ghosts D) where
     pub later : g.clock old ≤ g.clock new
     pub since : (t : ℕ) (image : List ℕ) → t ≤ g.clock old → IsSome (g.reads new) → g.left_since new t image → g.left_since old t image ⊎ (P image ⊎ g.has_forgotten new t)
     pub stays : (t : ℕ) → t ≤ g.clock old → g.has_forgotten old t → g.has_forgotten new t
-    pub forgets : (t : ℕ) → t ≤ g.clock old → g.has_forgotten new t → g.has_forgotten old t ⊎ CallsPassed (KEPT_CALLS + 1) t (g.clock new)
+    pub forgets : (t : ℕ) → t ≤ g.clock old → g.has_forgotten new t → g.has_forgotten old t ⊎ IsLaterBy (KEPT_CALLS + 1) t (g.clock new)
 
   -- A crash at any moment of these calls, and right after them, leaves an image with P.
   pub record LeavesOnly (old new : D) (P : List ℕ → Type 0) : Type 0 where
     pub each : AtEachMoment (g.clock old) new P
     pub now : EachImage new P
     -- the moment before them is forgotten only once it lies too many calls back
-    pub known : g.has_forgotten new (g.clock old) → CallsPassed (KEPT_CALLS + 1) (g.clock old) (g.clock new)
+    pub known : g.has_forgotten new (g.clock old) → IsLaterBy (KEPT_CALLS + 1) (g.clock old) (g.clock new)
     -- for a run that began earlier
     pub time : TimePasses old new P
 
   -- at least n calls have succeeded, and where the disk tells how many were left, so many were
   pub record HasMade (n : ℕ) (old new : D) : Type 0 where
-    pub clock : CallsPassed n (g.clock old) (g.clock new)
+    pub clock : IsLaterBy n (g.clock old) (g.clock new)
     pub left : (k : ℕ) → HasLeft k (g.budget old) → (m : ℕ) × HasLeft m (g.budget new) × (m + n ≤ k)
 
   -- nothing was written: the disk reads as before, a crash may leave no further image, and it tells its room and its calls

@@ -1,6 +1,6 @@
 ghost use Rattle.std.specs.Prelude.{◌≡◌, ℕ, ◌+◌, ◌≤◌, [], ◌∷◌, ◌++◌, OnOk, IsOk, IsErr};
 ghost use Rattle.std.specs.Option.{option_map};
-ghost use Rattle.pv_outside.specs.Disk.{overwritten, CallsPassed, HasCalls, IsEndless};
+ghost use Rattle.pv_outside.specs.Disk.{text_after_write, IsLaterBy, HasCalls, IsEndless};
 ghost use Rattle.pv_journal.specs.Text.{Spells};
 ghost use Rattle.pv_journal.specs.Journal.{EachImage, IsDurable, IsSynced, Spends};
 ghost use Rattle.pv_journal.specs.declared.block.TheConstants.{MARK};
@@ -13,12 +13,12 @@ const EMPTY: [u8; 9] = [b'P', b'V', b'J', b'O', b'U', b'R', b'N', b'1', 0];
 /// Makes the disk a journal without bodies. It makes three calls of the disk, and stops at the first that
 /// fails: then the disk need not be a journal, and `format` is to be called again.
 pub fn format<D: Disk>(disk: &mut D) -> Result<(), D::Failure>
-    ensures empty { OnOk result (EachImage D.Tells disk.new (λ image. Spells image [])) }
-    ensures written { OnOk result (D.reads disk.new ≡ option_map (overwritten 0 (MARK ++ 0 ∷ [])) (D.reads disk.old)) }
-    ensures durable { OnOk result (IsDurable D.Tells disk.new) }
-    ensures synced { OnOk result (IsSynced D.Tells disk.new) }
-    ensures all_three { OnOk result (CallsPassed 3 (D.clock disk.old) (D.clock disk.new)) }
-    ensures spends { Spends D.Tells 3 (IsErr result) disk.old disk.new }
+    ensures empty { OnOk result (EachImage D.Reports disk.new (λ image. Spells image [])) }
+    ensures written { OnOk result (D.reads disk.new ≡ option_map (text_after_write 0 (MARK ++ 0 ∷ [])) (D.reads disk.old)) }
+    ensures durable { OnOk result (IsDurable D.Reports disk.new) }
+    ensures synced { OnOk result (IsSynced D.Reports disk.new) }
+    ensures all_three { OnOk result (IsLaterBy 3 (D.clock disk.old) (D.clock disk.new)) }
+    ensures spends { Spends D.Reports 3 (IsErr result) disk.old disk.new }
     ensures passes { HasCalls 3 9 (D.budget disk.old) → IsOk result }
 {
     disk.sync()?;

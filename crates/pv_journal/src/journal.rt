@@ -62,16 +62,16 @@ impl<D: Disk> Journal<D> {
     /// Begins to read a formatted disk, whose bodies may be as many as `limits.records`. It begins with
     /// a sync. A disk that is refused is handed back.
     pub fn start(mut disk: D, limits: Limits) -> Result<Journal<D>, (OpenFault<D>, D)>
-        ensures reading { IfOk result (λ journal. IsReading D.Tells journal []) }
+        ensures reading { IfOk result (λ journal. IsReading D.Reports journal []) }
         ensures limit { IfOk result (λ journal. journal.limit ≡ limits.records) }
-        ensures same { IfOk result (λ journal. Remains D.Tells disk journal.disk) }
-        ensures moments { IfOk result (λ journal. LeavesOnly D.Tells disk journal.disk (D.may_leave disk)) }
+        ensures same { IfOk result (λ journal. Remains D.Reports disk journal.disk) }
+        ensures moments { IfOk result (λ journal. LeavesOnly D.Reports disk journal.disk (D.may_leave disk)) }
 
         // A disk is refused where a call of it failed, or where it does not begin with the mark.
         ensures refused { IfErr result (λ e. IsStartFault e.0) }
         ensures shown { IfErr result (λ e. IfSome (D.reads disk) (λ text. StartFaultShows text e.0)) }
-        ensures handed_back { IfErr result (λ e. ReadsOnly D.Tells 3 (IsDiskFault e.0) disk e.1) }
-        ensures moments_refused { IfErr result (λ e. LeavesOnly D.Tells disk e.1 (D.may_leave disk)) }
+        ensures handed_back { IfErr result (λ e. ReadsOnly D.Reports 3 (IsDiskFault e.0) disk e.1) }
+        ensures moments_refused { IfErr result (λ e. LeavesOnly D.Reports disk e.1 (D.may_leave disk)) }
     {
         match length_behind_mark(&mut disk) {
             Ok(end) => Ok(Journal {
@@ -90,23 +90,23 @@ impl<D: Disk> Journal<D> {
     /// answers None without a call and changes nothing, also while a body is in hand.
     pub fn next(&mut self, into: &mut [u8; MAX_BODY]) -> Result<Option<usize>, OpenFault<D>>
         // Each body joins those that were read, and behind the last one these are all.
-        ensures found { IfOk result (λ answer. IfSome answer (λ n. (bodies : List (List ℕ)) → IsReading D.Tells self.old bodies
-            → IsReading D.Tells self.new (bodies ++ take n into.new ∷ []))) }
+        ensures found { IfOk result (λ answer. IfSome answer (λ n. (bodies : List (List ℕ)) → IsReading D.Reports self.old bodies
+            → IsReading D.Reports self.new (bodies ++ take n into.new ∷ []))) }
         ensures goes_on { IfOk result (λ answer. IfSome answer (λ n. IsStillReading self.new.phase)) }
         ensures at_rest { result ≡ Ok None → IsNoneInHand self.old.phase → IsAtRest self.new }
-        ensures ended { result ≡ Ok None → (bodies : List (List ℕ)) → IsReading D.Tells self.old bodies → Holds D.Tells self.new bodies }
+        ensures ended { result ≡ Ok None → (bodies : List (List ℕ)) → IsReading D.Reports self.old bodies → Holds D.Reports self.new bodies }
         ensures kept { OnErr result (self.new ≡ record self.old { disk = self.new.disk }) }
         ensures rests { IsAllRead self.old.phase → result ≡ Ok None }
         ensures unchanged { IsAllRead self.old.phase → self.new ≡ self.old }
-        ensures err { OnErr result ((bodies : List (List ℕ)) → IsReading D.Tells self.old bodies → IsReading D.Tells self.new bodies) }
-        ensures reads_only { ReadsOnly D.Tells 1 (ReadFailsOnDisk result) self.old.disk self.new.disk }
-        ensures moments { LeavesOnly D.Tells self.old.disk self.new.disk (D.may_leave self.old.disk) }
+        ensures err { OnErr result ((bodies : List (List ℕ)) → IsReading D.Reports self.old bodies → IsReading D.Reports self.new bodies) }
+        ensures reads_only { ReadsOnly D.Reports 1 (ReadFailsOnDisk result) self.old.disk self.new.disk }
+        ensures moments { LeavesOnly D.Reports self.old.disk self.new.disk (D.may_leave self.old.disk) }
         ensures limit { self.new.limit ≡ self.old.limit }
 
         // Each answer has its cause, and on a disk that tells its bytes these show which it is.
         ensures answer { IsNext self.old result }
-        ensures shown { (bodies : List (List ℕ)) → IsReading D.Tells self.old bodies → IfSome (D.reads self.old.disk) (λ text. NextShows text self.old into.new result) }
-        ensures spelled { (bodies more : List (List ℕ)) → IsReading D.Tells self.old bodies → DiskSpells D.Tells self.old.disk (bodies ++ more) → NextSpells more into.new result }
+        ensures shown { (bodies : List (List ℕ)) → IsReading D.Reports self.old bodies → IfSome (D.reads self.old.disk) (λ text. NextShows text self.old into.new result) }
+        ensures spelled { (bodies more : List (List ℕ)) → IsReading D.Reports self.old bodies → DiskSpells D.Reports self.old.disk (bodies ++ more) → NextSpells more into.new result }
     {
         let Phase::Reading { end } = self.phase else {
             return Ok(None);
@@ -143,27 +143,27 @@ impl<D: Disk> Journal<D> {
 
         ensures place { IfOk result (λ place. place ≡ self.old.count) }
         ensures still_at_rest { OnOk result (IsAtRest self.new) }
-        ensures stored { OnOk result ((bodies : List (List ℕ)) → Holds D.Tells self.old bodies → Holds D.Tells self.new (bodies ++ body.now ∷ [])) }
-        ensures in_hand { IfErr result (λ fault. IsAppendDiskFault fault → (bodies : List (List ℕ)) → Holds D.Tells self.old bodies → HoldsInHand D.Tells self.new bodies body.now) }
+        ensures stored { OnOk result ((bodies : List (List ℕ)) → Holds D.Reports self.old bodies → Holds D.Reports self.new (bodies ++ body.now ∷ [])) }
+        ensures in_hand { IfErr result (λ fault. IsAppendDiskFault fault → (bodies : List (List ℕ)) → Holds D.Reports self.old bodies → HoldsInHand D.Reports self.new bodies body.now) }
         ensures kept { OnErr result (self.new ≡ record self.old { disk = self.new.disk; phase = self.new.phase }) }
         ensures size_in_hand { IfErr result (λ fault. IsAppendDiskFault fault → self.new.phase ≡ Phase.InHand (length body.now)) }
 
         // A crash at any moment of the call leaves an image that spells the list without the body or with it,
         // and without it where fewer than two calls of the disk were left, or have succeeded.
-        ensures moments { (bodies : List (List ℕ)) → Holds D.Tells self.old bodies → LeavesOnly D.Tells self.old.disk self.new.disk (SpellsEither bodies body.now) }
-        ensures early { (bodies : List (List ℕ)) → Holds D.Tells self.old bodies
-            → HasMade D.Tells 2 self.old.disk self.new.disk ⊎ LeavesOnly D.Tells self.old.disk self.new.disk (λ image. Spells image bodies) }
-        ensures few { (bodies : List (List ℕ)) (n : ℕ) → Holds D.Tells self.old bodies → HasLeft n (D.budget self.old.disk) → n < 2
-            → LeavesOnly D.Tells self.old.disk self.new.disk (λ image. Spells image bodies) }
+        ensures moments { (bodies : List (List ℕ)) → Holds D.Reports self.old bodies → LeavesOnly D.Reports self.old.disk self.new.disk (SpellsEither bodies body.now) }
+        ensures early { (bodies : List (List ℕ)) → Holds D.Reports self.old bodies
+            → HasMade D.Reports 2 self.old.disk self.new.disk ⊎ LeavesOnly D.Reports self.old.disk self.new.disk (λ image. Spells image bodies) }
+        ensures few { (bodies : List (List ℕ)) (n : ℕ) → Holds D.Reports self.old bodies → HasLeft n (D.budget self.old.disk) → n < 2
+            → LeavesOnly D.Reports self.old.disk self.new.disk (λ image. Spells image bodies) }
 
         // It is full exactly where it has as many bodies as the limit, and then nothing changes.
         ensures full { IfErr result (IsFull self.old self.new) }
         ensures room { OnOk result (self.old.count < self.old.limit) }
         ensures limit { self.new.limit ≡ self.old.limit }
 
-        ensures spends { Spends D.Tells 4 (FailsOnDisk result) self.old.disk self.new.disk }
-        ensures all_four { OnOk result (HasMade D.Tells 4 self.old.disk self.new.disk) }
-        ensures passes { IfErr result (λ fault. (bodies : List (List ℕ)) → Holds D.Tells self.old bodies → HasCalls 4 (9 + 2051 * self.old.limit) (D.budget self.old.disk) → IsAppendDiskFault fault → ⊥) }
+        ensures spends { Spends D.Reports 4 (FailsOnDisk result) self.old.disk self.new.disk }
+        ensures all_four { OnOk result (HasMade D.Reports 4 self.old.disk self.new.disk) }
+        ensures passes { IfErr result (λ fault. (bodies : List (List ℕ)) → Holds D.Reports self.old bodies → HasCalls 4 (9 + 2051 * self.old.limit) (D.budget self.old.disk) → IsAppendDiskFault fault → ⊥) }
     {
         let place = self.count;
         if place == self.limit as u64 {
@@ -186,19 +186,19 @@ impl<D: Disk> Journal<D> {
         ensures none { (result ≡ Ok None) ↔ IsNoneInHand self.old.phase }
         ensures unchanged { IsNoneInHand self.old.phase → self.new ≡ self.old }
         ensures at_rest { IfOk result (λ answer. IfSome answer (λ stored. IsAtRest self.new)) }
-        ensures stored { result ≡ Ok (Some true) → (bodies : List (List ℕ)) (body : List ℕ) → HoldsInHand D.Tells self.old bodies body → Holds D.Tells self.new (bodies ++ body ∷ []) }
-        ensures dropped { result ≡ Ok (Some false) → (bodies : List (List ℕ)) (body : List ℕ) → HoldsInHand D.Tells self.old bodies body → Holds D.Tells self.new bodies }
+        ensures stored { result ≡ Ok (Some true) → (bodies : List (List ℕ)) (body : List ℕ) → HoldsInHand D.Reports self.old bodies body → Holds D.Reports self.new (bodies ++ body ∷ []) }
+        ensures dropped { result ≡ Ok (Some false) → (bodies : List (List ℕ)) (body : List ℕ) → HoldsInHand D.Reports self.old bodies body → Holds D.Reports self.new bodies }
 
         // What the disk reads as spells that list too.
-        ensures reads_stored { result ≡ Ok (Some true) → (bodies : List (List ℕ)) (body : List ℕ) → HoldsInHand D.Tells self.old bodies body → IfSome (D.reads self.new.disk) (λ text. Spells text (bodies ++ body ∷ [])) }
-        ensures reads_dropped { result ≡ Ok (Some false) → (bodies : List (List ℕ)) (body : List ℕ) → HoldsInHand D.Tells self.old bodies body → IfSome (D.reads self.new.disk) (λ text. Spells text bodies) }
+        ensures reads_stored { result ≡ Ok (Some true) → (bodies : List (List ℕ)) (body : List ℕ) → HoldsInHand D.Reports self.old bodies body → IfSome (D.reads self.new.disk) (λ text. Spells text (bodies ++ body ∷ [])) }
+        ensures reads_dropped { result ≡ Ok (Some false) → (bodies : List (List ℕ)) (body : List ℕ) → HoldsInHand D.Reports self.old bodies body → IfSome (D.reads self.new.disk) (λ text. Spells text bodies) }
 
         ensures kept { OnErr result (self.new ≡ record self.old { disk = self.new.disk }) }
         ensures put_down { result ≡ Ok (Some false) → self.new ≡ record self.old { disk = self.new.disk; phase = self.new.phase } }
-        ensures in_hand { OnErr result ((bodies : List (List ℕ)) (body : List ℕ) → HoldsInHand D.Tells self.old bodies body → HoldsInHand D.Tells self.new bodies body) }
-        ensures both_calls { OnOk result ((IsNoneInHand self.old.phase → ⊥) → HasMade D.Tells 2 self.old.disk self.new.disk) }
-        ensures moments { (bodies : List (List ℕ)) (body : List ℕ) → HoldsInHand D.Tells self.old bodies body → LeavesOnly D.Tells self.old.disk self.new.disk (SpellsEither bodies body) }
-        ensures reads_only { ReadsOnly D.Tells 2 (IsErr result) self.old.disk self.new.disk }
+        ensures in_hand { OnErr result ((bodies : List (List ℕ)) (body : List ℕ) → HoldsInHand D.Reports self.old bodies body → HoldsInHand D.Reports self.new bodies body) }
+        ensures both_calls { OnOk result ((IsNoneInHand self.old.phase → ⊥) → HasMade D.Reports 2 self.old.disk self.new.disk) }
+        ensures moments { (bodies : List (List ℕ)) (body : List ℕ) → HoldsInHand D.Reports self.old bodies body → LeavesOnly D.Reports self.old.disk self.new.disk (SpellsEither bodies body) }
+        ensures reads_only { ReadsOnly D.Reports 2 (IsErr result) self.old.disk self.new.disk }
         ensures limit { self.new.limit ≡ self.old.limit }
     {
         let Phase::InHand { size } = self.phase else {
@@ -235,11 +235,11 @@ impl<D: Disk> Journal<D> {
 impl<D: Fused> Journal<D> {
     /// Lets so many further calls of the disk pass, and then none. Nothing else changes.
     pub fn fuse(&mut self, calls: u32)
-        ensures disk { IsFused D.Tells calls self.old.disk self.new.disk }
+        ensures disk { IsFused D.Reports calls self.old.disk self.new.disk }
         ensures same { self.new ≡ record self.old { disk = self.new.disk } }
-        ensures reading { (bodies : List (List ℕ)) → IsReading D.Tells self.old bodies → IsReading D.Tells self.new bodies }
-        ensures holds { (bodies : List (List ℕ)) → Holds D.Tells self.old bodies → Holds D.Tells self.new bodies }
-        ensures in_hand { (bodies : List (List ℕ)) (body : List ℕ) → HoldsInHand D.Tells self.old bodies body → HoldsInHand D.Tells self.new bodies body }
+        ensures reading { (bodies : List (List ℕ)) → IsReading D.Reports self.old bodies → IsReading D.Reports self.new bodies }
+        ensures holds { (bodies : List (List ℕ)) → Holds D.Reports self.old bodies → Holds D.Reports self.new bodies }
+        ensures in_hand { (bodies : List (List ℕ)) (body : List ℕ) → HoldsInHand D.Reports self.old bodies body → HoldsInHand D.Reports self.new bodies body }
     {
         self.disk.fuse(calls);
     }

@@ -9,11 +9,11 @@ use pv_outside::Disk;
 
 /// Syncs the disk, and answers how many bytes it has, if these begin with the mark.
 pub(crate) fn length_behind_mark<D: Disk>(disk: &mut D) -> Result<u64, OpenFault<D>>
-    ensures reads_only { ReadsOnly D.Tells 3 (ReadFailsOnDisk result) disk.old disk.new }
+    ensures reads_only { ReadsOnly D.Reports 3 (ReadFailsOnDisk result) disk.old disk.new }
     ensures length { IfOk result (λ end. 8 ≤ end) }
     ensures marked { IfOk result (λ end. IfSome (D.reads disk.old) (λ text. (length text ≡ end) × (text ≡ MARK ++ drop 8 text))) }
-    ensures durable { OnOk result (IsDurable D.Tells disk.new) }
-    ensures synced { OnOk result (IsSynced D.Tells disk.new) }
+    ensures durable { OnOk result (IsDurable D.Reports disk.new) }
+    ensures synced { OnOk result (IsSynced D.Reports disk.new) }
     ensures refused { IfErr result IsStartFault }
     ensures shown { IfErr result (λ fault. IfSome (D.reads disk.old) (λ text. StartFaultShows text fault)) }
 {
@@ -27,12 +27,12 @@ pub(crate) fn length_behind_mark<D: Disk>(disk: &mut D) -> Result<u64, OpenFault
 
 /// Syncs the disk, reads the first eight bytes, filled up with 0, and answers how many bytes there are.
 fn first_bytes<D: Disk>(disk: &mut D, into: &mut [u8; 8]) -> Result<u64, D::Failure>
-    ensures reads_only { ReadsOnly D.Tells 3 (IsErr result) disk.old disk.new }
+    ensures reads_only { ReadsOnly D.Reports 3 (IsErr result) disk.old disk.new }
     ensures length { IfOk result (λ end. IfSome (D.reads disk.old) (λ text. length text ≡ end)) }
     ensures bytes { OnOk result (IfSome (D.reads disk.old) (λ text. into.new ≡ first_eight text)) }
     ensures filled { IfOk result (λ end. end < 8 → slice_index into.new 7 ≡ 0) }
-    ensures durable { OnOk result (IsDurable D.Tells disk.new) }
-    ensures synced { OnOk result (IsSynced D.Tells disk.new) }
+    ensures durable { OnOk result (IsDurable D.Reports disk.new) }
+    ensures synced { OnOk result (IsSynced D.Reports disk.new) }
 {
     disk.sync()?;
     let end = disk.len()?;
@@ -59,11 +59,11 @@ pub(crate) fn read_block<D: Disk>(
 ) -> Result<usize, D::Failure>
     requires within { gate ≤ end }
     requires told { IfSome (D.reads disk.old) (λ text. length text ≡ end) }
-    ensures reads_only { ReadsOnly D.Tells 1 (IsErr result) disk.old disk.new }
+    ensures reads_only { ReadsOnly D.Reports 1 (IsErr result) disk.old disk.new }
     ensures held { IfOk result (λ held. (held ≤ MAX_BLOCK) × (gate + held ≤ end)) }
     ensures bytes { IfOk result (λ held. IfSome (D.reads disk.old) (λ text. take held into.new ≡ take MAX_BLOCK (drop gate text))) }
-    ensures durable { IsDurable D.Tells disk.old → IsDurable D.Tells disk.new }
-    ensures synced { IsSynced D.Tells disk.old → IsSynced D.Tells disk.new }
+    ensures durable { IsDurable D.Reports disk.old → IsDurable D.Reports disk.new }
+    ensures synced { IsSynced D.Reports disk.old → IsSynced D.Reports disk.new }
 {
     let held = (end - gate).min(MAX_BLOCK as u64) as usize;
     disk.read(gate, &mut into[..held])?;

@@ -15,22 +15,22 @@ pub(crate) fn store<D: Disk>(disk: &mut D, gate: u64, body: &[u8]) -> Result<(),
 
     // Where each image spelled a list whose gate this is, then a crash at any moment of the call leaves one
     // that spells it without the body or with it, and after an Ok each spells it with the body.
-    ensures moments { (bodies : List (List ℕ)) → gate ≡ length (front bodies) → EachImage D.Tells disk.old (λ image. Spells image bodies)
-        → LeavesOnly D.Tells disk.old disk.new (SpellsEither bodies body.now) }
-    ensures stored { OnOk result ((bodies : List (List ℕ)) → gate ≡ length (front bodies) → EachImage D.Tells disk.old (λ image. Spells image bodies)
-        → EachImage D.Tells disk.new (λ image. Spells image (bodies ++ body.now ∷ []))) }
+    ensures moments { (bodies : List (List ℕ)) → gate ≡ length (front bodies) → EachImage D.Reports disk.old (λ image. Spells image bodies)
+        → LeavesOnly D.Reports disk.old disk.new (SpellsEither bodies body.now) }
+    ensures stored { OnOk result ((bodies : List (List ℕ)) → gate ≡ length (front bodies) → EachImage D.Reports disk.old (λ image. Spells image bodies)
+        → EachImage D.Reports disk.new (λ image. Spells image (bodies ++ body.now ∷ []))) }
 
     // Until two calls of the disk have succeeded, it leaves one that spells the list without it.
-    ensures early { (bodies : List (List ℕ)) → gate ≡ length (front bodies) → EachImage D.Tells disk.old (λ image. Spells image bodies)
-        → HasMade D.Tells 2 disk.old disk.new ⊎ LeavesOnly D.Tells disk.old disk.new (λ image. Spells image bodies) }
+    ensures early { (bodies : List (List ℕ)) → gate ≡ length (front bodies) → EachImage D.Reports disk.old (λ image. Spells image bodies)
+        → HasMade D.Reports 2 disk.old disk.new ⊎ LeavesOnly D.Reports disk.old disk.new (λ image. Spells image bodies) }
 
     ensures next_gate { OnOk result (IfSome (D.reads disk.new) (HasClosedGate (gate + length body.now + 3))) }
     ensures same_gate { OnErr result (IfSome (D.reads disk.new) (MayHaveBody gate (length body.now))) }
 
-    ensures synced { OnOk result (IsSynced D.Tells disk.new) }
-    ensures passes { HasCalls 4 (gate + length body.now + 4) (D.budget disk.old) → IsSynced D.Tells disk.old → IsOk result }
-    ensures all_four { OnOk result (HasMade D.Tells 4 disk.old disk.new) }
-    ensures spends { Spends D.Tells 4 (IsErr result) disk.old disk.new }
+    ensures synced { OnOk result (IsSynced D.Reports disk.new) }
+    ensures passes { HasCalls 4 (gate + length body.now + 4) (D.budget disk.old) → IsSynced D.Reports disk.old → IsOk result }
+    ensures all_four { OnOk result (HasMade D.Reports 4 disk.old disk.new) }
+    ensures spends { Spends D.Reports 4 (IsErr result) disk.old disk.new }
 {
     let mut bytes = [0; MAX_BLOCK];
     let length = spell(body, &mut bytes);

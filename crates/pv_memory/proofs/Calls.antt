@@ -2,12 +2,12 @@
 use Rattle.std.proofs.Common.{◌≡◌, ℕ, ◌+◌, ◌≤◌, List, [], ◌∷◌, ◌++◌, length, take, drop, true, Result, Ok, refl, sym, subst, arith, rules, length-append}
 use Rattle.pv_outside.specs.declared.failed.Failed.{Failed}
 use Rattle.pv_outside.specs.declared.failed.TheConstants.{COUNT_END}
-use Rattle.pv_outside.specs.Disk.{after_call, after_sync}
-use Rattle.pv_outside.specs.Calls.{Looks, Writes}
-use Rattle.pv_memory.specs.Medium.{Medium, IsSound, nowhere, can_pass, after_looking, after_syncing, after_writing}
+use Rattle.pv_outside.specs.Disk.{budget_after_call, budget_after_sync}
+use Rattle.pv_outside.specs.Calls.{WritesNothing, WritesAt}
+use Rattle.pv_memory.specs.Medium.{Medium, MatchesSync, nowhere, can_pass, disk_after_read, disk_after_sync, disk_after_write}
 use Rattle.pv_memory.proofs.Moments.{elapses}
 use Rattle.pv_memory.proofs.Writes.{put_back, torn_by}
-use Rattle.pv_memory.specs.contracts.disk.MemDiskTells.TheImpl.{ghosts}
+use Rattle.pv_memory.specs.contracts.disk.MemDiskReports.TheImpl.{ghosts}
 
 module _ {T : Type 0} (m new : Medium) (value : T) (can : can_pass m ≡ true) (ends : m.clock ≤ COUNT_END) where
   -- the answer of the call
@@ -15,11 +15,11 @@ module _ {T : Type 0} (m new : Medium) (value : T) (can : can_pass m ≡ true) (
   answer = Ok value
 
   -- a call that tells the length or the bytes
-  looked : Looks ghosts after_call m (after_looking m) answer
+  looked : WritesNothing ghosts budget_after_call m (disk_after_read m) answer
   looked = record {
     call = record {
       clock = refl;
-      time = elapses nowhere m (after_looking m) refl refl refl ends;
+      time = elapses nowhere m (disk_after_read m) refl refl refl ends;
       budget = search rules;
       passes = search rules;
       spent = search rules;
@@ -31,11 +31,11 @@ module _ {T : Type 0} (m new : Medium) (value : T) (can : can_pass m ≡ true) (
   }
 
   -- a sync
-  synced : Looks ghosts after_sync m (after_syncing m) answer
+  synced : WritesNothing ghosts budget_after_sync m (disk_after_sync m) answer
   synced = record {
     call = record {
       clock = refl;
-      time = elapses nowhere m (after_syncing m) refl refl refl ends;
+      time = elapses nowhere m (disk_after_sync m) refl refl refl ends;
       budget = search rules;
       passes = search rules;
       spent = search rules;
@@ -46,27 +46,27 @@ module _ {T : Type 0} (m new : Medium) (value : T) (can : can_pass m ≡ true) (
     images = search rules;
   }
 
-  pub looks : new ≡ after_looking m → Looks ghosts after_call m new answer
-  looks is = subst (λ (n : Medium). Looks ghosts after_call m n answer) (sym is) looked
+  pub looks : new ≡ disk_after_read m → WritesNothing ghosts budget_after_call m new answer
+  looks is = subst (λ (n : Medium). WritesNothing ghosts budget_after_call m n answer) (sym is) looked
 
-  pub syncs : new ≡ after_syncing m → Looks ghosts after_sync m new answer
-  syncs is = subst (λ (n : Medium). Looks ghosts after_sync m n answer) (sym is) synced
+  pub syncs : new ≡ disk_after_sync m → WritesNothing ghosts budget_after_sync m new answer
+  syncs is = subst (λ (n : Medium). WritesNothing ghosts budget_after_sync m n answer) (sym is) synced
 
-  module _ (at : ℕ) (bytes : List ℕ) (within : at ≤ length m.text) (sound : IsSound m.text m.synced m.pending) where
+  module _ (at : ℕ) (bytes : List ℕ) (within : at ≤ length m.text) (sound : MatchesSync m.text m.synced m.pending) where
     -- one write more is pending
     one_more : length (m.pending ++ record { at = at; size = length bytes } ∷ []) ≡ length m.pending + 1
     one_more = omega (arith, length-append m.pending (record { at = at; size = length bytes } ∷ []))
 
     -- what stood in the range is put back
-    back : take at (after_writing at bytes m).text ++ take (length bytes) (drop at m.text) ++ drop (at + length bytes) (after_writing at bytes m).text ≡ m.text
+    back : take at (disk_after_write at bytes m).text ++ take (length bytes) (drop at m.text) ++ drop (at + length bytes) (disk_after_write at bytes m).text ≡ m.text
     back = put_back at bytes m.text within
 
     -- a write
-    wrote : Writes ghosts at bytes m (after_writing at bytes m) answer
+    wrote : WritesAt ghosts at bytes m (disk_after_write at bytes m) answer
     wrote = record {
       call = record {
         clock = refl;
-        time = elapses (record { at = at; size = length bytes }) m (after_writing at bytes m) refl refl (λ i. record { text = back i; end = length m.synced; pending = m.pending }) ends;
+        time = elapses (record { at = at; size = length bytes }) m (disk_after_write at bytes m) refl refl (λ i. record { text = back i; end = length m.synced; pending = m.pending }) ends;
         budget = search (rules, one_more);
         passes = search rules;
         spent = search rules;
@@ -78,5 +78,5 @@ module _ {T : Type 0} (m new : Medium) (value : T) (can : can_pass m ≡ true) (
       images = torn_by at bytes m.text m.synced m.pending sound within;
     }
 
-    pub writes : new ≡ after_writing at bytes m → Writes ghosts at bytes m new answer
-    writes is = subst (λ (n : Medium). Writes ghosts at bytes m n answer) (sym is) wrote
+    pub writes : new ≡ disk_after_write at bytes m → WritesAt ghosts at bytes m new answer
+    writes is = subst (λ (n : Medium). WritesAt ghosts at bytes m n answer) (sym is) wrote

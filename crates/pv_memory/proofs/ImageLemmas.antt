@@ -4,7 +4,7 @@ use Rattle.std.proofs.lemmas.List.{nil_from_length, ext_get_or}
 use Rattle.std.proofs.lemmas.List.FromFn.{fill_by_all}
 use Rattle.std.proofs.lemmas.Bool.{cases_lt}
 use Rattle.pv_memory.specs.declared.past.Range.{Range}
-use Rattle.pv_memory.specs.Medium.{is_pending, IsImage, IsSound, image_bytes}
+use Rattle.pv_memory.specs.Medium.{is_pending, IsImage, MatchesSync, image_bytes}
 
 -- the text with the pattern of this image over each of the ranges
 pub record IsPainted (text : List ℕ) (pending : List Range) (image : ℕ) (painted : List ℕ) : Type 0 where
@@ -23,7 +23,7 @@ painted_is text synced pending (suc (suc n)) painted some more is =
 none_pending : (pending : List Range) (k : ℕ) → length pending ≡ 0 → is_pending pending k ≡ false
 none_pending pending k none = ap (λ ranges. is_pending ranges k) (nil_from_length pending none)
 
-module _ (text synced : List ℕ) (pending : List Range) (sound : IsSound text synced pending) where
+module _ (text synced : List ℕ) (pending : List Range) (sound : MatchesSync text synced pending) where
   -- a crash may leave the disk with any pattern over the ranges that were written since the last sync
   pub painted_left : (image : ℕ) (painted : List ℕ) → IsPainted text pending image painted → IsImage (record { text = text; end = length synced; pending = pending }) painted
   painted_left image painted is =

@@ -4,7 +4,7 @@ use Rattle.std.proofs.lemmas.Bool.{cases_lt, lt-ltb, le-ltb}
 use Rattle.std.proofs.lemmas.List.{length-take}
 use Rattle.pv_outside.specs.declared.failed.TheConstants.{COUNT_END}
 use Rattle.pv_outside.specs.declared.disk.TheConstants.{KEPT_CALLS, KEPT_BYTES}
-use Rattle.pv_outside.specs.Disk.{Elapses, CallsPassed}
+use Rattle.pv_outside.specs.Disk.{Elapses, IsLaterBy}
 use Rattle.pv_memory.specs.declared.past.Range.{Range}
 use Rattle.pv_memory.specs.Medium.{Medium, Moment, Change, moment_of, IsImage, before, LeftIn, IsForgotten, LeftSince, change_at, past_after}
 
@@ -98,7 +98,7 @@ module _ (range : Range) (old new : Medium) (clock : new.clock ≡ min (old.cloc
   ]
 
   -- a call forgets a time only where more than eight calls have succeeded since, or where the call wrote much
-  forgets : (t : ℕ) → t ≤ old.clock → IsForgotten new t → IsForgotten old t ⊎ (CallsPassed (KEPT_CALLS + 1) t new.clock ⊎ (KEPT_BYTES < range.size))
+  forgets : (t : ℕ) → t ≤ old.clock → IsForgotten new t → IsForgotten old t ⊎ (IsLaterBy (KEPT_CALLS + 1) t new.clock ⊎ (KEPT_BYTES < range.size))
   forgets t le (inl ended) = inr (inl (omega arith))
   forgets t le (inr far) = elim (cases_lt KEPT_BYTES range.size) [
     | inl large ↦ inr (inr large)

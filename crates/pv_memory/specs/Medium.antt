@@ -2,10 +2,10 @@
 use Rattle.std.specs.Prelude.{◌≡◌, ◌⊎◌, ℕ, zero, suc, min, ◌+◌, ◌-◌, ◌*◌, ◌%◌, ◌<◌, ◌≤◌, Bool, true, false, not, ◌&&◌, nat_le, nat_lt, if◌then◌else◌, List, [], ◌∷◌, ◌++◌, length, map, take, drop, slice_index, All, Option, Some, None}
 use Rattle.std.specs.List.{list_any, range_with_len}
 use Rattle.std.specs.Option.{option_map}
-use Rattle.pv_outside.specs.Disk.{Budget, overwritten}
+use Rattle.pv_outside.specs.Disk.{Budget, text_after_write}
 use Rattle.pv_outside.specs.declared.failed.TheConstants.{COUNT_END}
 use Rattle.pv_outside.specs.declared.disk.TheConstants.{KEPT_BYTES, KEPT_CALLS, MAX_UNSYNCED}
-use Rattle.pv_memory.specs.Faults.{Plan, after_call, after_failure, fails_now}
+use Rattle.pv_memory.specs.Faults.{Plan, plan_after_call, plan_after_failure, fails_now}
 use Rattle.pv_memory.specs.declared.past.Range.{Range}
 
 -- what one call has changed: the range that it wrote, the bytes that stood there, the ranges that were written since the
@@ -100,7 +100,7 @@ abbrev pub IsEachWithin : List Range → ℕ → Type 0
 IsEachWithin ranges n = All (λ range. range.at + range.size ≤ n) ranges
 
 -- the text and the one from the last sync differ only in the ranges that were written since, and past the old end
-pub record IsSound (text synced : List ℕ) (pending : List Range) : Type 0 where
+pub record MatchesSync (text synced : List ℕ) (pending : List Range) : Type 0 where
   pub shorter : length synced ≤ length text
   pub within : IsEachWithin pending (length text)
   pub same : (place : ℕ) → place < length synced → is_pending pending place ≡ false → slice_index synced place ≡ slice_index text place
@@ -116,30 +116,30 @@ abbrev pub past_after : Range → Medium → List Change
 past_after range m = if nat_lt KEPT_BYTES range.size then [] else take KEPT_CALLS (change_at range m ∷ m.past)
 
 -- the disk after a call that succeeds, before it has written this range
-abbrev pub after_pass : Range → Medium → Medium
-after_pass range m = record m { past = past_after range m; left = option_map (λ n. n - 1) m.left; clock = min (m.clock + 1) COUNT_END; plan = after_call m.plan }
+abbrev pub disk_after_call : Range → Medium → Medium
+disk_after_call range m = record m { past = past_after range m; left = option_map (λ n. n - 1) m.left; clock = min (m.clock + 1) COUNT_END; plan = plan_after_call m.plan }
 
 -- the disk after a call that fails: the call and the fault are counted, and nothing else has changed
-abbrev pub after_failing : Medium → Medium
-after_failing m = record m { plan = after_failure m.plan }
+abbrev pub disk_after_failure : Medium → Medium
+disk_after_failure m = record m { plan = plan_after_failure m.plan }
 
 -- the range of a call that writes nothing
 abbrev pub nowhere : Range
 nowhere = record { at = 0; size = 0 }
 
 -- the disk after a call that tells its length or its bytes
-abbrev pub after_looking : Medium → Medium
-after_looking m = after_pass nowhere m
+abbrev pub disk_after_read : Medium → Medium
+disk_after_read m = disk_after_call nowhere m
 
 -- the disk after a write of these bytes at this place, which is pending now
-abbrev pub after_writing : ℕ → List ℕ → Medium → Medium
-after_writing at bytes m =
+abbrev pub disk_after_write : ℕ → List ℕ → Medium → Medium
+disk_after_write at bytes m =
     let range : Range = record { at = at; size = length bytes } in
-    record (after_pass range m) { text = overwritten at bytes m.text; pending = m.pending ++ range ∷ [] }
+    record (disk_after_call range m) { text = text_after_write at bytes m.text; pending = m.pending ++ range ∷ [] }
 
 -- the disk after a sync: nothing is pending
-abbrev pub after_syncing : Medium → Medium
-after_syncing m = record (after_pass nowhere m) { synced = m.text; pending = [] }
+abbrev pub disk_after_sync : Medium → Medium
+disk_after_sync m = record (disk_after_call nowhere m) { synced = m.text; pending = [] }
 
 -- a further call passes
 abbrev pub left_passes : Option ℕ → Bool

@@ -1,6 +1,6 @@
 ghost use Rattle.std.specs.Prelude.{◌≡◌, ℕ, max, ◌+◌, ◌*◌, ◌%◌, ◌<◌, ◌≤◌, false, if◌then◌else◌, length, slice_index, vec_len, vec_capacity};
-ghost use Rattle.pv_outside.specs.Disk.{overwritten};
-ghost use Rattle.pv_memory.specs.Medium.{is_within, is_pending, IsEachWithin, IsSound, IsImage, image_bytes};
+ghost use Rattle.pv_outside.specs.Disk.{text_after_write};
+ghost use Rattle.pv_memory.specs.Medium.{is_within, is_pending, IsEachWithin, MatchesSync, IsImage, image_bytes};
 
 use crate::past::Range;
 
@@ -8,7 +8,7 @@ use crate::past::Range;
 pub(crate) fn overwrite(text: &mut Vec<u8>, at: usize, bytes: &[u8])
     requires within { at ≤ vec_len text.old }
     requires room { at + length bytes.now ≤ vec_capacity text.old }
-    ensures written { text.new.items ≡ overwritten at bytes.now text.old.items }
+    ensures written { text.new.items ≡ text_after_write at bytes.now text.old.items }
     ensures len { vec_len text.new ≡ max (vec_len text.old) (at + length bytes.now) }
     ensures capacity { vec_capacity text.old ≤ vec_capacity text.new }
 {
@@ -78,7 +78,7 @@ fn paint_all(text: &mut [u8], image: u8, pending: &[Range])
 
 /// Makes a text, and its older copy, the image of this number.
 pub(crate) fn restore(text: &mut Vec<u8>, synced: &mut Vec<u8>, pending: &[Range], image: u8)
-    requires sound { IsSound text.old.items synced.old.items pending.now }
+    requires sound { MatchesSync text.old.items synced.old.items pending.now }
     requires text_room { vec_len synced.old ≤ vec_capacity text.old }
     requires synced_room { vec_len text.old ≤ vec_capacity synced.old }
     ensures image { text.new.items ≡ image_bytes text.old.items synced.old.items pending.now image }

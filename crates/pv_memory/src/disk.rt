@@ -2,9 +2,9 @@ ghost use Rattle.std.specs.Prelude.{◌≡◌, ◌↔◌, ◌+◌, ◌≤◌, []
 ghost use Rattle.std.specs.Option.{option_map, ForSome};
 ghost use Rattle.pv_outside.specs.Counts.{Rose};
 ghost use Rattle.pv_outside.specs.declared.failed.TheConstants.{COUNT_END};
-ghost use Rattle.pv_outside.specs.Disk.{after_call, after_sync};
-ghost use Rattle.pv_outside.specs.Calls.{Looks, Writes, IsFused};
-ghost use Rattle.pv_memory.specs.Medium.{Medium, moment_of, IsImage, IsForgotten, LeftSince, budget_of, can_pass, has_room, image_of, after_pass, after_failing, after_looking, after_writing, after_syncing};
+ghost use Rattle.pv_outside.specs.Disk.{budget_after_call, budget_after_sync};
+ghost use Rattle.pv_outside.specs.Calls.{WritesNothing, WritesAt, IsFused};
+ghost use Rattle.pv_memory.specs.Medium.{Medium, moment_of, IsImage, IsForgotten, LeftSince, budget_of, can_pass, has_room, image_of, disk_after_call, disk_after_failure, disk_after_read, disk_after_write, disk_after_sync};
 ghost use Rattle.pv_memory.specs.MediumLaws.{now_counts, only_now, now_is_known, fresh};
 ghost use Rattle.std.specs.Prelude.{refl};
 ghost use Rattle.std.proofs.Common.{inl};
@@ -12,7 +12,7 @@ ghost use Rattle.std.proofs.Common.{inl};
 use crate::bytes::{catch_up, overwrite, restore};
 use crate::faults::Faults;
 use crate::past::{Past, Range};
-use pv_outside::{Disk, Failed, Fused, KEPT_BYTES, MAX_UNSYNCED, Tells};
+use pv_outside::{Disk, Failed, Fused, KEPT_BYTES, MAX_UNSYNCED, Reports};
 use std::alloc::{AllocError, Global};
 use std::marker::Model;
 
@@ -37,11 +37,11 @@ impl Model for MemDisk {
 
     ghost Value = { Medium };
 
-    ghost use Rattle.pv_memory.specs.Inside.{medium_of, IsKept};
+    ghost use Rattle.pv_memory.specs.Inside.{medium_of, IsMemDisk};
 
     ghost view = { medium_of };
 
-    ghost invariant = { IsKept };
+    ghost invariant = { IsMemDisk };
 }
 
 impl MemDisk {
@@ -87,9 +87,9 @@ impl MemDisk {
     /// passes; else it keeps what stands in the range that the call is about to write.
     fn begin(&mut self, range: Range, is_refused: bool) -> Result<(), Failed>
         requires { range.at ≤ length self.old.text }
-        ensures ok { OnOk result (self.new ≡ after_pass range self.old) }
+        ensures ok { OnOk result (self.new ≡ disk_after_call range self.old) }
         ensures not_refused { OnOk result (is_refused ≡ false) }
-        ensures err { OnErr result (self.new ≡ after_failing self.old) }
+        ensures err { OnErr result (self.new ≡ disk_after_failure self.old) }
         ensures counted { self.old.plan.faults ≤ self.new.plan.faults }
         ensures failed { IsErr result → Rose self.old.plan.faults self.new.plan.faults }
         ensures exact { is_ok result ≡ (can_pass self.old && not is_refused) }
@@ -114,7 +114,7 @@ impl MemDisk {
     }
 }
 
-impl Tells for MemDisk {
+impl Reports for MemDisk {
     ghost reads = { λ m. Some m.text };
 
     ghost may_leave = { λ m. IsImage (moment_of m) };
@@ -145,12 +145,12 @@ impl Disk for MemDisk {
 
     fn len(&mut self) -> Result<u64, Failed>
         ensures len { IfOk result (λ n. IfSome (Some self.old.text) (λ text. n ≡ length text)) }
-        ensures looks { Looks ⟦<MemDisk as Tells>⟧ after_call self.old self.new result }
+        ensures keeps { WritesNothing ⟦<MemDisk as Reports>⟧ budget_after_call self.old self.new result }
 
         // It fails exactly where it is named to or no further call passes, and then it changes nothing.
         ensures exact { is_ok result ≡ can_pass self.old }
-        ensures done { OnOk result (self.new ≡ after_looking self.old) }
-        ensures err { OnErr result (self.new ≡ after_failing self.old) }
+        ensures done { OnOk result (self.new ≡ disk_after_read self.old) }
+        ensures err { OnErr result (self.new ≡ disk_after_failure self.old) }
     {
         self.begin(NOTHING, false)?;
         Ok(self.text.len() as u64)
@@ -159,12 +159,12 @@ impl Disk for MemDisk {
     fn read(&mut self, at: u64, into: &mut [u8]) -> Result<(), Failed>
         requires within { ForSome (Some self.old.text) (λ text. at + length into.old ≤ length text) }
         ensures bytes { OnOk result (IfSome (Some self.old.text) (λ text. into.new ≡ slice_range text at (at + length into.old))) }
-        ensures looks { Looks ⟦<MemDisk as Tells>⟧ after_call self.old self.new result }
+        ensures keeps { WritesNothing ⟦<MemDisk as Reports>⟧ budget_after_call self.old self.new result }
 
         // It fails exactly where it is named to or no further call passes, and then it changes nothing.
         ensures exact { is_ok result ≡ can_pass self.old }
-        ensures done { OnOk result (self.new ≡ after_looking self.old) }
-        ensures err { OnErr result (self.new ≡ after_failing self.old) }
+        ensures done { OnOk result (self.new ≡ disk_after_read self.old) }
+        ensures err { OnErr result (self.new ≡ disk_after_failure self.old) }
         ensures kept { OnErr result (into.new ≡ into.old) }
     {
         self.begin(NOTHING, false)?;
@@ -175,13 +175,13 @@ impl Disk for MemDisk {
 
     fn write(&mut self, at: u64, bytes: &[u8]) -> Result<(), Failed>
         requires within { ForSome (Some self.old.text) (λ text. at ≤ length text) }
-        ensures writes { Writes ⟦<MemDisk as Tells>⟧ at bytes.now self.old self.new result }
+        ensures writes { WritesAt ⟦<MemDisk as Reports>⟧ at bytes.now self.old self.new result }
 
         // It fails exactly where it is named to, no further call passes or it has no room, and then it
         // changes nothing.
         ensures exact { is_ok result ≡ (can_pass self.old && has_room self.old (at + length bytes.now)) }
-        ensures done { OnOk result (self.new ≡ after_writing at bytes.now self.old) }
-        ensures err { OnErr result (self.new ≡ after_failing self.old) }
+        ensures done { OnOk result (self.new ≡ disk_after_write at bytes.now self.old) }
+        ensures err { OnErr result (self.new ≡ disk_after_failure self.old) }
     {
         let range = Range {
             at: at as usize,
@@ -197,12 +197,12 @@ impl Disk for MemDisk {
 
     fn sync(&mut self) -> Result<(), Failed>
         ensures durable { OnOk result (IfSome (Some self.new.text) (λ text. (image : List ℕ) → IsImage (moment_of self.new) image → image ≡ text)) }
-        ensures looks { Looks ⟦<MemDisk as Tells>⟧ after_sync self.old self.new result }
+        ensures keeps { WritesNothing ⟦<MemDisk as Reports>⟧ budget_after_sync self.old self.new result }
 
         // It fails exactly where it is named to or no further call passes, and then it changes nothing.
         ensures exact { is_ok result ≡ can_pass self.old }
-        ensures done { OnOk result (self.new ≡ after_syncing self.old) }
-        ensures err { OnErr result (self.new ≡ after_failing self.old) }
+        ensures done { OnOk result (self.new ≡ disk_after_sync self.old) }
+        ensures err { OnErr result (self.new ≡ disk_after_failure self.old) }
     {
         self.begin(NOTHING, false)?;
         catch_up(&mut self.synced, &self.text, &self.pending);
@@ -213,7 +213,7 @@ impl Disk for MemDisk {
 
 impl Fused for MemDisk {
     fn fuse(&mut self, calls: u32)
-        ensures fused { IsFused ⟦<MemDisk as Tells>⟧ calls self.old self.new }
+        ensures fused { IsFused ⟦<MemDisk as Reports>⟧ calls self.old self.new }
 
         // So many further calls pass, also of a disk that does not tell its budget.
         ensures exact { self.new ≡ record self.old { left = Some calls } }

@@ -2,7 +2,7 @@ ghost use Rattle.std.specs.Prelude.{◌≡◌, ◌≤◌, ◌||◌, [], Option, 
 ghost use Rattle.pv_outside.specs.Counts.{Rose};
 ghost use Rattle.pv_outside.specs.Sink.{Writes};
 ghost use Rattle.pv_memory.specs.Faults.{fails_now};
-ghost use Rattle.pv_memory.specs.Streams.{is_past_room, after_write};
+ghost use Rattle.pv_memory.specs.Streams.{is_past_room, sink_after_write};
 
 use crate::faults::Faults;
 use pv_outside::{Failed, Sink};
@@ -59,7 +59,7 @@ impl Sink for MemSink {
         ensures failed { IsErr result → Rose self.old.plan.faults self.new.plan.faults }
 
         // It fails at the calls that were named and past its room, and then keeps nothing of the bytes.
-        ensures exact { self.new ≡ after_write self.old bytes.now }
+        ensures exact { self.new ≡ sink_after_write self.old bytes.now }
         ensures fails { is_err result ≡ (fails_now self.old.plan || is_past_room self.old bytes.now) }
     {
         if self.faults.next_fails() {

@@ -3,7 +3,7 @@ ghost use Rattle.std.specs.Io.KnownBytes.{IsAtEnd};
 ghost use Rattle.pv_outside.specs.Counts.{Rose};
 ghost use Rattle.pv_outside.specs.Source.{Ends, Takes, Leaves};
 ghost use Rattle.pv_memory.specs.Faults.{fails_now};
-ghost use Rattle.pv_memory.specs.Streams.{SourceState, after_read};
+ghost use Rattle.pv_memory.specs.Streams.{SourceState, source_after_read};
 
 use crate::faults::Faults;
 use pv_outside::{Failed, Source};
@@ -63,7 +63,7 @@ impl Source for MemSource {
         ensures failed { IsErr result → Rose self.old.plan.faults self.new.plan.faults }
 
         // It gives all that there is room for, and fails at the calls that were named.
-        ensures exact { self.new ≡ after_read self.old (length into.old) }
+        ensures exact { self.new ≡ source_after_read self.old (length into.old) }
         ensures fails { is_err result ≡ fails_now self.old.plan }
         ensures kept { OnErr result (into.new ≡ into.old) }
 

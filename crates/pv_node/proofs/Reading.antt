@@ -2,7 +2,7 @@
 use Rattle.std.proofs.Common.{◌≡◌, ℕ, ◌<◌, ◌≤◌, List, [], ◌∷◌, ◌++◌, length, map, All, Err, refl, sym, ◌∙◌, ap, subst, arith, append_assoc}
 use Rattle.std.proofs.lemmas.List.{map_push, map-append, append-nil, length-append, length-map}
 use Rattle.std.proofs.lemmas.List.Elements.{All-push}
-use Rattle.pv_outside.specs.declared.tells.Tells as tells
+use Rattle.pv_outside.specs.declared.reports.Reports as reports
 use Rattle.pv_journal.specs.Text.{Spells}
 use Rattle.pv_journal.specs.Log.{Log}
 use Rattle.pv_journal.specs.Journal.{DiskSpells, IsReading, Remains}
@@ -18,7 +18,7 @@ use Rattle.pv_outside.specs.declared.limits.Limits.{Limits}
 use Rattle.pv_node.proofs.Rooms.{meets_more}
 use Rattle.pv_node.proofs.Records.{all_at, first_of}
 
-module _ {S State Request Rec Reply D : Type 0} (r : rules.Ghosts S State Request Rec Reply) (d : tells.Ghosts D) where
+module _ {S State Request Rec Reply D : Type 0} (r : rules.Ghosts S State Request Rec Reply) (d : reports.Ghosts D) where
   -- a journal that was read so far has counted the records that were read
   pub read_count : (log : Log D) (state : State) (records : List Rec) → HasRead r d log state records → log.count ≡ length records
   read_count log state records read = read.journal.counted.count ∙ length-map records r.spelling

@@ -2,7 +2,7 @@
 use Rattle.std.proofs.Common.{◌≡◌, ◌≢◌, ◌⊎◌, inl, inr, refl, ℕ, ◌+◌, ◌*◌, ◌<◌, ◌≤◌, List, Option, Some, None, IfSome, Result, sym, subst, arith}
 use Rattle.std.proofs.lemmas.Option.{none-some}
 use Rattle.pv_outside.specs.Disk.{Budget, HasCalls, IsEndless}
-use Rattle.pv_outside.specs.declared.tells.Tells as tells
+use Rattle.pv_outside.specs.declared.reports.Reports as reports
 use Rattle.pv_outside.specs.declared.limits.Limits.{Limits}
 use Rattle.pv_journal.specs.Journal.{HasLeft, LeavesOnly, HasMade, Remains}
 use Rattle.pv_journal.proofs.CallerLemmas.{paid_then, too_few}
@@ -23,7 +23,7 @@ none_or : {A : Type 0} (option : Option A) → (option ≡ None) ⊎ (option ≢
 none_or None = inl refl
 none_or (Some value) = inr (λ none. none-some value (sym none))
 
-module _ {S State Request Rec Reply D : Type 0} (r : rules.Ghosts S State Request Rec Reply) (d : tells.Ghosts D) where
+module _ {S State Request Rec Reply D : Type 0} (r : rules.Ghosts S State Request Rec Reply) (d : reports.Ghosts D) where
   -- an ask takes what its settling took, and then what was taken behind it
   pub spends_settled : {T F : Type 0} (old settled new : Parts D State Rec) (stored : Option Rec) (result : Result T (AskFault D F)) → IsSettled r d old settled stored
       → Remains d old.journal.disk settled.journal.disk → d.clock settled.journal.disk ≤ d.clock old.journal.disk + 2

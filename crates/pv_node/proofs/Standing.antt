@@ -3,7 +3,7 @@ use Rattle.std.proofs.Common.{◌≡◌, ℕ, ◌<◌, ◌≤◌, List, [], ◌�
 use Rattle.std.proofs.lemmas.List.{map_push, length-map}
 use Rattle.std.proofs.lemmas.Option.{none-some}
 use Rattle.std.proofs.lemmas.List.Elements.{All-push}
-use Rattle.pv_outside.specs.declared.tells.Tells as tells
+use Rattle.pv_outside.specs.declared.reports.Reports as reports
 use Rattle.pv_journal.specs.declared.journal.Phase.{Phase}
 use Rattle.pv_journal.specs.declared.journal.Phase.TheVariants.{Reading, Resting, InHand}
 use Rattle.pv_journal.specs.Log.{Log, most}
@@ -23,7 +23,7 @@ count_within (Reading end) count limit within = within
 count_within Resting count limit within = within
 count_within (InHand size) count limit within = omega (arith, within)
 
-module _ {S State Request Rec Reply D : Type 0} (r : rules.Ghosts S State Request Rec Reply) (d : tells.Ghosts D) where
+module _ {S State Request Rec Reply D : Type 0} (r : rules.Ghosts S State Request Rec Reply) (d : reports.Ghosts D) where
   -- a node with nothing in hand stands for the records whose spellings its journal holds and for which its state stands
   pub stands_at_rest : (log : Log D) (state : State) (records : List Rec) → Holds d log (map r.spelling records) → All r.is_record records → Meets r (r.limits_of state) records → r.stands state records
       → StandsFor r d (record { journal = log; state = state; hand = None }) records

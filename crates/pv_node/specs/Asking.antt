@@ -2,7 +2,7 @@
 use Rattle.std.specs.Prelude.{◌≡◌, ◌≢◌, ◌⊎◌, ℕ, ◌+◌, ◌*◌, ◌<◌, ◌≤◌, List, [], ◌∷◌, ◌++◌, Option, Some, None, Result, Ok, Err}
 use Rattle.pv_outside.specs.Counts.{Rose}
 use Rattle.pv_outside.specs.Disk.{HasCalls, IsEndless}
-use Rattle.pv_outside.specs.declared.tells.Tells as tells
+use Rattle.pv_outside.specs.declared.reports.Reports as reports
 use Rattle.pv_journal.specs.Journal.{LeavesOnly, HasMade, IsPaid}
 use Rattle.pv_node.specs.declared.rules.Rules as rules
 use Rattle.pv_node.specs.declared.decision.Decision.{Decision}
@@ -45,7 +45,7 @@ module _ {S State Request Rec Reply : Type 0} (r : rules.Ghosts S State Request 
     pub limit : count ≡ (r.limits_of old.state).records
     pub same : new ≡ old
 
-module _ {S State Request Rec Reply D : Type 0} (r : rules.Ghosts S State Request Rec Reply) (g : tells.Ghosts D) where
+module _ {S State Request Rec Reply D : Type 0} (r : rules.Ghosts S State Request Rec Reply) (g : reports.Ghosts D) where
   -- nothing was in hand, or what was is not stored
   pub record IsNotStored (old new : Parts D State Rec) : Type 0 where
     pub hand : new.hand ≡ None

@@ -1,6 +1,6 @@
 -- How a node is opened, and when it is not.
 use Rattle.std.specs.Prelude.{◌≡◌, ◌≢◌, ℕ, ◌<◌, List, [], ◌∷◌, ◌++◌, length, map, drop, All}
-use Rattle.pv_outside.specs.declared.tells.Tells as tells
+use Rattle.pv_outside.specs.declared.reports.Reports as reports
 use Rattle.pv_outside.specs.declared.limits.Limits.{Limits}
 use Rattle.pv_journal.specs.Text.{front, first_eight, HasBlock, IsBroken}
 use Rattle.pv_journal.specs.Log.{Log}
@@ -89,7 +89,7 @@ module _ {S State Request Rec Reply : Type 0} (r : rules.Ghosts S State Request 
   FaultShows limits text (NotFormatted kept) = (kept ≡ first_eight text) × (first_eight text ≢ MARK)
   FaultShows limits text fault = (records : List Rec) × (state : State) × (gate : ℕ) × Begins limits text records state gate × StopShows limits text records state gate fault
 
-module _ {S State Request Rec Reply D : Type 0} (r : rules.Ghosts S State Request Rec Reply) (g : tells.Ghosts D) where
+module _ {S State Request Rec Reply D : Type 0} (r : rules.Ghosts S State Request Rec Reply) (g : reports.Ghosts D) where
   -- the journal was read so far, and the state stands for the records that were read
   pub record HasRead (log : Log D) (state : State) (records : List Rec) : Type 0 where
     pub journal : IsReading g log (map r.spelling records)

@@ -1,6 +1,6 @@
 -- Which records an image, a disk and a node stand for.
 use Rattle.std.specs.Prelude.{◌≡◌, ◌⊎◌, ℕ, ◌≤◌, List, [], ◌∷◌, ◌++◌, length, map, All, Option, Some, None}
-use Rattle.pv_outside.specs.declared.tells.Tells as tells
+use Rattle.pv_outside.specs.declared.reports.Reports as reports
 use Rattle.pv_outside.specs.declared.limits.Limits.{Limits}
 use Rattle.pv_journal.specs.Text.{Spells}
 use Rattle.pv_journal.specs.Log.{Log}
@@ -34,7 +34,7 @@ module _ {S State Request Rec Reply : Type 0} (r : rules.Ghosts S State Request 
   MeetsBoth limits records None = Meets limits records
   MeetsBoth limits records (Some rec) = Meets limits records × Meets limits (records ++ rec ∷ [])
 
-module _ {S State Request Rec Reply D : Type 0} (r : rules.Ghosts S State Request Rec Reply) (g : tells.Ghosts D) where
+module _ {S State Request Rec Reply D : Type 0} (r : rules.Ghosts S State Request Rec Reply) (g : reports.Ghosts D) where
   -- the disk tells what it reads, and that stands for these records
   abbrev pub DiskStands : D → List Rec → Type 0
   DiskStands d records = (text : List ℕ) × (g.reads d ≡ Some text) × Stands r text records

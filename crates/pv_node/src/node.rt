@@ -64,22 +64,22 @@ impl<R: Rules, D: Disk> Node<R, D> {
     /// refused is handed back. This call alone takes memory.
     pub fn open(alloc: Global, disk: D, limits: Limits) -> Result<Node<R, D>, (NodeFault<D>, D)>
         // The node stands for the records that the disk stands for, and has none in hand.
-        ensures opened { IfOk result (λ node. (records : List R.Rec) × StandsFor ⟦<R as Rules>⟧ D.Tells node records) }
-        ensures found { IfOk result (λ node. (records : List R.Rec) → DiskStands ⟦<R as Rules>⟧ D.Tells disk records → StandsFor ⟦<R as Rules>⟧ D.Tells node records) }
+        ensures opened { IfOk result (λ node. (records : List R.Rec) × StandsFor ⟦<R as Rules>⟧ D.Reports node records) }
+        ensures found { IfOk result (λ node. (records : List R.Rec) → DiskStands ⟦<R as Rules>⟧ D.Reports disk records → StandsFor ⟦<R as Rules>⟧ D.Reports node records) }
         ensures none_in_hand { IfOk result (λ node. node.hand ≡ None) }
         ensures limits { IfOk result (λ node. R.limits_of node.state ≡ limits) }
-        ensures same { IfOk result (λ node. Remains D.Tells disk node.journal.disk) }
-        ensures moments { IfOk result (λ node. LeavesOnly D.Tells disk node.journal.disk (D.may_leave disk)) }
+        ensures same { IfOk result (λ node. Remains D.Reports disk node.journal.disk) }
+        ensures moments { IfOk result (λ node. LeavesOnly D.Reports disk node.journal.disk (D.may_leave disk)) }
 
         // On a disk that stands for records within the limits, each of which has room, only want of memory or the disk is in the way.
-        ensures opens { IfErr result (λ e. (records : List R.Rec) → DiskStands ⟦<R as Rules>⟧ D.Tells disk records
+        ensures opens { IfErr result (λ e. (records : List R.Rec) → DiskStands ⟦<R as Rules>⟧ D.Reports disk records
             → Meets ⟦<R as Rules>⟧ limits records → IsOutside e.0) }
 
         // Each fault has its cause, and on a disk that tells its bytes these show which it is.
         ensures refused { IfErr result (λ e. IsOpenFault limits e.0) }
         ensures shown { IfErr result (λ e. IfSome (D.reads disk) (λ text. FaultShows ⟦<R as Rules>⟧ limits text e.0)) }
-        ensures handed_back { IfErr result (λ e. Remains D.Tells disk e.1) }
-        ensures moments_refused { IfErr result (λ e. LeavesOnly D.Tells disk e.1 (D.may_leave disk)) }
+        ensures handed_back { IfErr result (λ e. Remains D.Reports disk e.1) }
+        ensures moments_refused { IfErr result (λ e. LeavesOnly D.Reports disk e.1 (D.may_leave disk)) }
         ensures failed { IfErr result (λ e. IsOpenDiskFault e.0 → Rose (D.faults disk) (D.faults e.1)) }
         ensures passes { IfErr result (λ e. (room : ℕ) → IsEndless room (D.budget disk) → IsOpenDiskFault e.0 → ⊥) }
     {
@@ -108,21 +108,21 @@ impl<R: Rules, D: Disk> Node<R, D> {
     pub fn ask(&mut self, request: &R::Request) -> Result<Told<R::Reply>, AskFault<D>>
         requires { R.is_request request.now }
 
-        ensures asked { Asks ⟦<R as Rules>⟧ D.Tells request.now self.old self.new result }
-        ensures answers { self.old.hand ≡ None → CarriesOut ⟦<R as Rules>⟧ D.Tells (R.judgement self.old.state request.now) self.old self.new result }
+        ensures asked { Asks ⟦<R as Rules>⟧ D.Reports request.now self.old self.new result }
+        ensures answers { self.old.hand ≡ None → CarriesOut ⟦<R as Rules>⟧ D.Reports (R.judgement self.old.state request.now) self.old self.new result }
         ensures none_in_hand { OnOk result (self.new.hand ≡ None) }
         ensures limits { R.limits_of self.new.state ≡ R.limits_of self.old.state }
 
         // What a crash at any moment of it leaves, and that it leaves what it might have left before where fewer than two
         // calls of the disk were left.
-        ensures moments { (records : List R.Rec) → StandsFor ⟦<R as Rules>⟧ D.Tells self.old records
-            → LeavesOnly D.Tells self.old.journal.disk self.new.journal.disk (AskLeaves ⟦<R as Rules>⟧ D.Tells request.now self.old records) }
-        ensures few { (records : List R.Rec) (n : ℕ) → StandsFor ⟦<R as Rules>⟧ D.Tells self.old records → HasLeft n (D.budget self.old.journal.disk) → n < 2
-            → LeavesOnly D.Tells self.old.journal.disk self.new.journal.disk (StandsEither ⟦<R as Rules>⟧ records self.old.hand) }
+        ensures moments { (records : List R.Rec) → StandsFor ⟦<R as Rules>⟧ D.Reports self.old records
+            → LeavesOnly D.Reports self.old.journal.disk self.new.journal.disk (AskLeaves ⟦<R as Rules>⟧ D.Reports request.now self.old records) }
+        ensures few { (records : List R.Rec) (n : ℕ) → StandsFor ⟦<R as Rules>⟧ D.Reports self.old records → HasLeft n (D.budget self.old.journal.disk) → n < 2
+            → LeavesOnly D.Reports self.old.journal.disk self.new.journal.disk (StandsEither ⟦<R as Rules>⟧ records self.old.hand) }
 
         // What it takes of the disk. One with room for all records, whose calls have no end, is not in its way.
-        ensures spends { Spends ⟦<R as Rules>⟧ D.Tells 6 self.old self.new result }
-        ensures never_fails { (records : List R.Rec) → StandsFor ⟦<R as Rules>⟧ D.Tells self.old records
+        ensures spends { Spends ⟦<R as Rules>⟧ D.Reports 6 self.old self.new result }
+        ensures never_fails { (records : List R.Rec) → StandsFor ⟦<R as Rules>⟧ D.Reports self.old records
             → IsEndless (9 + 2051 * (R.limits_of self.old.state).records) (D.budget self.old.journal.disk) → FailsOnDisk result → ⊥ }
     {
         match self.settle() {
@@ -142,12 +142,12 @@ impl<R: Rules, D: Disk> Node<R, D> {
         requires none_in_hand { self.old.hand ≡ None }
         requires can { CanStore ⟦<R as Rules>⟧ self.old.state decision }
 
-        ensures carried_out { CarriesOut ⟦<R as Rules>⟧ D.Tells decision self.old self.new result }
-        ensures moments { (records : List R.Rec) → StandsFor ⟦<R as Rules>⟧ D.Tells self.old records
-            → LeavesOnly D.Tells self.old.journal.disk self.new.journal.disk (StandsEither ⟦<R as Rules>⟧ records (to_store decision)) }
+        ensures carried_out { CarriesOut ⟦<R as Rules>⟧ D.Reports decision self.old self.new result }
+        ensures moments { (records : List R.Rec) → StandsFor ⟦<R as Rules>⟧ D.Reports self.old records
+            → LeavesOnly D.Reports self.old.journal.disk self.new.journal.disk (StandsEither ⟦<R as Rules>⟧ records (to_store decision)) }
         ensures none_in_hand { OnOk result (self.new.hand ≡ None) }
         ensures limits { R.limits_of self.new.state ≡ R.limits_of self.old.state }
-        ensures spends { Spends ⟦<R as Rules>⟧ D.Tells 4 self.old self.new result }
+        ensures spends { Spends ⟦<R as Rules>⟧ D.Reports 4 self.old self.new result }
     {
         match decision {
             Decision::Answer(reply) => Ok(Told {
@@ -168,12 +168,12 @@ impl<R: Rules, D: Disk> Node<R, D> {
         requires room { R.fits self.old.state rec }
 
         ensures place { IfOk result (λ number. number ≡ self.old.journal.count) }
-        ensures stored { OnOk result (IsKept ⟦<R as Rules>⟧ D.Tells self.old self.new rec) }
-        ensures refused { IfErr result (IsRefused ⟦<R as Rules>⟧ D.Tells self.old self.new rec) }
-        ensures moments { (records : List R.Rec) → StandsFor ⟦<R as Rules>⟧ D.Tells self.old records
-            → LeavesOnly D.Tells self.old.journal.disk self.new.journal.disk (StandsEither ⟦<R as Rules>⟧ records (Some rec)) }
+        ensures stored { OnOk result (IsKept ⟦<R as Rules>⟧ D.Reports self.old self.new rec) }
+        ensures refused { IfErr result (IsRefused ⟦<R as Rules>⟧ D.Reports self.old self.new rec) }
+        ensures moments { (records : List R.Rec) → StandsFor ⟦<R as Rules>⟧ D.Reports self.old records
+            → LeavesOnly D.Reports self.old.journal.disk self.new.journal.disk (StandsEither ⟦<R as Rules>⟧ records (Some rec)) }
         ensures limits { R.limits_of self.new.state ≡ R.limits_of self.old.state }
-        ensures spends { Spends ⟦<R as Rules>⟧ D.Tells 4 self.old self.new result }
+        ensures spends { Spends ⟦<R as Rules>⟧ D.Reports 4 self.old self.new result }
     {
         let size = spell::<R>(&rec, &mut self.body);
         match self.journal.append(&self.body[..size]) {
@@ -192,13 +192,13 @@ impl<R: Rules, D: Disk> Node<R, D> {
     /// Finds out whether the record in hand is stored, takes it into the state if it is, and answers it
     /// then. Afterwards nothing is in hand. It is the settling that `ask` begins with.
     pub fn settle(&mut self) -> Result<Option<R::Rec>, D::Failure>
-        ensures settled { IfOk result (IsSettled ⟦<R as Rules>⟧ D.Tells self.old self.new) }
-        ensures unsettled { OnErr result (IsUnsettled ⟦<R as Rules>⟧ D.Tells self.old self.new) }
-        ensures moments { (records : List R.Rec) → StandsFor ⟦<R as Rules>⟧ D.Tells self.old records
-            → LeavesOnly D.Tells self.old.journal.disk self.new.journal.disk (StandsEither ⟦<R as Rules>⟧ records self.old.hand) }
-        ensures both_calls { OnOk result (self.old.hand ≢ None → HasMade D.Tells 2 self.old.journal.disk self.new.journal.disk) }
+        ensures settled { IfOk result (IsSettled ⟦<R as Rules>⟧ D.Reports self.old self.new) }
+        ensures unsettled { OnErr result (IsUnsettled ⟦<R as Rules>⟧ D.Reports self.old self.new) }
+        ensures moments { (records : List R.Rec) → StandsFor ⟦<R as Rules>⟧ D.Reports self.old records
+            → LeavesOnly D.Reports self.old.journal.disk self.new.journal.disk (StandsEither ⟦<R as Rules>⟧ records self.old.hand) }
+        ensures both_calls { OnOk result (self.old.hand ≢ None → HasMade D.Reports 2 self.old.journal.disk self.new.journal.disk) }
         ensures limits { R.limits_of self.new.state ≡ R.limits_of self.old.state }
-        ensures same { Remains D.Tells self.old.journal.disk self.new.journal.disk }
+        ensures same { Remains D.Reports self.old.journal.disk self.new.journal.disk }
         ensures failed { IsErr result → Rose (D.faults self.old.journal.disk) (D.faults self.new.journal.disk) }
         ensures calls { D.clock self.new.journal.disk ≤ D.clock self.old.journal.disk + 2 }
         ensures passes { (room : ℕ) → IsEndless room (D.budget self.old.journal.disk) → IsOk result }
@@ -228,7 +228,7 @@ impl<R: Rules, D: Disk> Node<R, D> {
     /// How many records there are, without one in hand.
     pub fn count(&self) -> u64
         ensures count { result ≡ self.now.journal.count }
-        ensures records { (records : List R.Rec) → StandsFor ⟦<R as Rules>⟧ D.Tells self.now records → result ≡ length records }
+        ensures records { (records : List R.Rec) → StandsFor ⟦<R as Rules>⟧ D.Reports self.now records → result ≡ length records }
         ensures within { result ≤ (R.limits_of self.now.state).records }
     {
         self.journal.count()
@@ -237,8 +237,8 @@ impl<R: Rules, D: Disk> Node<R, D> {
     /// The disk.
     pub fn into_disk(self) -> D
         ensures disk { result ≡ self.journal.disk }
-        ensures images { (records : List R.Rec) → StandsFor ⟦<R as Rules>⟧ D.Tells self records → EachImage D.Tells result (StandsEither ⟦<R as Rules>⟧ records self.hand) }
-        ensures meets { (records : List R.Rec) → StandsFor ⟦<R as Rules>⟧ D.Tells self records → MeetsBoth ⟦<R as Rules>⟧ (R.limits_of self.state) records self.hand }
+        ensures images { (records : List R.Rec) → StandsFor ⟦<R as Rules>⟧ D.Reports self records → EachImage D.Reports result (StandsEither ⟦<R as Rules>⟧ records self.hand) }
+        ensures meets { (records : List R.Rec) → StandsFor ⟦<R as Rules>⟧ D.Reports self records → MeetsBoth ⟦<R as Rules>⟧ (R.limits_of self.state) records self.hand }
     {
         self.journal.into_disk()
     }
@@ -247,11 +247,11 @@ impl<R: Rules, D: Disk> Node<R, D> {
 impl<R: Rules, D: Fused> Node<R, D> {
     /// Lets so many further calls of the disk pass, and then none. Nothing else changes.
     pub fn fuse(&mut self, calls: u32)
-        ensures disk { IsFused D.Tells calls self.old.journal.disk self.new.journal.disk }
+        ensures disk { IsFused D.Reports calls self.old.journal.disk self.new.journal.disk }
         ensures told { (room : ℕ) → HasCalls 0 room (D.budget self.old.journal.disk) → HasCalls calls room (D.budget self.new.journal.disk) }
         ensures left { (room : ℕ) → HasCalls 0 room (D.budget self.old.journal.disk) → HasLeft calls (D.budget self.new.journal.disk) }
         ensures same { self.new ≡ record self.old { journal = record self.old.journal { disk = self.new.journal.disk } } }
-        ensures records { (records : List R.Rec) → StandsFor ⟦<R as Rules>⟧ D.Tells self.old records → StandsFor ⟦<R as Rules>⟧ D.Tells self.new records }
+        ensures records { (records : List R.Rec) → StandsFor ⟦<R as Rules>⟧ D.Reports self.old records → StandsFor ⟦<R as Rules>⟧ D.Reports self.new records }
     {
         self.journal.fuse(calls);
     }

@@ -49,27 +49,27 @@ fn take_next<R: Rules, D: Disk>(
     body: &mut [u8; MAX_BODY],
 ) -> Result<bool, NodeFault<D>>
     requires limit { journal.old.limit ≡ (R.limits_of state.old).records }
-    requires so_far { (records : List R.Rec) × HasRead ⟦<R as Rules>⟧ D.Tells journal.old state.old records }
+    requires so_far { (records : List R.Rec) × HasRead ⟦<R as Rules>⟧ D.Reports journal.old state.old records }
 
     // The next record joins those that were read, and behind the last one these are all.
-    ensures took { result ≡ Ok true → (records : List R.Rec) → HasRead ⟦<R as Rules>⟧ D.Tells journal.old state.old records
-        → (rec : R.Rec) × HasRead ⟦<R as Rules>⟧ D.Tells journal.new state.new (records ++ rec ∷ [])
-        × ComesNext ⟦<R as Rules>⟧ D.Tells journal.old.disk records rec }
-    ensures ended { result ≡ Ok false → (records : List R.Rec) → HasRead ⟦<R as Rules>⟧ D.Tells journal.old state.old records
-        → HasAll ⟦<R as Rules>⟧ D.Tells journal.new state.new records × AreAll ⟦<R as Rules>⟧ D.Tells journal.old.disk records }
+    ensures took { result ≡ Ok true → (records : List R.Rec) → HasRead ⟦<R as Rules>⟧ D.Reports journal.old state.old records
+        → (rec : R.Rec) × HasRead ⟦<R as Rules>⟧ D.Reports journal.new state.new (records ++ rec ∷ [])
+        × ComesNext ⟦<R as Rules>⟧ D.Reports journal.old.disk records rec }
+    ensures ended { result ≡ Ok false → (records : List R.Rec) → HasRead ⟦<R as Rules>⟧ D.Reports journal.old state.old records
+        → HasAll ⟦<R as Rules>⟧ D.Reports journal.new state.new records × AreAll ⟦<R as Rules>⟧ D.Reports journal.old.disk records }
     ensures at_rest { result ≡ Ok false → IsAtRest journal.new }
     ensures counts { result ≡ Ok true → (journal.old.count < journal.old.limit) × (journal.new.count ≡ journal.old.count + 1) }
     ensures limits { R.limits_of state.new ≡ R.limits_of state.old }
     ensures limit { journal.new.limit ≡ journal.old.limit }
-    ensures same { Remains D.Tells journal.old.disk journal.new.disk }
+    ensures same { Remains D.Reports journal.old.disk journal.new.disk }
 
     // On a disk that stands for records that have room, only want of memory or the disk is in the way.
-    ensures opens { IfErr result (λ fault. (records more : List R.Rec) → HasRead ⟦<R as Rules>⟧ D.Tells journal.old state.old records
-        → DiskStands ⟦<R as Rules>⟧ D.Tells journal.old.disk (records ++ more)
+    ensures opens { IfErr result (λ fault. (records more : List R.Rec) → HasRead ⟦<R as Rules>⟧ D.Reports journal.old state.old records
+        → DiskStands ⟦<R as Rules>⟧ D.Reports journal.old.disk (records ++ more)
         → Meets ⟦<R as Rules>⟧ (R.limits_of state.old) (records ++ more) → IsOutside fault) }
     ensures no_memory { IfErr result IsNotMemory }
     ensures known { IfErr result (IsOpenFault (R.limits_of state.old)) }
-    ensures shown { IfErr result (λ fault. (records : List R.Rec) → HasRead ⟦<R as Rules>⟧ D.Tells journal.old state.old records
+    ensures shown { IfErr result (λ fault. (records : List R.Rec) → HasRead ⟦<R as Rules>⟧ D.Reports journal.old state.old records
         → IfSome (D.reads journal.old.disk) (λ text. StopShows ⟦<R as Rules>⟧ (R.limits_of state.old) text records state.old journal.old.gate fault)) }
     ensures failed { IfErr result (λ fault. IsOpenDiskFault fault → Rose (D.faults journal.old.disk) (D.faults journal.new.disk)) }
     ensures passes { IfErr result (λ fault. (room : ℕ) → IsEndless room (D.budget journal.old.disk) → IsOpenDiskFault fault → ⊥) }
@@ -95,18 +95,18 @@ pub(crate) fn replay<R: Rules, D: Disk>(
     body: &mut [u8; MAX_BODY],
 ) -> Result<(), NodeFault<D>>
     requires limit { journal.old.limit ≡ (R.limits_of state.old).records }
-    requires reading { HasRead ⟦<R as Rules>⟧ D.Tells journal.old state.old [] }
+    requires reading { HasRead ⟦<R as Rules>⟧ D.Reports journal.old state.old [] }
 
-    ensures read { OnOk result ((records : List R.Rec) × HasAll ⟦<R as Rules>⟧ D.Tells journal.new state.new records) }
+    ensures read { OnOk result ((records : List R.Rec) × HasAll ⟦<R as Rules>⟧ D.Reports journal.new state.new records) }
     ensures at_rest { OnOk result (IsAtRest journal.new) }
     ensures limits { R.limits_of state.new ≡ R.limits_of state.old }
     ensures limit { journal.new.limit ≡ journal.old.limit }
-    ensures same { Remains D.Tells journal.old.disk journal.new.disk }
+    ensures same { Remains D.Reports journal.old.disk journal.new.disk }
 
     // On a disk that stands for records, these are the ones, and only want of memory or the disk is in their way.
-    ensures found { OnOk result ((records : List R.Rec) → DiskStands ⟦<R as Rules>⟧ D.Tells journal.old.disk records
-        → HasAll ⟦<R as Rules>⟧ D.Tells journal.new state.new records) }
-    ensures opens { IfErr result (λ fault. (records : List R.Rec) → DiskStands ⟦<R as Rules>⟧ D.Tells journal.old.disk records
+    ensures found { OnOk result ((records : List R.Rec) → DiskStands ⟦<R as Rules>⟧ D.Reports journal.old.disk records
+        → HasAll ⟦<R as Rules>⟧ D.Reports journal.new state.new records) }
+    ensures opens { IfErr result (λ fault. (records : List R.Rec) → DiskStands ⟦<R as Rules>⟧ D.Reports journal.old.disk records
         → Meets ⟦<R as Rules>⟧ (R.limits_of state.old) records → IsOutside fault) }
     ensures no_memory { IfErr result IsNotMemory }
     ensures known { IfErr result (IsOpenFault (R.limits_of state.old)) }

@@ -12,24 +12,24 @@ returns-then-absorb_spelled-clause-took g c = λ _ records read.
     let at = rw c.in-Ok-Some.field-0-is at c.in-Ok-Some.ensures in
     let below : c.args.journal.now.count < (g.R.Rules.limits_of c.args.state.now).records = omega (arith, at.answer.2, c.requires.limit) in (
       t.0,
-      read_more g.R.Rules g.D.Tells g.met.R.Rules.grows g.met.R.Rules.same_room g.met.R.Rules.limits_stay _ _ _ _ records t.0 (take c.in-Ok-Some.size c.next.new.into) read (at.found (map g.R.Rules.spelling records) read.journal) t.1 t.2 t.3
+      read_more g.R.Rules g.D.Reports g.met.R.Rules.grows g.met.R.Rules.same_room g.met.R.Rules.limits_stay _ _ _ _ records t.0 (take c.in-Ok-Some.size c.next.new.into) read (at.found (map g.R.Rules.spelling records) read.journal) t.1 t.2 t.3
           (t.4 ∙ ap (g.R.Rules.after c.args.state.now t.0) c.count-number.ensures.count) below,
       λ more stands.
-          let spells = at.spelled (map g.R.Rules.spelling records) (map g.R.Rules.spelling more) read.journal (disk_spells g.R.Rules g.D.Tells _ records more stands) in
-          next_is g.R.Rules g.D.Tells g.met.R.Rules.one_meaning _ records more t.0 _ spells.0 stands spells.1 t.1 t.2,
+          let spells = at.spelled (map g.R.Rules.spelling records) (map g.R.Rules.spelling more) read.journal (disk_spells g.R.Rules g.D.Reports _ records more stands) in
+          next_is g.R.Rules g.D.Reports g.met.R.Rules.one_meaning _ records more t.0 _ spells.0 stands spells.1 t.1 t.2,
     )
 
 pub returns-else-absorb_spelled-clause-opens : goal.returns-else-absorb_spelled-clause-opens
 returns-else-absorb_spelled-clause-opens g c = λ records more read stands meets.
     let at = rw c.in-Ok-Some.field-0-is at c.in-Ok-Some.ensures in
-    let spells = at.spelled (map g.R.Rules.spelling records) (map g.R.Rules.spelling more) read.journal (disk_spells g.R.Rules g.D.Tells _ records more stands) in
-    let f = next_fits g.R.Rules g.D.Tells _ _ records more _ spells.0 read.stood stands meets.room spells.1 in
+    let spells = at.spelled (map g.R.Rules.spelling records) (map g.R.Rules.spelling more) read.journal (disk_spells g.R.Rules g.D.Reports _ records more stands) in
+    let f = next_fits g.R.Rules g.D.Reports _ _ records more _ spells.0 read.stood stands meets.room spells.1 in
     c.absorb_spelled.ensures.refused c.if-absorb_spelled.false f.0 f.1 f.2 f.3
 
 pub returns-else-absorb_spelled-clause-shown : goal.returns-else-absorb_spelled-clause-shown
 returns-else-absorb_spelled-clause-shown g c = λ records read.
     let at = rw c.in-Ok-Some.field-0-is at c.in-Ok-Some.ensures in
-    let number : length records ≡ c.count-number.result = sym (read_count g.R.Rules g.D.Tells _ _ records read) ∙ sym c.count-number.ensures.count in
+    let number : length records ≡ c.count-number.result = sym (read_count g.R.Rules g.D.Reports _ _ records read) ∙ sym c.count-number.ensures.count in
     IfSome_then _ (at.shown (map g.R.Rules.spelling records) read.journal) (λ text has.
     let r : (body : List ℕ) × HasBlock (drop c.args.journal.now.gate text) body × (length records ≡ c.count-number.result) × IsUnreadable g.R.Rules c.args.state.now body =
     (take c.in-Ok-Some.size c.next.new.into, has, number, c.absorb_spelled.ensures.refused c.if-absorb_spelled.false) in r)
@@ -43,16 +43,16 @@ returns-in-Ok-None-clause-ended g c = λ same records read.
         meets = read.meets;
         stood = read.stood;
       },
-      λ more stands. none_of g.R.Rules.spelling more (at.spelled (map g.R.Rules.spelling records) (map g.R.Rules.spelling more) read.journal (disk_spells g.R.Rules g.D.Tells _ records more stands)),
+      λ more stands. none_of g.R.Rules.spelling more (at.spelled (map g.R.Rules.spelling records) (map g.R.Rules.spelling more) read.journal (disk_spells g.R.Rules g.D.Reports _ records more stands)),
     )
 
 pub returns-in-Err-clause-opens : goal.returns-in-Err-clause-opens
 returns-in-Err-clause-opens g c = λ records more read stands meets.
     let within : length (records ++ more) ≤ c.args.journal.now.limit = omega (arith, meets.count, c.requires.limit) in
     subst IsOutside (sym c.told_by_node.ensures.value)
-    (only_outside g.R.Rules g.D.Tells _ _ records more c.next.new.into c.in-Err.fault read within c.in-Err.ensures.answer
-    (c.in-Err.ensures.spelled (map g.R.Rules.spelling records) (map g.R.Rules.spelling more) read.journal (disk_spells g.R.Rules g.D.Tells _ records more stands)))
+    (only_outside g.R.Rules g.D.Reports _ _ records more c.next.new.into c.in-Err.fault read within c.in-Err.ensures.answer
+    (c.in-Err.ensures.spelled (map g.R.Rules.spelling records) (map g.R.Rules.spelling more) read.journal (disk_spells g.R.Rules g.D.Reports _ records more stands)))
 
 pub returns-in-Err-clause-passes : goal.returns-in-Err-clause-passes
 returns-in-Err-clause-passes g c = λ room endless is.
-    c.in-Err.ensures.reads_only.passes room endless (disk_fault g.R.Rules g.D.Tells c.in-Err.fault (subst IsOpenDiskFault c.told_by_node.ensures.value is))
+    c.in-Err.ensures.reads_only.passes room endless (disk_fault g.R.Rules g.D.Reports c.in-Err.fault (subst IsOpenDiskFault c.told_by_node.ensures.value is))

@@ -12,51 +12,51 @@ use Rattle.pv_journal.proofs.journal.Journal.next.Goals as goal
 use Rattle.pv_journal.proofs.journal.Journal.next.Goals.{In-Closed, In-Broken, After-copy_from_slice}
 
 -- what the bytes that were read begin with stands at the gate
-closed_here : (g : Over) (c : In-Closed g) → IfSome (g.D.Tells.reads c.self.inside.disk) (λ text. IsClosed (drop c.self.inside.gate text))
+closed_here : (g : Over) (c : In-Closed g) → IfSome (g.D.Reports.reads c.self.inside.disk) (λ text. IsClosed (drop c.self.inside.gate text))
 closed_here g c = IfSome_then _ c.in-Ok.ensures.bytes (λ text b. let r : IsClosed (drop c.self.inside.gate text) = closed_at _ _ b c.in-Closed.ensures in r)
 
-broken_here : (g : Over) (c : In-Broken g) → IfSome (g.D.Tells.reads c.self.inside.disk) (λ text. IsBroken (drop c.self.inside.gate text))
+broken_here : (g : Over) (c : In-Broken g) → IfSome (g.D.Reports.reads c.self.inside.disk) (λ text. IsBroken (drop c.self.inside.gate text))
 broken_here g c = IfSome_then _ c.in-Ok.ensures.bytes (λ text b. let r : IsBroken (drop c.self.inside.gate text) = broken_at _ _ b c.in-Broken.ensures in r)
 
 pub returns-in-Err-clause-reads_only : goal.returns-in-Err-clause-reads_only
 returns-in-Err-clause-reads_only g c =
-    subst (λ v. ReadsOnly g.D.Tells 1 _ v.disk c.read_block.new.disk) c.self.view_is (reads_most g.D.Tells (omega arith) (λ _. refl) c.in-Err.ensures.reads_only)
+    subst (λ v. ReadsOnly g.D.Reports 1 _ v.disk c.read_block.new.disk) c.self.view_is (reads_most g.D.Reports (omega arith) (λ _. refl) c.in-Err.ensures.reads_only)
 
 pub returns-in-Closed-clause-ended : goal.returns-in-Closed-clause-ended
 returns-in-Closed-clause-ended g c = λ _ bodies reading_now.
-    let reading = subst (λ v. IsReading g.D.Tells v bodies) (sym c.self.view_is) reading_now in
-    let spelled : IfSome (g.D.Tells.reads c.self.inside.disk) (λ text. Spells text bodies) =
-    if_both (g.D.Tells.reads c.self.inside.disk) (λ text. text ≡ front bodies ++ drop c.self.inside.gate text) (λ text. IsClosed (drop c.self.inside.gate text)) (λ text. Spells text bodies)
+    let reading = subst (λ v. IsReading g.D.Reports v bodies) (sym c.self.view_is) reading_now in
+    let spelled : IfSome (g.D.Reports.reads c.self.inside.disk) (λ text. Spells text bodies) =
+    if_both (g.D.Reports.reads c.self.inside.disk) (λ text. text ≡ front bodies ++ drop c.self.inside.gate text) (λ text. IsClosed (drop c.self.inside.gate text)) (λ text. Spells text bodies)
     (λ text begins shut. spells_front bodies text (drop c.self.inside.gate text) begins shut reading.counted.sizes) reading.text (closed_here g (goal.at.returns-in-Closed-clause-ended g c).In-Closed) in
     record {
       phase = refl;
       counted = record { count = reading.counted.count; gate = reading.counted.gate; sizes = reading.counted.sizes };
-      images = each_synced g.D.Tells c.read_block.new.disk (λ image. Spells image bodies) (c.in-Ok.ensures.durable reading.durable)
+      images = each_synced g.D.Reports c.read_block.new.disk (λ image. Spells image bodies) (c.in-Ok.ensures.durable reading.durable)
           (subst (λ (o : Option (List ℕ)). IfSome o (λ text. Spells text bodies)) (sym c.read_block.ensures.reads_only.same.reads) spelled);
       synced = c.in-Ok.ensures.synced reading.synced;
     }
 
 pub returns-in-Closed-clause-spelled : goal.returns-in-Closed-clause-spelled
 returns-in-Closed-clause-spelled g c = λ bodies more reading_now spelled_now.
-    let reading = subst (λ v. IsReading g.D.Tells v bodies) (sym c.self.view_is) reading_now in
-    let spelled = subst (λ v. DiskSpells g.D.Tells v.disk (bodies ++ more)) (sym c.self.view_is) spelled_now in
+    let reading = subst (λ v. IsReading g.D.Reports v bodies) (sym c.self.view_is) reading_now in
+    let spelled = subst (λ v. DiskSpells g.D.Reports v.disk (bodies ++ more)) (sym c.self.view_is) spelled_now in
     closed_none _ more (follows_on_disk _ c.self.inside.gate bodies more spelled.0 reading.text spelled.1 spelled.2)
     (MatchOption-at_some _ (λ (text : List ℕ). IsClosed (drop c.self.inside.gate text)) spelled.0 spelled.1 (closed_here g (goal.at.returns-in-Closed-clause-spelled g c).In-Closed))
 
 pub returns-in-Broken-clause-shown : goal.returns-in-Broken-clause-shown
 returns-in-Broken-clause-shown g c = λ bodies reading.
-    subst (λ v. IfSome (g.D.Tells.reads v.disk) (λ text. IsBroken (drop v.gate text))) c.self.view_is (broken_here g (goal.at.returns-in-Broken-clause-shown g c).In-Broken)
+    subst (λ v. IfSome (g.D.Reports.reads v.disk) (λ text. IsBroken (drop v.gate text))) c.self.view_is (broken_here g (goal.at.returns-in-Broken-clause-shown g c).In-Broken)
 
 pub returns-in-Broken-clause-spelled : goal.returns-in-Broken-clause-spelled
 returns-in-Broken-clause-spelled g c = λ bodies more reading_now spelled_now.
-    let reading = subst (λ v. IsReading g.D.Tells v bodies) (sym c.self.view_is) reading_now in
-    let spelled = subst (λ v. DiskSpells g.D.Tells v.disk (bodies ++ more)) (sym c.self.view_is) spelled_now in
+    let reading = subst (λ v. IsReading g.D.Reports v bodies) (sym c.self.view_is) reading_now in
+    let spelled = subst (λ v. DiskSpells g.D.Reports v.disk (bodies ++ more)) (sym c.self.view_is) spelled_now in
     never_broken _ more (follows_on_disk _ c.self.inside.gate bodies more spelled.0 reading.text spelled.1 spelled.2)
     (MatchOption-at_some _ (λ (text : List ℕ). IsBroken (drop c.self.inside.gate text)) spelled.0 spelled.1 (broken_here g (goal.at.returns-in-Broken-clause-spelled g c).In-Broken))
 
 pub returns-in-Whole-clause-shown : goal.returns-in-Whole-clause-shown
 returns-in-Whole-clause-shown g c = λ bodies reading.
-    subst (λ v. IfSome (g.D.Tells.reads v.disk) (λ text. (body : List ℕ) × HasBlock (drop v.gate text) body)) c.self.view_is
+    subst (λ v. IfSome (g.D.Reports.reads v.disk) (λ text. (body : List ℕ) × HasBlock (drop v.gate text) body)) c.self.view_is
     (IfSome_then _ c.in-Ok.ensures.bytes (λ text b. let r : (body : List ℕ) × HasBlock (drop c.self.inside.gate text) body = (_, block_at _ _ _ c.in-Whole.size b refl c.in-Whole.ensures.block) in r))
 
 -- the body that is handed out
@@ -72,7 +72,7 @@ handed_is g c =
 handed_sized : (g : Over) (c : After-copy_from_slice g) → IsBody (handed g c)
 handed_sized g c = subst IsBody (sym (handed_is g c)) c.in-Whole.ensures.block.size
 
-block_here : (g : Over) (c : After-copy_from_slice g) → IfSome (g.D.Tells.reads c.self.inside.disk) (λ text. HasBlock (drop c.self.inside.gate text) (handed g c))
+block_here : (g : Over) (c : After-copy_from_slice g) → IfSome (g.D.Reports.reads c.self.inside.disk) (λ text. HasBlock (drop c.self.inside.gate text) (handed g c))
 block_here g c =
     IfSome_then _ c.in-Ok.ensures.bytes (λ text b. let r : HasBlock (drop c.self.inside.gate text) (handed g c) = block_at _ _ (handed g c) c.in-Whole.size b (handed_is g c) c.in-Whole.ensures.block in r)
 
@@ -80,13 +80,13 @@ pub returns-in-Whole-2-clause-shown : goal.returns-in-Whole-2-clause-shown
 unfolding handed
 returns-in-Whole-2-clause-shown g c = λ bodies reading.
     let here = block_here g (goal.at.returns-in-Whole-2-clause-shown g c).After-copy_from_slice in
-    subst (λ v. IfSome (g.D.Tells.reads v.disk) (λ text. HasBlock (drop v.gate text) (take c.in-Whole.size (c.copy_from_slice.new.self ++ drop c.in-Whole.size c.args.into.now)))) c.self.view_is here
+    subst (λ v. IfSome (g.D.Reports.reads v.disk) (λ text. HasBlock (drop v.gate text) (take c.in-Whole.size (c.copy_from_slice.new.self ++ drop c.in-Whole.size c.args.into.now)))) c.self.view_is here
 
 pub returns-in-Whole-2-clause-spelled : goal.returns-in-Whole-2-clause-spelled
 unfolding handed
 returns-in-Whole-2-clause-spelled g c = λ bodies more reading_now spelled_now.
-    let reading = subst (λ v. IsReading g.D.Tells v bodies) (sym c.self.view_is) reading_now in
-    let spelled = subst (λ v. DiskSpells g.D.Tells v.disk (bodies ++ more)) (sym c.self.view_is) spelled_now in
+    let reading = subst (λ v. IsReading g.D.Reports v bodies) (sym c.self.view_is) reading_now in
+    let spelled = subst (λ v. DiskSpells g.D.Reports v.disk (bodies ++ more)) (sym c.self.view_is) spelled_now in
     let body = take c.in-Whole.size (c.copy_from_slice.new.self ++ drop c.in-Whole.size c.args.into.now) in
     first_is _ body more (follows_on_disk _ c.self.inside.gate bodies more spelled.0 reading.text spelled.1 spelled.2)
     (MatchOption-at_some _ (λ (text : List ℕ). HasBlock (drop c.self.inside.gate text) body) spelled.0 spelled.1 (block_here g (goal.at.returns-in-Whole-2-clause-spelled g c).After-copy_from_slice))
@@ -94,22 +94,22 @@ returns-in-Whole-2-clause-spelled g c = λ bodies more reading_now spelled_now.
 pub returns-in-Whole-2-clause-found : goal.returns-in-Whole-2-clause-found
 unfolding handed
 returns-in-Whole-2-clause-found g c = λ bodies reading_now.
-    let reading = subst (λ v. IsReading g.D.Tells v bodies) (sym c.self.view_is) reading_now in
+    let reading = subst (λ v. IsReading g.D.Reports v bodies) (sym c.self.view_is) reading_now in
     let place = (goal.at.returns-in-Whole-2-clause-found g c).After-copy_from_slice in
     let body = take c.in-Whole.size (c.copy_from_slice.new.self ++ drop c.in-Whole.size c.args.into.now) in
     let size : length body ≡ c.in-Whole.size = ap length (handed_is g place) ∙ c.in-Whole.ensures.size in
-    let begins : IfSome (g.D.Tells.reads c.self.inside.disk) (λ text. text ≡ front (bodies ++ body ∷ []) ++ drop (c.self.inside.gate + (c.in-Whole.size + 3)) text) =
-    if_both (g.D.Tells.reads c.self.inside.disk) (λ text. text ≡ front bodies ++ drop c.self.inside.gate text) (λ text. HasBlock (drop c.self.inside.gate text) body)
+    let begins : IfSome (g.D.Reports.reads c.self.inside.disk) (λ text. text ≡ front (bodies ++ body ∷ []) ++ drop (c.self.inside.gate + (c.in-Whole.size + 3)) text) =
+    if_both (g.D.Reports.reads c.self.inside.disk) (λ text. text ≡ front bodies ++ drop c.self.inside.gate text) (λ text. HasBlock (drop c.self.inside.gate text) body)
     (λ text. text ≡ front (bodies ++ body ∷ []) ++ drop (c.self.inside.gate + (c.in-Whole.size + 3)) text)
     (λ text so_far has. next_front bodies body text c.self.inside.gate (c.self.inside.gate + (c.in-Whole.size + 3)) reading.counted.gate (omega (arith, size)) so_far has)
     reading.text (block_here g place) in
     record {
       phase = reading.phase;
-      counted = counted_more g.D.Tells _ _ bodies body reading.counted (handed_sized g place) refl (omega (arith, size));
+      counted = counted_more g.D.Reports _ _ bodies body reading.counted (handed_sized g place) refl (omega (arith, size));
       text = subst (λ (o : Option (List ℕ)). IfSome o (λ text. text ≡ front (bodies ++ body ∷ []) ++ drop (c.self.inside.gate + (c.in-Whole.size + 3)) text)) (sym c.read_block.ensures.reads_only.same.reads) begins;
       durable = c.in-Ok.ensures.durable reading.durable;
       synced = c.in-Ok.ensures.synced reading.synced;
     }
 
 pub returns-in_default-clause-reads_only : goal.returns-in_default-clause-reads_only
-returns-in_default-clause-reads_only g c = reads_none g.D.Tells _ (search rules)
+returns-in_default-clause-reads_only g c = reads_none g.D.Reports _ (search rules)

@@ -2,5 +2,5 @@ use Rattle.std.proofs.Common.{rules}
 use Rattle.pv_memory.proofs.Calls.{looks}
 use Rattle.pv_memory.proofs.disk.MemDiskDisk.read.Goals as goal
 
-pub returns-clause-looks : goal.returns-clause-looks
-returns-clause-looks c = looks c.args.self.now c.begin.new.self _ (search rules) c.begin.ensures.ends c.in_ok-begin.ensures.ok
+pub returns-clause-keeps : goal.returns-clause-keeps
+returns-clause-keeps c = looks c.args.self.now c.begin.new.self _ (search rules) c.begin.ensures.ends c.in_ok-begin.ensures.ok

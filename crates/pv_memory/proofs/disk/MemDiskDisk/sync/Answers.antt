@@ -2,5 +2,5 @@ use Rattle.std.proofs.Common.{rules}
 use Rattle.pv_memory.proofs.Calls.{syncs}
 use Rattle.pv_memory.proofs.disk.MemDiskDisk.sync.Goals as goal
 
-pub returns-clause-looks : goal.returns-clause-looks
-returns-clause-looks c = syncs c.args.self.now _ _ (search rules) c.begin.ensures.ends (search rules)
+pub returns-clause-keeps : goal.returns-clause-keeps
+returns-clause-keeps c = syncs c.args.self.now _ _ (search rules) c.begin.ensures.ends (search rules)

@@ -8,12 +8,12 @@ use Rattle.pv_node.proofs.node.Node.carry_out.Goals as goal
 pub returns-in-Answer-clause-spends : goal.returns-in-Answer-clause-spends
 returns-in-Answer-clause-spends g c = record {
   calls = omega arith;
-  paid = paid_none g.D.Tells _;
+  paid = paid_none g.D.Reports _;
   endless = λ room endless. endless;
   told = λ room told. told;
   counted = omega arith;
   failed = λ fails. absurd fails;
   passes = λ none records stands has fails. fails;
-  early = λ none records stands. inr (only_none g.D.Tells g.met.D.Disk.only_now g.met.D.Disk.now_is_known _ _
-      (subst (λ (hand : Option g.row.R-Rec.Denot). EachImage g.D.Tells c.args.self.now.journal.disk (StandsEither g.R.Rules records hand)) none stands.images));
+  early = λ none records stands. inr (only_none g.D.Reports g.met.D.Disk.only_now g.met.D.Disk.now_is_known _ _
+      (subst (λ (hand : Option g.row.R-Rec.Denot). EachImage g.D.Reports c.args.self.now.journal.disk (StandsEither g.R.Rules records hand)) none stands.images));
 }

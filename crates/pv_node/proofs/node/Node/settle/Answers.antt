@@ -14,7 +14,7 @@ use Rattle.pv_node.proofs.node.Node.settle.Goals.{In_ok-stored, in_default-store
 
 pub returns-in_err-stored-clause-passes : goal.returns-in_err-stored-clause-passes
 returns-in_err-stored-clause-passes g c = λ room endless.
-    let ok : IsOk c.settle.result = is_ok_if c.settle.result (c.settle.ensures.reads_only.passes room (subst (λ v. IsEndless room (g.D.Tells.budget v.journal.disk)) (sym c.self.view_is) endless)) in
+    let ok : IsOk c.settle.result = is_ok_if c.settle.result (c.settle.ensures.reads_only.passes room (subst (λ v. IsEndless room (g.D.Reports.budget v.journal.disk)) (sym c.self.view_is) endless)) in
     let never = subst IsOk c.in_err-stored.was ok in
     absurd (false≢true never)
 
@@ -31,19 +31,19 @@ returns-in-Some-true-clause-settled g c =
       hand = refl;
       state = subst (λ v. c.absorb.new.state ≡ g.R.Rules.after v.state c.in-Some.rec v.journal.count) c.self.view_is absorbed;
       records = λ records stands_now.
-          let stands = subst (λ v. StandsFor g.R.Rules g.D.Tells v records) (sym c.self.view_is) stands_now in
-          let holds = c.settle.ensures.stored stored (map g.R.Rules.spelling records) (g.R.Rules.spelling c.in-Some.rec) (holds_in_hand g.R.Rules g.D.Tells _ records c.in-Some.rec stands was) in
-          gained g.R.Rules g.D.Tells g.met.R.Rules.grows g.met.R.Rules.same_room g.met.R.Rules.limits_stay _ c.settle.new.self c.absorb.new.state None c.in-Some.rec records refl stands holds step.1 step.2 absorbed (omega (arith, within, c.self.invariant.limit));
+          let stands = subst (λ v. StandsFor g.R.Rules g.D.Reports v records) (sym c.self.view_is) stands_now in
+          let holds = c.settle.ensures.stored stored (map g.R.Rules.spelling records) (g.R.Rules.spelling c.in-Some.rec) (holds_in_hand g.R.Rules g.D.Reports _ records c.in-Some.rec stands was) in
+          gained g.R.Rules g.D.Reports g.met.R.Rules.grows g.met.R.Rules.same_room g.met.R.Rules.limits_stay _ c.settle.new.self c.absorb.new.state None c.in-Some.rec records refl stands holds step.1 step.2 absorbed (omega (arith, within, c.self.invariant.limit));
     }
 
 pub returns-in_default-clause-same : goal.returns-in_default-clause-same
-returns-in_default-clause-same g c = remains_none g.D.Tells _
+returns-in_default-clause-same g c = remains_none g.D.Reports _
 
 -- the journal has in hand what the node has in hand, and so made both calls
-made_both : (g : Over) (c : In_ok-stored g) → HasMade g.D.Tells 2 c.args.self.now.journal.disk c.settle.new.self.disk
+made_both : (g : Over) (c : In_ok-stored g) → HasMade g.D.Reports 2 c.args.self.now.journal.disk c.settle.new.self.disk
 made_both g c =
     let step = subst (λ (h : Option g.row.R-Rec.Denot). IsInStep g.R.Rules c.self.inside.state h c.self.inside.journal.phase) c.in-Some.is c.self.invariant.hand in
-    subst (λ v. HasMade g.D.Tells 2 v.journal.disk c.settle.new.self.disk) c.self.view_is (c.in_ok-stored.ensures.both_calls (λ none. subst IsNoneInHand step.0 none))
+    subst (λ v. HasMade g.D.Reports 2 v.journal.disk c.settle.new.self.disk) c.self.view_is (c.in_ok-stored.ensures.both_calls (λ none. subst IsNoneInHand step.0 none))
 
 pub returns-in-Some-true-clause-both_calls : goal.returns-in-Some-true-clause-both_calls
 returns-in-Some-true-clause-both_calls g c = λ _. made_both g (goal.at.returns-in-Some-true-clause-both_calls g c).In_ok-stored
@@ -52,6 +52,6 @@ pub returns-in_default-stored-clause-both_calls : goal.returns-in_default-stored
 returns-in_default-stored-clause-both_calls g c = λ _.
     let made = made_both g (goal.at.returns-in_default-stored-clause-both_calls g c).In_ok-stored in
     elim c.in_default-stored.branch [
-      | in_default-stored-via-in-Some+else-stored w ↦ subst (λ v. HasMade g.D.Tells 2 c.args.self.now.journal.disk v.journal.disk) (sym w.self-is) made
-      | in_default-stored-via-in_default w ↦ subst (λ v. HasMade g.D.Tells 2 c.args.self.now.journal.disk v.journal.disk) (sym w.self-is) made
+      | in_default-stored-via-in-Some+else-stored w ↦ subst (λ v. HasMade g.D.Reports 2 c.args.self.now.journal.disk v.journal.disk) (sym w.self-is) made
+      | in_default-stored-via-in_default w ↦ subst (λ v. HasMade g.D.Reports 2 c.args.self.now.journal.disk v.journal.disk) (sym w.self-is) made
     ]

@@ -20,36 +20,36 @@ seen g c = record { journal = c.self.inside.journal; state = c.self.inside.state
 
 -- what the append takes of the disk, whatever the node keeps of it and answers
 spent : (g : Over) (c : After-append g) (state : g.row.R-State.Denot) (hand : Option g.row.R-Rec.Denot) (result : Result ℕ (AskFault g.row.D.Denot g.row.D-Failure.Denot))
-    → (FailsOnDisk result → Rose (g.D.Tells.faults c.self.inside.journal.disk) (g.D.Tells.faults c.append.new.self.disk))
-    → ((bodies : List (List ℕ)) → Holds g.D.Tells c.self.inside.journal bodies → HasCalls 4 (9 + 2051 * c.self.inside.journal.limit) (g.D.Tells.budget c.self.inside.journal.disk) → FailsOnDisk result → ⊥)
-    → Spends g.R.Rules g.D.Tells 4 c.args.self.now (record { journal = c.append.new.self; state = state; hand = hand }) result
+    → (FailsOnDisk result → Rose (g.D.Reports.faults c.self.inside.journal.disk) (g.D.Reports.faults c.append.new.self.disk))
+    → ((bodies : List (List ℕ)) → Holds g.D.Reports c.self.inside.journal bodies → HasCalls 4 (9 + 2051 * c.self.inside.journal.limit) (g.D.Reports.budget c.self.inside.journal.disk) → FailsOnDisk result → ⊥)
+    → Spends g.R.Rules g.D.Reports 4 c.args.self.now (record { journal = c.append.new.self; state = state; hand = hand }) result
 unfolding seen
 spent g c state hand result failed passes =
     let none : c.self.inside.hand ≡ None = ap (λ v. v.hand) c.self.view_is ∙ c.requires.at_rest in
-    subst (λ v. Spends g.R.Rules g.D.Tells 4 v (record { journal = c.append.new.self; state = state; hand = hand }) result) c.self.view_is
-    (let spends : Spends g.R.Rules g.D.Tells 4 (seen g c) (record { journal = c.append.new.self; state = state; hand = hand }) result = record {
+    subst (λ v. Spends g.R.Rules g.D.Reports 4 v (record { journal = c.append.new.self; state = state; hand = hand }) result) c.self.view_is
+    (let spends : Spends g.R.Rules g.D.Reports 4 (seen g c) (record { journal = c.append.new.self; state = state; hand = hand }) result = record {
       calls = c.append.ensures.spends.calls;
       paid = c.append.ensures.spends.paid;
       endless = c.append.ensures.spends.endless;
       told = c.append.ensures.spends.told;
       counted = c.append.ensures.spends.counted;
       failed = failed;
-      passes = λ _ records stands has. passes (map g.R.Rules.spelling records) (holds_at_rest g.R.Rules g.D.Tells (seen g c) records stands none)
-          (subst (λ (n : ℕ). HasCalls 4 (9 + 2051 * n) (g.D.Tells.budget c.self.inside.journal.disk)) (sym c.self.invariant.limit) has);
-      early = λ _ records stands. only_stand g.R.Rules g.D.Tells records stands.each (c.append.ensures.early (map g.R.Rules.spelling records) (holds_at_rest g.R.Rules g.D.Tells (seen g c) records stands none));
+      passes = λ _ records stands has. passes (map g.R.Rules.spelling records) (holds_at_rest g.R.Rules g.D.Reports (seen g c) records stands none)
+          (subst (λ (n : ℕ). HasCalls 4 (9 + 2051 * n) (g.D.Reports.budget c.self.inside.journal.disk)) (sym c.self.invariant.limit) has);
+      early = λ _ records stands. only_stand g.R.Rules g.D.Reports records stands.each (c.append.ensures.early (map g.R.Rules.spelling records) (holds_at_rest g.R.Rules g.D.Reports (seen g c) records stands none));
     } in spends)
 
 -- what a crash at some moment of the append leaves, stands for the records, with the new one or without it
-moments : (g : Over) (c : After-append g) (records : List g.row.R-Rec.Denot) → StandsFor g.R.Rules g.D.Tells c.args.self.now records
-    → LeavesOnly g.D.Tells c.args.self.now.journal.disk c.append.new.self.disk (StandsEither g.R.Rules records (Some c.args.rec))
+moments : (g : Over) (c : After-append g) (records : List g.row.R-Rec.Denot) → StandsFor g.R.Rules g.D.Reports c.args.self.now records
+    → LeavesOnly g.D.Reports c.args.self.now.journal.disk c.append.new.self.disk (StandsEither g.R.Rules records (Some c.args.rec))
 unfolding seen
 moments g c records stands_now =
     let none : c.self.inside.hand ≡ None = ap (λ v. v.hand) c.self.view_is ∙ c.requires.at_rest in
-    let stands = subst (λ v. StandsFor g.R.Rules g.D.Tells v records) (sym c.self.view_is) stands_now in
-    let only = c.append.ensures.moments (map g.R.Rules.spelling records) (holds_at_rest g.R.Rules g.D.Tells (seen g c) records stands none) in
-    subst (λ v. LeavesOnly g.D.Tells v.journal.disk c.append.new.self.disk (StandsEither g.R.Rules records (Some c.args.rec))) c.self.view_is
-    (only_weaker g.D.Tells (either g.R.Rules g.D.Tells records c.args.rec stands.each c.requires.spelled)
-    (subst (λ (b : List ℕ). LeavesOnly g.D.Tells c.self.inside.journal.disk c.append.new.self.disk (SpellsEither (map g.R.Rules.spelling records) b)) c.spell-size.ensures.spelled only))
+    let stands = subst (λ v. StandsFor g.R.Rules g.D.Reports v records) (sym c.self.view_is) stands_now in
+    let only = c.append.ensures.moments (map g.R.Rules.spelling records) (holds_at_rest g.R.Rules g.D.Reports (seen g c) records stands none) in
+    subst (λ v. LeavesOnly g.D.Reports v.journal.disk c.append.new.self.disk (StandsEither g.R.Rules records (Some c.args.rec))) c.self.view_is
+    (only_weaker g.D.Reports (either g.R.Rules g.D.Reports records c.args.rec stands.each c.requires.spelled)
+    (subst (λ (b : List ℕ). LeavesOnly g.D.Reports c.self.inside.journal.disk c.append.new.self.disk (SpellsEither (map g.R.Rules.spelling records) b)) c.spell-size.ensures.spelled only))
 
 pub returns-in-Ok-clause-moments : goal.returns-in-Ok-clause-moments
 returns-in-Ok-clause-moments g c = moments g (goal.at.returns-in-Ok-clause-moments g c).After-append
@@ -71,10 +71,10 @@ returns-in-Ok-clause-stored g c =
       hand = none;
       state = subst (λ v. c.absorb.new.state ≡ g.R.Rules.after v.state c.args.rec v.journal.count) c.self.view_is absorbed;
       records = λ records stands_now.
-          let stands = subst (λ v. StandsFor g.R.Rules g.D.Tells v records) (sym c.self.view_is) stands_now in
-          let holds = c.in-Ok.ensures.stored (map g.R.Rules.spelling records) (holds_at_rest g.R.Rules g.D.Tells _ records stands none) in
-          gained g.R.Rules g.D.Tells g.met.R.Rules.grows g.met.R.Rules.same_room g.met.R.Rules.limits_stay _ c.append.new.self c.absorb.new.state c.self.inside.hand c.args.rec records none stands
-          (subst (λ (b : List ℕ). Holds g.D.Tells c.append.new.self (map g.R.Rules.spelling records ++ b ∷ [])) c.spell-size.ensures.spelled holds)
+          let stands = subst (λ v. StandsFor g.R.Rules g.D.Reports v records) (sym c.self.view_is) stands_now in
+          let holds = c.in-Ok.ensures.stored (map g.R.Rules.spelling records) (holds_at_rest g.R.Rules g.D.Reports _ records stands none) in
+          gained g.R.Rules g.D.Reports g.met.R.Rules.grows g.met.R.Rules.same_room g.met.R.Rules.limits_stay _ c.append.new.self c.absorb.new.state c.self.inside.hand c.args.rec records none stands
+          (subst (λ (b : List ℕ). Holds g.D.Reports c.append.new.self (map g.R.Rules.spelling records ++ b ∷ [])) c.spell-size.ensures.spelled holds)
           c.requires.spelled (subst (λ v. g.R.Rules.fits v.state c.args.rec) (sym c.self.view_is) c.requires.room) absorbed room;
     }
 
@@ -89,10 +89,10 @@ returns-in-Err-Disk-clause-refused g c =
       state = ap (λ v. v.state) c.self.view_is;
       count = ap (λ j. j.count) at.kept ∙ ap (λ v. v.journal.count) c.self.view_is;
       records = λ records stands_now.
-          let stands = subst (λ v. StandsFor g.R.Rules g.D.Tells v records) (sym c.self.view_is) stands_now in
-          let holds = at.in_hand tt (map g.R.Rules.spelling records) (holds_at_rest g.R.Rules g.D.Tells _ records stands none) in
-          taken g.R.Rules g.D.Tells g.met.R.Rules.same_room _ c.append.new.self c.args.rec records stands
-          (subst (λ (b : List ℕ). HoldsInHand g.D.Tells c.append.new.self (map g.R.Rules.spelling records) b) c.spell-size.ensures.spelled holds)
+          let stands = subst (λ v. StandsFor g.R.Rules g.D.Reports v records) (sym c.self.view_is) stands_now in
+          let holds = at.in_hand tt (map g.R.Rules.spelling records) (holds_at_rest g.R.Rules g.D.Reports _ records stands none) in
+          taken g.R.Rules g.D.Reports g.met.R.Rules.same_room _ c.append.new.self c.args.rec records stands
+          (subst (λ (b : List ℕ). HoldsInHand g.D.Reports c.append.new.self (map g.R.Rules.spelling records) b) c.spell-size.ensures.spelled holds)
           c.requires.spelled (subst (λ v. g.R.Rules.fits v.state c.args.rec) (sym c.self.view_is) c.requires.room) room;
     }
 

@@ -1,9 +1,9 @@
 ghost use Rattle.std.specs.Prelude.{ℕ, List, Option};
 ghost use Rattle.pv_outside.specs.Disk.{Budget};
 
-/// What a disk tells of itself. The head of the trait `Disk` says what of it a disk may leave untold.
-pub trait Tells {
-    /// The bytes that it reads as, where it can tell them.
+/// What a disk reports to contracts. The head of the trait `Disk`'s file says what it may leave out.
+pub trait Reports {
+    /// The bytes that it reads as, if it can report them.
     ghost reads: { Self → Option (List ℕ) };
 
     /// The images that a crash now may leave.
@@ -18,7 +18,7 @@ pub trait Tells {
     /// The times since which it no longer knows what a crash might have left, so that any image might.
     ghost has_forgotten: { Self → ℕ → Type 0 };
 
-    /// How much it still takes, where it can tell.
+    /// How much it still takes, if it can report that.
     ghost budget: { Self → Option Budget };
 
     /// How often a call has failed.
