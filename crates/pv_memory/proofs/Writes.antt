@@ -8,6 +8,7 @@ use Rattle.std.proofs.lemmas.List.Elements.{All-push}
 use Rattle.std.proofs.lemmas.Bool.{cases_lt, lt-leb, le-leb, le-ltb, lt-ltb, true≢false, or_parts, or_from}
 use Rattle.std.proofs.Math.Bool.{and-false}
 use Rattle.pv_outside.specs.Disk.{Torn, text_after_write, Follows}
+use Rattle.pv_outside.specs.declared.disk.TheConstants.{MAX_UNSYNCED}
 use Rattle.pv_outside.proofs.CallerLemmas.{length-text_after_write}
 use Rattle.pv_memory.specs.declared.past.Range.{Range}
 use Rattle.pv_memory.specs.Medium.{is_within, is_pending, Moment, IsTorn, IsImage, MatchesSync, IsEachWithin}
@@ -74,7 +75,7 @@ in_neither : (pending : List Range) (range : Range) (k : ℕ) → is_pending pen
 in_neither pending range k p q = pending_push pending range k ∙ or_from (is_pending pending k) (is_within range k || false) p (or_from (is_within range k) false q refl)
 
 -- A write of these bytes at this place.
-module _ (at : ℕ) (bytes text synced : List ℕ) (pending : List Range) (sound : MatchesSync text synced pending) (within : at ≤ length text) where
+module _ (at : ℕ) (bytes text synced : List ℕ) (pending : List Range) (matches : MatchesSync text synced pending) (within : at ≤ length text) where
   -- the range of this write
   abbrev range : Range
   range = record { at = at; size = length bytes }
@@ -85,14 +86,14 @@ module _ (at : ℕ) (bytes text synced : List ℕ) (pending : List Range) (sound
 
   -- the ranges that were written before still lie within the text
   still_within : IsEachWithin pending (length (text_after_write at bytes text))
-  still_within k d h = omega (arith, long, sound.within k d h)
+  still_within k d h = omega (arith, long, matches.within k d h)
 
   -- a write keeps what a disk keeps: the text and that of the last sync differ in the ranges written since alone
-  pub sound_after : length pending < 8 → MatchesSync (text_after_write at bytes text) synced (pending ++ range ∷ [])
-  sound_after few = record {
-    shorter = omega (arith, sound.shorter, long);
+  pub matches_after : length pending < MAX_UNSYNCED → MatchesSync (text_after_write at bytes text) synced (pending ++ range ∷ [])
+  matches_after few = record {
+    shorter = omega (arith, matches.shorter, long);
     within = All-push (λ r. r.at + r.size ≤ length (text_after_write at bytes text)) pending range still_within (omega (arith, long));
-    same = λ k h out. let parts = not_in_push pending range k out in sound.same k h parts.0 ∙ sym (stands at bytes text within k (outside range k parts.1));
+    same = λ k h out. let parts = not_in_push pending range k out in matches.same k h parts.0 ∙ sym (stands at bytes text within k (outside range k parts.1));
     settled = λ none. absurd (omega (arith, none, length-append pending (range ∷ [])));
     few = omega (arith, few, length-append pending (range ∷ []));
   }
@@ -149,8 +150,8 @@ module _ (at : ℕ) (bytes text synced : List ℕ) (pending : List Range) (sound
     -- where nothing else was written since the last sync, the image is the old text, torn in the write's range
     from_text : length pending ≡ 0 → Torn at (length bytes) text image
     from_text none = record {
-      no_shorter = omega (arith, sound.settled none, torn.no_shorter);
-      outside = λ k h out. kept_byte k (omega (arith, sound.settled none)) (ap (λ ranges. is_pending ranges k) (nil_from_length pending none)) (is_outside range k out);
+      no_shorter = omega (arith, matches.settled none, torn.no_shorter);
+      outside = λ k h out. kept_byte k (omega (arith, matches.settled none)) (ap (λ ranges. is_pending ranges k) (nil_from_length pending none)) (is_outside range k out);
     }
 
     -- where something was, the image from before the write is one that a crash might have left then, and the image is that one, torn in the write's range

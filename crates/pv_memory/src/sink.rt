@@ -9,7 +9,7 @@ use pv_outside::{Failed, Sink};
 use std::alloc::{AllocError, Global};
 use std::marker::Model;
 
-/// A sink that keeps what it is given, as long as it has room.
+/// A sink that keeps what is written to it, as long as it has room.
 #[derive(Debug, Drop)]
 pub struct MemSink {
     bytes: Vec<u8>,
@@ -29,7 +29,8 @@ impl Model for MemSink {
 }
 
 impl MemSink {
-    /// A sink with room for so many bytes, taken at once, of which the calls of these numbers fail.
+    /// A sink with room for `room` bytes, taken at once, of which the calls of these numbers fail, counted
+    /// from 0.
     pub fn new(alloc: Global, room: usize, fails: &[u64]) -> Result<MemSink, AllocError>
         ensures { IfOk result (λ s. s ≡ record { bytes = []; room = room; plan = record { call = 0; failing = fails.now; faults = 0 } }) }
     {

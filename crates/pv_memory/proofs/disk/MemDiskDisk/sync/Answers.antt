@@ -3,4 +3,4 @@ use Rattle.pv_memory.proofs.Calls.{syncs}
 use Rattle.pv_memory.proofs.disk.MemDiskDisk.sync.Goals as goal
 
 pub returns-clause-keeps : goal.returns-clause-keeps
-returns-clause-keeps c = syncs c.args.self.now _ _ (search rules) c.begin.ensures.ends (search rules)
+returns-clause-keeps c = syncs c.args.self.now _ _ (search rules) c.begin_read.ensures.ends (search rules)
