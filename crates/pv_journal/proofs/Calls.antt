@@ -1,11 +1,11 @@
--- What a disk tells of its room and of the calls that are left, over one call of it and over more.
+-- What a disk reports of its room and of the calls that are left, over one call of it.
 use Rattle.std.proofs.Common.{◌≡◌, ℕ, zero, suc, ◌+◌, ◌-◌, ◌≤◌, Option, Some, None, IfSome, Result, Ok, Err, IsOk, IsErr, sym, ◌∙◌, ap, subst, arith}
 use Rattle.std.proofs.lemmas.Bool.{false≢true}
 use Rattle.std.specs.Option.{option_map}
 use Rattle.pv_outside.specs.Disk.{Budget, clock_after, budget_after, IsLaterBy, HasCalls, IsEndless, IsSpent, CanCall}
 use Rattle.pv_outside.specs.Calls.{IsCall, WritesNothing}
 use Rattle.pv_outside.specs.declared.reports.Reports as reports
-use Rattle.pv_journal.specs.Journal.{HasLeft, Remains, Spends, ReadsOnly, HasMade}
+use Rattle.pv_journal.specs.Journal.{HasLeft, Spends, ReadsOnly, HasMade}
 use Rattle.pv_journal.proofs.Moments.{time_look}
 
 -- a call that is paid for leaves the room, and takes one of the calls that are left
@@ -22,7 +22,7 @@ any_left None = tt
 any_left (Some n) = omega arith
 
 module _ {T E : Type 0} where
-  -- a disk that has this room and calls without end still has both after a call of it, whatever the call answers
+  -- a disk that has this room and calls without end still has both after a call of it, whatever the call returns
   pub endless_after : (r : Result T E) (pay : Budget → Budget) → Pays pay → (old new : Option Budget) → new ≡ budget_after r pay old
       → (room : ℕ) → IsEndless room old → IsEndless room new
   endless_after (Err e) pay pays old new is room endless = subst (IsEndless room) (sym is) endless
@@ -30,16 +30,17 @@ module _ {T E : Type 0} where
   endless_after (Ok x) pay pays (Some b) new is room endless =
       subst (IsEndless room) (sym is) (subst (λ (k : ℕ). room ≤ k) (sym (pays b).0) endless.0, (pays b).1 ∙ ap (option_map (λ n. n - 1)) endless.1)
 
-  -- a disk that tells its budget with at least this room tells it so after a call of it
-  pub told_after : (r : Result T E) (pay : Budget → Budget) → Pays pay → (old new : Option Budget) → new ≡ budget_after r pay old
+  -- a disk that reports its budget with at least this room does so after a call of it
+  pub room_after : (r : Result T E) (pay : Budget → Budget) → Pays pay → (old new : Option Budget) → new ≡ budget_after r pay old
       → (room : ℕ) → HasCalls 0 room old → HasCalls 0 room new
-  told_after (Err e) pay pays old new is room told = subst (HasCalls 0 room) (sym is) told
-  told_after (Ok x) pay pays None new is room told = absurd told
-  told_after (Ok x) pay pays (Some b) new is room told =
-      subst (HasCalls 0 room) (sym is) (subst (λ (k : ℕ). room ≤ k) (sym (pays b).0) told.0, any_left (pay b).left)
+  room_after (Err e) pay pays old new is room has = subst (HasCalls 0 room) (sym is) has
+  room_after (Ok x) pay pays None new is room has = absurd has
+  room_after (Ok x) pay pays (Some b) new is room has =
+      subst (HasCalls 0 room) (sym is) (subst (λ (k : ℕ). room ≤ k) (sym (pays b).0) has.0, any_left (pay b).left)
 
   -- a call that succeeds is one of those that were left, and one that fails takes none
-  pub paid_after : (r : Result T E) (pay : Budget → Budget) → Pays pay → (old new : Option Budget) (before now : ℕ) → new ≡ budget_after r pay old
+  pub paid_after : (r : Result T E) (pay : Budget → Budget) → Pays pay → (old new : Option Budget) (before now : ℕ)
+      → new ≡ budget_after r pay old
       → now ≡ clock_after r before → (IsSpent old → IsErr r) → (n : ℕ) → HasLeft n old → (m : ℕ) × HasLeft m new × (now + m ≤ before + n)
   paid_after (Err e) pay pays old new before now is clock spent n has = (n, subst (HasLeft n) (sym is) has, omega (arith, clock))
   paid_after (Ok x) pay pays None new before now is clock spent n has = absurd has
@@ -67,7 +68,8 @@ one_at_most (Ok x) before now is = omega (arith, is)
 one_at_most (Err e) before now is = omega (arith, is)
 
 -- a call does not fail where calls pass without end
-endless_passes : {T E : Type 0} (r : Result T E) (budget : Option Budget) → (CanCall budget → IsOk r) → (room : ℕ) → IsEndless room budget → IsErr r → ⊥
+endless_passes : {T E : Type 0} (r : Result T E) (budget : Option Budget) → (CanCall budget → IsOk r) → (room : ℕ) → IsEndless room budget
+    → IsErr r → ⊥
 endless_passes r None can room endless fails = endless
 endless_passes (Ok x) (Some b) can room endless fails = false≢true fails
 endless_passes (Err e) (Some b) can room endless fails = false≢true (can (λ some. subst (λ (o : Option ℕ). IfSome o (λ n. ⊥)) (sym endless.1 ∙ some) tt))
@@ -78,7 +80,7 @@ module _ {D : Type 0} (g : reports.Ghosts D) {T E : Type 0} {pay : Budget → Bu
   spends_call call = record {
     calls = one_at_most r (g.clock old) (g.clock new) call.clock;
     endless = endless_after r pay pays (g.budget old) (g.budget new) call.budget;
-    told = told_after r pay pays (g.budget old) (g.budget new) call.budget;
+    has_room = room_after r pay pays (g.budget old) (g.budget new) call.budget;
     paid = paid_after r pay pays (g.budget old) (g.budget new) (g.clock old) (g.clock new) call.budget call.clock call.spent;
     counted = call.counted;
     failed = call.failed;
@@ -91,7 +93,7 @@ module _ {D : Type 0} (g : reports.Ghosts D) {T E : Type 0} {pay : Budget → Bu
     left = left_after r pay pays (g.budget old) (g.budget new) call.budget call.spent ok;
   }
 
-  -- of the calls that were made, whatever a further one answers, all were
+  -- of the calls that were made, whatever a further one returns, all were
   pub made_any : {size : ℕ} {Can : Option Budget → Type 0} → IsCall g size pay Can old new r → HasMade g 0 old new
   made_any call = record {
     clock = let later = call.time.later in omega (arith, later);
@@ -101,25 +103,10 @@ module _ {D : Type 0} (g : reports.Ghosts D) {T E : Type 0} {pay : Budget → Bu
         (paid.0, paid.1, omega (arith, later, paid.2));
   }
 
-  -- a call that wrote nothing, whatever it answers, leaves the disk as it was but for the call that was paid
-  pub remains_after : WritesNothing g pay old new r → Remains g old new
-  remains_after looks =
-      let spends = spends_call looks.call in
-      record {
-        reads = looks.reads;
-        images = looks.images;
-        endless = spends.endless;
-        told = spends.told;
-        paid = spends.paid;
-        counted = spends.counted;
-        time = time_look g old new r looks;
-      }
-
-  -- a call that writes nothing
+  -- a call that writes nothing, whatever it returns
   pub reads_once : WritesNothing g pay old new r → ReadsOnly g 1 (IsErr r) old new
   reads_once looks = record {
-    same = remains_after looks;
-    calls = one_at_most r (g.clock old) (g.clock new) looks.call.clock;
-    failed = looks.call.failed;
+    same = record { reads = looks.reads; images = looks.images; time = time_look g old new r looks };
+    spends = spends_call looks.call;
     passes = endless_passes r (g.budget old) looks.call.passes;
   }

@@ -1,10 +1,10 @@
--- What stands behind the bodies that were read.
+-- What stands after the bodies that were read.
 use Rattle.std.specs.Prelude.{◌≡◌, ℕ, ◌+◌, ◌≤◌, List, length, take, drop}
 use Rattle.pv_journal.specs.Text.{IsClosed, HasBlock, IsBroken}
 use Rattle.pv_journal.specs.declared.block.Block.{Block}
 use Rattle.pv_journal.specs.declared.block.Block.TheVariants.{Closed, Whole, Broken}
 
--- a block stands there, whose body has this size
+-- a block is there, whose body has this size
 pub record HasBlockOf (n : ℕ) (bytes : List ℕ) : Type 0 where
   pub block : HasBlock bytes (take n (drop 3 bytes))
   pub size : length (take n (drop 3 bytes)) ≡ n

@@ -12,20 +12,22 @@ pub record IsPainted (text : List ℕ) (pending : List Range) (image : ℕ) (pai
   pub each : (k : ℕ) → k < length painted → get_or painted k 0 ≡ (if is_pending pending k then pattern image k else get_or text k 0)
 
 -- from 2 on, the image of a number is the disk's text with its pattern over each range written since the last sync
-pub painted_is : (text synced : List ℕ) (pending : List Range) (image : ℕ) (painted : List ℕ) → image ≢ 0 → image ≢ 1 → IsPainted text pending image painted → painted ≡ image_bytes text synced pending image
+pub painted_is : (text synced : List ℕ) (pending : List Range) (image : ℕ) (painted : List ℕ) → image ≢ 0 → image ≢ 1
+    → IsPainted text pending image painted → painted ≡ image_bytes text synced pending image
 painted_is text synced pending zero painted some more is = absurd (some refl)
 painted_is text synced pending (suc zero) painted some more is = absurd (more refl)
 painted_is text synced pending (suc (suc n)) painted some more is =
     fill_by_all (λ k. if is_pending pending k then pattern (n + 2) k else get_or text k 0) painted (length text) 0 is.long (λ k h.
     is.each k (omega (arith, is.long)) ∙ ap (λ (m : ℕ). if is_pending pending k then pattern m k else get_or text k 0) (let e : suc (suc n) ≡ n + 2 = omega arith in e))
 
--- where nothing was written since the last sync, no place is pending
+-- if nothing was written since the last sync, no place is pending
 none_pending : (pending : List Range) (k : ℕ) → length pending ≡ 0 → is_pending pending k ≡ false
 none_pending pending k none = ap (λ ranges. is_pending ranges k) (nil_from_length pending none)
 
 module _ (text synced : List ℕ) (pending : List Range) (matches : MatchesSync text synced pending) where
   -- a crash may leave the disk with any pattern over the ranges that were written since the last sync
-  pub painted_left : (image : ℕ) (painted : List ℕ) → IsPainted text pending image painted → IsImage (record { text = text; end = length synced; pending = pending }) painted
+  pub painted_left : (image : ℕ) (painted : List ℕ) → IsPainted text pending image painted
+      → IsImage (record { text = text; end = length synced; pending = pending }) painted
   painted_left image painted is =
       let unpainted = λ (k : ℕ) (h : k < length painted) (p : is_pending pending k ≡ false).
       is.each k h ∙ ap (λ (b : Bool). if b then pattern image k else get_or text k 0) p in

@@ -50,7 +50,8 @@ module _ (size : ℕ) (old new : Medium) (clock : new.clock ≡ min (old.clock +
         ∙ ap (λ (p : List Moment). moment_of old ∷ p) (take-take (old.clock - t) 7 old.past within)
 
     -- what a crash might have left since then, it might have left before this call, or may leave now
-    one_back : (image : List ℕ) → LeftIn (moment_of new ∷ take (new.clock - t) new.past) image → LeftSince old t image ⊎ IsImage (moment_of new) image
+    one_back : (image : List ℕ) → LeftIn (moment_of new ∷ take (new.clock - t) new.past) image
+        → LeftSince old t image ⊎ IsImage (moment_of new) image
     one_back image (inl here) = inr here
     one_back image (inr before) = inl (inr (subst (λ (p : List Moment). LeftIn p image) known before))
 
@@ -61,7 +62,8 @@ module _ (size : ℕ) (old new : Medium) (clock : new.clock ≡ min (old.clock +
     still_left image (inr left) = inr (inr (subst (λ (p : List Moment). LeftIn p image) (sym known) left))
 
   -- after a call, a crash since a time might have left what it might have left before, or what it may leave now, or the time is forgotten
-  nothing_else : (t : ℕ) (image : List ℕ) → t ≤ old.clock → LeftSince new t image → LeftSince old t image ⊎ (IsImage (moment_of new) image ⊎ IsForgotten new t)
+  nothing_else : (t : ℕ) (image : List ℕ) → t ≤ old.clock → LeftSince new t image
+      → LeftSince old t image ⊎ (IsImage (moment_of new) image ⊎ IsForgotten new t)
   nothing_else t image le (inl forgotten) = inr (inr forgotten)
   nothing_else t image le (inr left) = elim (is_known new t) [
     | inl forgotten ↦ inr (inr forgotten)

@@ -45,7 +45,7 @@ module _ (at : ℕ) (bytes text : List ℕ) (within : at ≤ length text) where
       ∙ ap (λ (l : List ℕ). take at text ++ l) (take-append-drop (length bytes) (drop at text))
       ∙ take-append-drop at text
 
--- a place that is not within a range lies before it or behind it
+-- a place that is not within a range lies before it or after it
 outside : (range : Range) (k : ℕ) → is_within range k ≡ false → (k < range.at) ⊎ (range.at + range.size ≤ k)
 outside range k out = elim (cases_lt k range.at) [
   | inl before ↦ inl before
@@ -55,23 +55,26 @@ outside range k out = elim (cases_lt k range.at) [
   ]
 ]
 
--- a place that lies before a range or behind it is not within it
+-- a place that lies before a range or after it is not within it
 is_outside : (range : Range) (k : ℕ) → (k < range.at) ⊎ (range.at + range.size ≤ k) → is_within range k ≡ false
 is_outside range k (inl before) = ap (λ (b : Bool). b && nat_lt k (range.at + range.size)) (lt-leb range.at k before)
 is_outside range k (inr behind) = ap (λ (b : Bool). nat_le range.at k && b) (le-ltb k (range.at + range.size) behind) ∙ and-false (nat_le range.at k)
 
 -- a place is pending after one write more where it was before, or where it lies in the range of this write
-pending_push : (pending : List Range) (range : Range) (k : ℕ) → is_pending (pending ++ range ∷ []) k ≡ (is_pending pending k || (is_within range k || false))
+pending_push : (pending : List Range) (range : Range) (k : ℕ)
+    → is_pending (pending ++ range ∷ []) k ≡ (is_pending pending k || (is_within range k || false))
 pending_push pending range k = list_any-append (λ r. is_within r k) pending (range ∷ [])
 
 -- a place that is not pending after a write was not pending before, and does not lie in its range
-not_in_push : (pending : List Range) (range : Range) (k : ℕ) → is_pending (pending ++ range ∷ []) k ≡ false → (is_pending pending k ≡ false) × (is_within range k ≡ false)
+not_in_push : (pending : List Range) (range : Range) (k : ℕ) → is_pending (pending ++ range ∷ []) k ≡ false
+    → (is_pending pending k ≡ false) × (is_within range k ≡ false)
 not_in_push pending range k out =
     let parts = or_parts (is_pending pending k) (is_within range k || false) (sym (pending_push pending range k) ∙ out) in
     (parts.0, (or_parts (is_within range k) false parts.1).0)
 
 -- a place that was not pending, and does not lie in the range of a write, is not pending after it
-in_neither : (pending : List Range) (range : Range) (k : ℕ) → is_pending pending k ≡ false → is_within range k ≡ false → is_pending (pending ++ range ∷ []) k ≡ false
+in_neither : (pending : List Range) (range : Range) (k : ℕ) → is_pending pending k ≡ false → is_within range k ≡ false
+    → is_pending (pending ++ range ∷ []) k ≡ false
 in_neither pending range k p q = pending_push pending range k ∙ or_from (is_pending pending k) (is_within range k || false) p (or_from (is_within range k) false q refl)
 
 -- A write of these bytes at this place.
@@ -147,14 +150,14 @@ module _ (at : ℕ) (bytes text synced : List ℕ) (pending : List Range) (match
         go true e = ap (λ (b : Bool). if b then get_or text k 0 else get_or image k 0) e
         go false e = ap (λ (b : Bool). if b then get_or text k 0 else get_or image k 0) e ∙ kept_byte k h p e
 
-    -- where nothing else was written since the last sync, the image is the old text, torn in the write's range
+    -- if nothing else was written since the last sync, the image is the old text, torn in the write's range
     from_text : length pending ≡ 0 → Torn at (length bytes) text image
     from_text none = record {
       no_shorter = omega (arith, matches.settled none, torn.no_shorter);
       outside = λ k h out. kept_byte k (omega (arith, matches.settled none)) (ap (λ ranges. is_pending ranges k) (nil_from_length pending none)) (is_outside range k out);
     }
 
-    -- where something was, the image from before the write is one that a crash might have left then, and the image is that one, torn in the write's range
+    -- if something was, the image from before the write is one that a crash might have left then, and the image is that one, torn in the write's range
     from_torn : 0 < length pending → IsTorn old_moment (image_before image) × Torn at (length bytes) (image_before image) image
     from_torn some = (
       record {

@@ -4,8 +4,8 @@ use Rattle.pv_outside.specs.declared.disk.TheConstants.{KEPT_BYTES, KEPT_CALLS}
 use Rattle.pv_memory.specs.declared.past.Range.{Range}
 use Rattle.pv_memory.specs.Medium.{Moment}
 
--- what one call has changed: the range that it wrote, the bytes that were there before, the ranges that were written since
--- the last sync before it, and the end that the disk had at that sync
+-- What one call has changed: the range that it wrote, and the bytes that were there before. Also which ranges were written
+-- between the last sync and the call, and the end that the disk had at that sync.
 pub record Change : Type 0 where
   pub range : Range
   pub replaced : List ℕ

@@ -9,7 +9,7 @@ pub record SourceState : Type 0 where
   pub ended : Bool
   pub plan : Plan
 
--- the source after a read into so many bytes, of which it fills as many as are left
+-- the source after a read into this many bytes, of which it fills as many as are left
 abbrev pub source_after_read : SourceState → ℕ → SourceState
 source_after_read s n = if fails_now s.plan then record s { plan = plan_after_call s.plan }
     else record { read = s.read ++ take n s.left; left = drop n s.left; ended = s.ended || (length (take n s.left) == 0 && nat_lt 0 n); plan = plan_after_call s.plan }

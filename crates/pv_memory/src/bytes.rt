@@ -26,6 +26,8 @@ pub(crate) fn catch_up(copy: &mut Vec<u8>, text: &[u8], pending: &[Range])
     requires room { length text.now ≤ vec_capacity copy.old }
     requires within { IsEachWithin pending.now (length text.now) }
     requires same { (place : ℕ) → place < vec_len copy.old → is_pending pending.now place ≡ false → slice_index copy.old.items place ≡ slice_index text.now place }
+
+    // Afterwards they are equal.
     ensures same { copy.new.items ≡ text.now }
     ensures capacity { vec_capacity copy.old ≤ vec_capacity copy.new }
 {
@@ -81,9 +83,13 @@ pub(crate) fn restore(text: &mut Vec<u8>, synced: &mut Vec<u8>, pending: &[Range
     requires matches { MatchesSync text.old.items synced.old.items pending.now }
     requires text_room { vec_len synced.old ≤ vec_capacity text.old }
     requires synced_room { vec_len text.old ≤ vec_capacity synced.old }
+
+    // It is the image of this number, and one that a crash may leave.
     ensures image { text.new.items ≡ image_bytes text.old.items synced.old.items pending.now image }
     ensures left { IsImage (record { text = text.old.items; end = length synced.old.items; pending = pending.now }) text.new.items }
     ensures same { synced.new.items ≡ text.new.items }
+
+    // Both keep their room.
     ensures no_longer { vec_len text.new ≤ vec_len text.old }
     ensures text_capacity { vec_capacity text.old ≤ vec_capacity text.new }
     ensures synced_capacity { vec_capacity synced.old ≤ vec_capacity synced.new }

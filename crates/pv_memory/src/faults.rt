@@ -5,8 +5,8 @@ ghost use Rattle.pv_memory.specs.Faults.{Plan, fails_now, plan_after_call, plan_
 use std::alloc::{AllocError, Global};
 use std::marker::Model;
 
-/// Which calls of an object fail, counted from 0, and how often one has. Both counts stand still at
-/// the end of 64 bits.
+/// Which calls of an object fail, counted from 0, and how often one has. Both counts no longer
+/// rise at the end of 64 bits.
 #[derive(Debug, Drop)]
 pub(crate) struct Faults {
     call: u64,

@@ -10,7 +10,7 @@ use Rattle.pv_journal.proofs.opening.first_bytes.Given.{Over}
 use Rattle.pv_journal.proofs.opening.first_bytes.Goals as goal
 use Rattle.pv_journal.proofs.opening.first_bytes.Goals.{After-sync, After-len, After-read}
 
--- what the sync, the look at the length behind it, and the look at the bytes did
+-- what the sync, the look at the length after it, and the look at the bytes did
 reads_sync : (g : Over) (c : After-sync g) → ReadsOnly g.D.Reports 1 (IsErr c.sync.result) c.args.disk.now c.sync.new.self
 reads_sync g c = reads_once g.D.Reports (λ b. (refl, refl)) _ _ _ c.sync.ensures.keeps
 

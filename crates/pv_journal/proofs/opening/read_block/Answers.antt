@@ -4,6 +4,7 @@ use Rattle.std.proofs.lemmas.Grind.{common_steps}
 use Rattle.pv_journal.proofs.Calls.{reads_once}
 use Rattle.pv_journal.proofs.CallerLemmas.{reads_most}
 use Rattle.pv_journal.proofs.Images.{if_both}
+use Rattle.pv_journal.specs.declared.block.TheConstants.{MAX_BLOCK}
 use Rattle.pv_journal.proofs.Reading.{block_read}
 use Rattle.pv_journal.proofs.opening.read_block.Goals as goal
 
@@ -11,11 +12,11 @@ pub returns-clause-bytes : goal.returns-clause-bytes
 returns-clause-bytes g c =
     let read : IfSome (g.D.Reports.reads c.args.disk.now) (λ text. c.read.new.into ≡ take c.min-held.result (drop c.args.gate text)) =
     IfSome_then _ c.in_ok-read.ensures.bytes (λ text r. let t : c.read.new.into ≡ take c.min-held.result (drop c.args.gate text) = grind (arith, common_steps) in t) in
-    let whole : IfSome (g.D.Reports.reads c.args.disk.now) (λ text. take c.min-held.result (c.read.new.into ++ drop c.min-held.result c.args.into.now) ≡ take 2051 (drop c.args.gate text)) =
+    let whole : IfSome (g.D.Reports.reads c.args.disk.now) (λ text. take c.min-held.result (c.read.new.into ++ drop c.min-held.result c.args.into.now) ≡ take MAX_BLOCK (drop c.args.gate text)) =
     if_both (g.D.Reports.reads c.args.disk.now) (λ text. length text ≡ c.args.end) (λ text. c.read.new.into ≡ take c.min-held.result (drop c.args.gate text))
-    (λ text. take c.min-held.result (c.read.new.into ++ drop c.min-held.result c.args.into.now) ≡ take 2051 (drop c.args.gate text))
+    (λ text. take c.min-held.result (c.read.new.into ++ drop c.min-held.result c.args.into.now) ≡ take MAX_BLOCK (drop c.args.gate text))
     (λ text size r. block_read text c.read.new.into (drop c.min-held.result c.args.into.now) c.args.gate c.min-held.result (omega (arith, c.min-held.ensures)) (omega arith) r)
-    c.requires.told read in
+    c.requires.long read in
     whole
 
 pub returns-in_err-read-clause-reads_only : goal.returns-in_err-read-clause-reads_only

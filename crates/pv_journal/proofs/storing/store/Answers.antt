@@ -1,7 +1,9 @@
-use Rattle.std.proofs.Common.{inl, inr, ◌≡◌, ℕ, ◌+◌, List, [], ◌∷◌, ◌++◌, length, refl, sym, subst, Option, IfSome, IsErr, arith, rules}
+use Rattle.std.proofs.Common.{inl, inr, ◌≡◌, ℕ, ◌+◌, List, [], ◌∷◌, ◌++◌, length, refl, sym, ◌∙◌, ap, subst, Option, IfSome, IsErr, arith, rules}
 use Rattle.std.proofs.lemmas.Result.{on_ok_weaker}
 use Rattle.std.proofs.lemmas.Option.{IfSome_then}
-use Rattle.pv_journal.specs.Text.{front, Spells, SpellsEither, HasClosedGate, MayHaveBody}
+use Rattle.std.specs.Option.{option_map}
+use Rattle.pv_outside.specs.Disk.{text_after_write}
+use Rattle.pv_journal.specs.Text.{text_of, Spells, SpellsEither, HasClosedGate, MayHaveBody}
 use Rattle.pv_journal.specs.Journal.{EachImage, LeavesOnly, HasMade, Spends}
 use Rattle.pv_journal.proofs.Calls.{spends_call, made_call, made_any}
 use Rattle.pv_journal.proofs.CallerLemmas.{spends_most, spends_then, made_then}
@@ -9,27 +11,35 @@ use Rattle.pv_journal.proofs.Moments.{only_none, only_weaker, only_write, only_l
 use Rattle.pv_journal.proofs.Crash.{IsStaged}
 use Rattle.pv_journal.proofs.Gates.{IsBehind, behind_written, kept_by_torn, may_have, behind_torn, behind_opened, before_closed}
 use Rattle.pv_journal.proofs.Images.{if_ok, on_ok, on_err, if_map, if_turns, if_told, each_synced}
-use Rattle.pv_journal.proofs.Append.{behind, behind_text, at_gate, gate_text}
+use Rattle.pv_journal.proofs.Append.{behind, behind_text, at_gate, gate_text, both_written}
 use Rattle.pv_journal.proofs.storing.store.Goals as goal
 use Rattle.pv_journal.proofs.storing.store.Goals.{In_ok-write, In_ok-sync, After-write, After-sync, After-write-2}
 use Rattle.pv_journal.proofs.storing.store.Given.{Over}
 
--- once the first sync has succeeded each image has the body whole behind the gate
-staged_there : (g : Over) (c : In_ok-sync g) (bodies : List (List ℕ)) → c.args.gate ≡ length (front bodies) → EachImage g.D.Reports c.args.disk.now (λ image. Spells image bodies) → EachImage g.D.Reports c.sync.new.self (IsStaged bodies c.args.body.now)
+-- once the first sync has succeeded each image has the body whole after the gate
+staged_there : (g : Over) (c : In_ok-sync g) (bodies : List (List ℕ)) → c.args.gate ≡ length (text_of bodies)
+    → EachImage g.D.Reports c.args.disk.now (λ image. Spells image bodies)
+    → EachImage g.D.Reports c.sync.new.self (IsStaged bodies c.args.body.now)
 staged_there g c bodies is each =
     let text = behind_text g.D.Reports g.met.D.Disk.reads_is_left bodies c.args.body.now c.args.gate is _ _ _ c.spell-length.ensures.bytes c.in_ok-write.ensures.writes.written each in
     each_synced g.D.Reports _ (IsStaged bodies c.args.body.now) c.in_ok-sync.ensures.durable (subst (λ (o : Option (List ℕ)). IfSome o (IsStaged bodies c.args.body.now)) (sym c.sync.ensures.keeps.reads) text)
 
 -- what a crash may have left up to each of the four calls
-behind_write : (g : Over) (c : After-write g) (bodies : List (List ℕ)) → c.args.gate ≡ length (front bodies) → EachImage g.D.Reports c.args.disk.now (λ image. Spells image bodies) → LeavesOnly g.D.Reports c.args.disk.now c.write.new.self (λ image. Spells image bodies)
+behind_write : (g : Over) (c : After-write g) (bodies : List (List ℕ)) → c.args.gate ≡ length (text_of bodies)
+    → EachImage g.D.Reports c.args.disk.now (λ image. Spells image bodies)
+    → LeavesOnly g.D.Reports c.args.disk.now c.write.new.self (λ image. Spells image bodies)
 behind_write g c bodies is each =
     only_write g.D.Reports (only_none g.D.Reports g.met.D.Disk.only_now g.met.D.Disk.now_is_known _ _ each) c.write.ensures.writes (search rules)
     (behind g.D.Reports g.met.D.Disk.reads_is_left bodies c.args.body.now c.args.gate is _ _ _ _ c.write.ensures.writes each)
 
-behind_sync : (g : Over) (c : After-sync g) (bodies : List (List ℕ)) → c.args.gate ≡ length (front bodies) → EachImage g.D.Reports c.args.disk.now (λ image. Spells image bodies) → LeavesOnly g.D.Reports c.args.disk.now c.sync.new.self (λ image. Spells image bodies)
+behind_sync : (g : Over) (c : After-sync g) (bodies : List (List ℕ)) → c.args.gate ≡ length (text_of bodies)
+    → EachImage g.D.Reports c.args.disk.now (λ image. Spells image bodies)
+    → LeavesOnly g.D.Reports c.args.disk.now c.sync.new.self (λ image. Spells image bodies)
 behind_sync g c bodies is each = only_look g.D.Reports (behind_write g (goal.at.After-sync g c).After-write bodies is each) c.sync.ensures.keeps
 
-at_write-2 : (g : Over) (c : After-write-2 g) (bodies : List (List ℕ)) → c.args.gate ≡ length (front bodies) → EachImage g.D.Reports c.args.disk.now (λ image. Spells image bodies) → LeavesOnly g.D.Reports c.args.disk.now c.write-2.new.self (SpellsEither bodies c.args.body.now)
+at_write-2 : (g : Over) (c : After-write-2 g) (bodies : List (List ℕ)) → c.args.gate ≡ length (text_of bodies)
+    → EachImage g.D.Reports c.args.disk.now (λ image. Spells image bodies)
+    → LeavesOnly g.D.Reports c.args.disk.now c.write-2.new.self (SpellsEither bodies (c.args.body.now ∷ []))
 at_write-2 g c bodies is each =
     only_write g.D.Reports (only_weaker g.D.Reports (λ image spells. inl spells) (behind_sync g (goal.at.After-write-2 g c).After-sync bodies is each)) c.write-2.ensures.writes (omega arith)
     (at_gate g.D.Reports g.met.D.Disk.reads_is_left bodies c.args.body.now c.args.gate is _ _ c.requires.size _ 1 c.write-2.ensures.writes (staged_there g (goal.at.After-write-2 g c).In_ok-sync bodies is each))
@@ -75,7 +85,13 @@ returns-clause-stored g c = on_ok_weaker c.sync-2.result (λ durable bodies is e
     let text = gate_text g.D.Reports g.met.D.Disk.reads_is_left bodies c.args.body.now c.args.gate is _ _ c.requires.size c.in_ok-write-2.ensures.writes.written (staged_there g (goal.at.returns-clause-stored g c).In_ok-sync bodies is each) in
     each_synced g.D.Reports _ (λ image. Spells image (bodies ++ c.args.body.now ∷ [])) durable (subst (λ (o : Option (List ℕ)). IfSome o (λ text. Spells text (bodies ++ c.args.body.now ∷ []))) (sym c.sync-2.ensures.keeps.reads) text)) c.sync-2.ensures.durable
 
--- once the first write has succeeded, the disk has a closed gate behind the body, and the gate before it is as it was
+pub returns-clause-written : goal.returns-clause-written
+returns-clause-written g c = on_ok c.sync-2.result
+    (c.sync-2.ensures.keeps.reads ∙ c.in_ok-write-2.ensures.writes.written
+    ∙ ap (option_map (text_after_write c.args.gate (1 ∷ []))) (c.sync.ensures.keeps.reads ∙ c.in_ok-write.ensures.writes.written)
+    ∙ both_written (g.D.Reports.reads c.args.disk.now) c.args.gate c.args.body.now _ c.spell-length.ensures.bytes (if_told _ _ c.requires.closed))
+
+-- once the first write has succeeded, the disk has a closed gate after the body, and the gate before it is as it was
 behind_closed : (g : Over) (c : In_ok-write g) → IfSome (g.D.Reports.reads c.write.new.self) (IsBehind c.args.gate (length c.args.body.now))
 behind_closed g c =
     if_map _ (HasClosedGate c.args.gate) (IsBehind c.args.gate (length c.args.body.now)) _ _
@@ -97,8 +113,10 @@ returns-in_err-write-2-clause-same_gate g c =
     (λ old new behind torn. behind_torn c.args.gate (length c.args.body.now) old new behind torn) c.in_err-write-2.ensures.writes.torn
     (subst (λ (o : Option (List ℕ)). IfSome o (IsBehind c.args.gate (length c.args.body.now))) (sym c.sync.ensures.keeps.reads) (behind_closed g (goal.at.returns-in_err-write-2-clause-same_gate g c).In_ok-write)))
 
--- and once the second has, the gate behind the body is still closed
-next_closed : (g : Over) (c : goal.After-sync-2 g) → IfSome (g.D.Reports.reads c.write.new.self) (IsBehind c.args.gate (length c.args.body.now)) → IfSome (g.D.Reports.reads c.sync-2.new.self) (HasClosedGate (c.args.gate + length c.args.body.now + 3))
+-- and once the second has, the gate after the body is still closed
+next_closed : (g : Over) (c : goal.After-sync-2 g)
+    → IfSome (g.D.Reports.reads c.write.new.self) (IsBehind c.args.gate (length c.args.body.now))
+    → IfSome (g.D.Reports.reads c.sync-2.new.self) (HasClosedGate (c.args.gate + length c.args.body.now + 3))
 next_closed g c so_far =
     subst (λ (o : Option (List ℕ)). IfSome o (HasClosedGate (c.args.gate + length c.args.body.now + 3))) (sym c.sync-2.ensures.keeps.reads)
     (if_map _ (IsBehind c.args.gate (length c.args.body.now)) (HasClosedGate (c.args.gate + length c.args.body.now + 3)) _ _

@@ -21,7 +21,8 @@ painted c =
     }
 
 -- are those of the disk
-painted_text : (c : After-catch_up-in_default) → take c.args.text.now.len (c.paint_all.new.text ++ drop (length c.paint_all.new.text) c.args.text.now.items) ≡ c.paint_all.new.text
+painted_text : (c : After-catch_up-in_default)
+    → take c.args.text.now.len (c.paint_all.new.text ++ drop (length c.paint_all.new.text) c.args.text.now.items) ≡ c.paint_all.new.text
 painted_text c =
     let long : length c.paint_all.new.text ≡ length c.args.text.now.items = search rules in
     take_at c.paint_all.new.text (drop (length c.paint_all.new.text) c.args.text.now.items) c.args.text.now.len (omega (arith, long))

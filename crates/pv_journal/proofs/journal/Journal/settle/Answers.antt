@@ -1,6 +1,7 @@
-use Rattle.std.proofs.Common.{◌≡◌, ℕ, List, IsErr, refl, sym, subst, arith, length, rules}
+use Rattle.std.proofs.Common.{◌≡◌, ℕ, List, [], ◌∷◌, IsErr, refl, sym, subst, arith, length, rules}
 use Rattle.pv_journal.specs.Journal.{EachImage, LeavesOnly, HasMade, HoldsInHand, ReadsOnly}
-use Rattle.pv_journal.specs.Text.{Spells, SpellsEither}
+use Rattle.std.proofs.lemmas.List.Elements.{All-head}
+use Rattle.pv_journal.specs.Text.{IsBody, Spells, SpellsEither}
 use Rattle.pv_journal.proofs.Calls.{reads_once, made_call}
 use Rattle.pv_journal.proofs.CallerLemmas.{reads_none, reads_most, reads_then, made_then}
 use Rattle.pv_journal.proofs.Moments.{only_none, only_remains}
@@ -11,7 +12,7 @@ use Rattle.pv_journal.proofs.journal.Journal.settle.Given.{Over}
 use Rattle.pv_journal.proofs.journal.Journal.settle.Goals as goal
 use Rattle.pv_journal.proofs.journal.Journal.settle.Goals.{After-sync, After-read, In_ok-read, Then-gate-ne1}
 
--- what the sync, and the look at the gate behind it, did
+-- what the sync, and the look at the gate after it, did
 reads_sync : (g : Over) (c : After-sync g) → ReadsOnly g.D.Reports 1 (IsErr c.sync.result) c.args.self.now.disk c.sync.new.self
 reads_sync g c =
     subst (λ v. ReadsOnly g.D.Reports 1 (IsErr c.sync.result) v.disk c.sync.new.self) c.self.view_is (reads_once g.D.Reports (λ b. (refl, refl)) _ _ _ c.sync.ensures.keeps)
@@ -47,8 +48,9 @@ pub returns-clause-both_calls : goal.returns-clause-both_calls
 returns-clause-both_calls g c = λ _. made_both g (goal.at.returns-clause-both_calls g c).In_ok-read
 
 -- a crash leaves what it might have left, over calls that write nothing
-moments : (g : Over) (c : After-read g) (bodies : List (List ℕ)) (body : List ℕ) → HoldsInHand g.D.Reports c.args.self.now bodies body → LeavesOnly g.D.Reports c.args.self.now.disk c.read.new.self (SpellsEither bodies body)
-moments g c bodies body held = only_remains g.D.Reports (only_none g.D.Reports g.met.D.Disk.only_now g.met.D.Disk.now_is_known _ _ held.images) (reads_both g c).same
+moments : (g : Over) (c : After-read g) (bodies hand : List (List ℕ)) → HoldsInHand g.D.Reports c.args.self.now bodies hand
+    → LeavesOnly g.D.Reports c.args.self.now.disk c.read.new.self (SpellsEither bodies hand)
+moments g c bodies hand held = only_remains g.D.Reports (only_none g.D.Reports g.met.D.Disk.only_now g.met.D.Disk.now_is_known _ _ held.images) (reads_both g c).same
 
 pub returns-in_err-read-clause-moments : goal.returns-in_err-read-clause-moments
 returns-in_err-read-clause-moments g c = moments g (goal.at.returns-in_err-read-clause-moments g c).After-read
@@ -61,19 +63,20 @@ returns-clause-moments g c = moments g (goal.at.returns-clause-moments g c).Afte
 
 pub returns-clause-stored : goal.returns-clause-stored
 returns-clause-stored g c = λ same bodies body held_now.
-    let held = subst (λ v. HoldsInHand g.D.Reports v bodies body) (sym c.self.view_is) held_now in
+    let held = subst (λ v. HoldsInHand g.D.Reports v bodies (body ∷ [])) (sym c.self.view_is) held_now in
     let size : c.in-InHand.size ≡ length body = cc in
     record {
       phase = refl;
-      counted = counted_more g.D.Reports _ _ bodies body held.counted held.size refl (omega (arith, size));
+      counted = counted_more g.D.Reports _ _ bodies body held.counted (All-head IsBody body [] held.sizes) refl (omega (arith, size));
       images = found_stored g.D.Reports g.met.D.Disk.reads_is_left _ _ _ c.self.inside.gate _ bodies body held.counted.gate held.images c.sync.ensures.keeps.reads c.sync.ensures.keeps.images c.in_ok-sync.ensures.durable c.in_ok-read.ensures.bytes c.read.ensures.keeps.reads c.read.ensures.keeps.images c.if-gate-ne1.false;
       synced = search rules;
     }
 
--- where the gate that was read is closed, each image spells the list without the body in hand
-each_dropped : (g : Over) (c : Then-gate-ne1 g) (bodies : List (List ℕ)) (body : List ℕ) → HoldsInHand g.D.Reports c.args.self.now bodies body → EachImage g.D.Reports c.read.new.self (λ image. Spells image bodies)
+-- if the gate that was read is closed, each image spells the list without the body in hand
+each_dropped : (g : Over) (c : Then-gate-ne1 g) (bodies : List (List ℕ)) (body : List ℕ)
+    → HoldsInHand g.D.Reports c.args.self.now bodies (body ∷ []) → EachImage g.D.Reports c.read.new.self (λ image. Spells image bodies)
 each_dropped g c bodies body held_now =
-    let held = subst (λ v. HoldsInHand g.D.Reports v bodies body) (sym c.self.view_is) held_now in
+    let held = subst (λ v. HoldsInHand g.D.Reports v bodies (body ∷ [])) (sym c.self.view_is) held_now in
     found_dropped g.D.Reports g.met.D.Disk.reads_is_left _ _ _ c.self.inside.gate _ bodies body held.counted.gate held.images c.sync.ensures.keeps.reads c.sync.ensures.keeps.images c.in_ok-sync.ensures.durable c.in_ok-read.ensures.bytes c.read.ensures.keeps.reads c.read.ensures.keeps.images c.if-gate-ne1.true
 
 pub returns-then-gate-ne1-clause-reads_dropped : goal.returns-then-gate-ne1-clause-reads_dropped
@@ -82,7 +85,7 @@ returns-then-gate-ne1-clause-reads_dropped g c = λ same bodies body held.
 
 pub returns-then-gate-ne1-clause-dropped : goal.returns-then-gate-ne1-clause-dropped
 returns-then-gate-ne1-clause-dropped g c = λ same bodies body held_now.
-    let held = subst (λ v. HoldsInHand g.D.Reports v bodies body) (sym c.self.view_is) held_now in
+    let held = subst (λ v. HoldsInHand g.D.Reports v bodies (body ∷ [])) (sym c.self.view_is) held_now in
     record {
       phase = refl;
       counted = record { count = held.counted.count; gate = held.counted.gate; sizes = held.counted.sizes };

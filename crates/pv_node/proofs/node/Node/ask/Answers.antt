@@ -1,4 +1,4 @@
-use Rattle.std.proofs.Common.{inl, inr, ◌∙◌, ap, subst, IsOk}
+use Rattle.std.proofs.Common.{rules, inl, inr, ◌∙◌, ap, subst, IsOk}
 use Rattle.std.proofs.lemmas.Bool.{false≢true}
 use Rattle.pv_node.specs.Asking.{CarriesOut, AskLeaves, to_store, with_stored}
 use Rattle.pv_node.specs.Standing.{StandsEither}
@@ -18,15 +18,15 @@ returns-in-Ok-clause-asked g c =
 
 pub returns-in-Ok-clause-spends : goal.returns-in-Ok-clause-spends
 returns-in-Ok-clause-spends g c =
-    spends_settled g.R.Rules g.D.Reports _ c.settle.new.self _ c.in-Ok.field-0 _ c.in-Ok.ensures.settled c.settle.ensures.same c.settle.ensures.calls c.carry_out.ensures.spends
+    spends_settled g.R.Rules g.D.Reports _ c.settle.new.self _ c.in-Ok.field-0 _ c.in-Ok.ensures.settled c.settle.ensures.reads_only c.carry_out.ensures.spends
 
 pub returns-in-Ok-clause-never_fails : goal.returns-in-Ok-clause-never_fails
 returns-in-Ok-clause-never_fails g c =
-    never_fails g.R.Rules g.D.Reports _ c.settle.new.self _ c.in-Ok.field-0 _ c.in-Ok.ensures.settled c.settle.ensures.same c.settle.ensures.limits c.carry_out.ensures.spends
+    never_fails g.R.Rules g.D.Reports _ c.settle.new.self _ c.in-Ok.field-0 _ c.in-Ok.ensures.settled c.settle.ensures.reads_only c.settle.ensures.limits c.carry_out.ensures.spends
 
 pub returns-in-Err-clause-never_fails : goal.returns-in-Err-clause-never_fails
 returns-in-Err-clause-never_fails g c = λ records stands endless is.
-    absurd (false≢true (subst IsOk c.in-Err.is (c.settle.ensures.passes _ endless)))
+    c.settle.ensures.reads_only.passes _ endless (search rules)
 
 pub returns-in-Ok-clause-moments : goal.returns-in-Ok-clause-moments
 returns-in-Ok-clause-moments g c = λ records stands.
