@@ -1,5 +1,5 @@
 -- What an ask takes of the disk, from what its parts take.
-use Rattle.std.proofs.Common.{◌≡◌, ◌≢◌, ◌⊎◌, inl, inr, refl, ℕ, ◌+◌, ◌*◌, ◌<◌, ◌≤◌, List, Option, Some, None, IfSome, Result, sym, subst, arith}
+use Rattle.std.proofs.Common.{◌≡◌, ◌≢◌, ◌⊎◌, inl, inr, refl, ℕ, ◌<◌, ◌≤◌, List, Option, Some, None, IfSome, Result, sym, subst, arith}
 use Rattle.std.proofs.lemmas.Option.{none-some}
 use Rattle.pv_outside.specs.Disk.{Budget, HasCalls, IsEndless}
 use Rattle.pv_outside.specs.declared.reports.Reports as reports

@@ -169,6 +169,7 @@ impl<R: Rules, D: Disk> Node<R, D> {
         requires spelled { R.is_record rec.now }
         requires room { R.fits self.old.state rec.now }
 
+        // The record is stored, or a call of the disk failed, or the node is full.
         ensures place { IfOk result (λ number. number ≡ self.old.journal.count) }
         ensures stored { OnOk result (HasStored ⟦<R as Rules>⟧ D.Reports self.old self.new rec.now) }
         ensures refused { IfErr result (IsRefused ⟦<R as Rules>⟧ D.Reports self.old self.new rec.now) }

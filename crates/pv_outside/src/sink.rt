@@ -4,7 +4,7 @@ ghost use Rattle.pv_outside.specs.Sink.{Writes};
 
 use crate::failed::Failed;
 
-/// If bytes go to: memory, a terminal, a line.
+/// Where bytes go to: memory, a terminal, a line.
 pub trait Sink {
     /// How often a write has failed.
     ghost write_faults: { Self → ℕ };

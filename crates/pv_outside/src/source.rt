@@ -5,7 +5,7 @@ ghost use Rattle.pv_outside.specs.Source.{MarksEnd, Takes, Leaves};
 
 use crate::failed::Failed;
 
-/// If bytes come from: a text in memory, a terminal, a line.
+/// Where bytes come from: a text in memory, a terminal, a line.
 pub trait Source {
     /// How often a read has failed.
     ghost read_faults: { Self → ℕ };

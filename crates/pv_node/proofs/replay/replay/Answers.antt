@@ -1,8 +1,6 @@
 use Rattle.std.proofs.Common.{◌≡◌, ℕ, Option, IfSome, List, [], true, false, Ok, refl, sym, ◌∙◌, ap, subst, arith, rules}
-use Rattle.std.proofs.lemmas.Result.{err_from_is_err_and}
-use Rattle.pv_outside.specs.Disk.{IsEndless}
 use Rattle.pv_node.specs.Standing.{DiskStands, Meets}
-use Rattle.pv_node.specs.Opening.{HasAll, IsOutside, StopShows, FaultShows}
+use Rattle.pv_node.specs.Opening.{HasAll, IsOutside, FaultShows}
 use Rattle.pv_journal.proofs.CallerLemmas.{reads_none, reads_most, reads_then}
 use Rattle.pv_node.proofs.Reading.{goes_on, all_of, fails_outside, fault_shows}
 use Rattle.pv_journal.proofs.Images.{if_both}

@@ -1,5 +1,4 @@
-use Rattle.std.proofs.Common.{rules, inl, inr, ◌∙◌, ap, subst, IsOk}
-use Rattle.std.proofs.lemmas.Bool.{false≢true}
+use Rattle.std.proofs.Common.{rules, inl, inr, ◌∙◌, ap, subst}
 use Rattle.pv_node.specs.Asking.{CarriesOut, AskLeaves, to_store, with_stored}
 use Rattle.pv_node.specs.Standing.{StandsEither}
 use Rattle.pv_journal.proofs.Moments.{only_weaker, only_then}

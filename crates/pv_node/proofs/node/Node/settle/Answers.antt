@@ -1,7 +1,5 @@
-use Rattle.std.proofs.Common.{rules, ◌≡◌, ℕ, ◌≤◌, map, true, Option, None, Some, Ok, IsOk, refl, sym, ◌∙◌, ap, subst, arith}
-use Rattle.std.proofs.lemmas.Bool.{false≢true}
-use Rattle.pv_outside.specs.Disk.{IsEndless}
-use Rattle.pv_journal.specs.Log.{Log, count_with_hand, IsNoneInHand}
+use Rattle.std.proofs.Common.{rules, ◌≡◌, ℕ, ◌≤◌, map, true, Option, None, Some, Ok, refl, sym, ◌∙◌, ap, subst, arith}
+use Rattle.pv_journal.specs.Log.{count_with_hand, IsNoneInHand}
 use Rattle.pv_journal.specs.Journal.{HasMade}
 use Rattle.pv_journal.proofs.CallerLemmas.{reads_none}
 use Rattle.pv_node.specs.Parts.{Parts, IsInStep}
