@@ -1,51 +1,67 @@
--- What each image of a disk spells, over each call of the disk that an append makes.
-use Rattle.std.proofs.Common.{◌≡◌, ℕ, ◌+◌, List, [], ◌∷◌, ◌++◌, length, IfSome, sym, ap, subst}
+-- What each image of a disk spells, over each call of the disk that an append makes, and what both writes make of its text.
+use Rattle.std.proofs.Common.{◌≡◌, ℕ, ◌+◌, ◌<◌, List, [], ◌∷◌, ◌++◌, length, take, drop, Option, Some, None, IfSome, Result, refl, sym, ◌∙◌, ap, subst, arith, append_assoc}
+use Rattle.std.proofs.lemmas.List.{length-take-le, take-append-le, take-take, drop_at}
 use Rattle.std.specs.Option.{option_map}
-use Rattle.pv_outside.specs.Disk.{Torn, overwritten, Follows, Turns}
-use Rattle.pv_outside.specs.declared.disk.Disk as disk
-use Rattle.pv_journal.specs.Text.{IsBody, front, Spells, SpellsEither, written_behind}
+use Rattle.pv_outside.specs.Disk.{text_after_write}
+use Rattle.pv_outside.specs.Calls.{WritesAt}
+use Rattle.pv_outside.specs.declared.reports.Reports as reports
+use Rattle.pv_journal.specs.Text.{IsBody, block, HasClosedGate, text_of, Spells, SpellsEither, bytes_after_gate}
 use Rattle.pv_journal.specs.Journal.{EachImage}
 use Rattle.pv_journal.proofs.Crash.{torn_behind, staged, torn_gate, stored, IsStaged}
-use Rattle.pv_journal.proofs.Images.{if_map, text_of_each, each_written, each_torn}
+use Rattle.pv_journal.proofs.Images.{if_map, text_of_each, each_written}
 
-module _ {D F : Type 0} (g : disk.Ghosts D F) (left : (d : D) → IfSome (g.reads d) (g.may_leave d)) (bodies : List (List ℕ)) (body : List ℕ) (gate : ℕ) (is : gate ≡ length (front bodies)) (old new : D) where
-  -- bodies that each image spelled, each still spells once something was written behind the closed gate
-  pub behind_ok : (n : ℕ) (f : List ℕ → List ℕ) → g.reads new ≡ option_map f (g.reads old) → Follows (Torn (gate + 1) n) (g.may_leave old) (g.may_leave new)
+module _ {D : Type 0} (g : reports.Ghosts D) (left : (d : D) → IfSome (g.reads d) (g.may_leave d)) (bodies : List (List ℕ)) (body : List ℕ) (gate : ℕ) (is : gate ≡ length (text_of bodies)) (old new : D) where
+  -- bodies that each image spelled, each still spells after a write after the closed gate, whatever it returns
+  pub behind : {T E : Type 0} (r : Result T E) (bytes : List ℕ) → WritesAt g (gate + 1) bytes old new r
       → EachImage g old (λ image. Spells image bodies) → EachImage g new (λ image. Spells image bodies)
-  behind_ok n f written follows each =
-      each_written g old new (λ image. Spells image bodies) (λ image. Spells image bodies) (gate + 1) n f (λ d c spells torn. torn_behind bodies (gate + 1) n d c (ap (λ (k : ℕ). k + 1) is) spells torn) written follows each
+  behind r bytes writes each =
+      each_written g old new r (gate + 1) bytes (λ image. Spells image bodies) (λ image. Spells image bodies)
+      (λ d c spells torn. torn_behind bodies (gate + 1) (length bytes) d c (ap (λ (k : ℕ). k + 1) is) spells torn) writes each
 
-  -- a write behind the closed gate that fails leaves each image with the bodies that it spelled
-  pub behind_err : (n : ℕ) → Turns (Torn (gate + 1) n) (g.reads old) (g.reads new) → Follows (Torn (gate + 1) n) (g.may_leave old) (g.may_leave new)
-      → EachImage g old (λ image. Spells image bodies) → EachImage g new (λ image. Spells image bodies)
-  behind_err n turns follows each =
-      each_torn g old new (λ image. Spells image bodies) (λ image. Spells image bodies) (gate + 1) n (λ d c spells torn. torn_behind bodies (gate + 1) n d c (ap (λ (k : ℕ). k + 1) is) spells torn) turns follows each
-
-  -- once the write behind the gate has succeeded, the disk reads as these bodies with the further one whole behind the closed gate
-  pub behind_text : (bytes : List ℕ) → bytes ≡ written_behind body → g.reads new ≡ option_map (overwritten (gate + 1) bytes) (g.reads old)
+  -- once the write after the gate has succeeded, the disk reads as these bodies with the further one whole after the closed gate
+  pub behind_text : (bytes : List ℕ) → bytes ≡ bytes_after_gate body
+      → g.reads new ≡ option_map (text_after_write (gate + 1) bytes) (g.reads old)
       → EachImage g old (λ image. Spells image bodies) → IfSome (g.reads new) (IsStaged bodies body)
   behind_text bytes same written each =
-      if_map (overwritten (gate + 1) bytes) (λ text. Spells text bodies) (IsStaged bodies body) (g.reads old) (g.reads new)
-      (λ text spells. subst (λ (l : List ℕ). IsStaged bodies body (overwritten (gate + 1) l text)) (sym same) (staged bodies (gate + 1) body text (ap (λ (k : ℕ). k + 1) is) spells))
+      if_map (text_after_write (gate + 1) bytes) (λ text. Spells text bodies) (IsStaged bodies body) (g.reads old) (g.reads new)
+      (λ text spells. subst (λ (l : List ℕ). IsStaged bodies body (text_after_write (gate + 1) l text)) (sym same) (staged bodies (gate + 1) body text (ap (λ (k : ℕ). k + 1) is) spells))
       written (text_of_each g old (λ image. Spells image bodies) (left old) each)
 
   module _ (sized : IsBody body) where
-    -- where each image has the body whole behind the closed gate, a write at the gate leaves each with the body or without it
-    pub gate_ok : (n : ℕ) (f : List ℕ → List ℕ) → g.reads new ≡ option_map f (g.reads old) → Follows (Torn gate 1) (g.may_leave old) (g.may_leave new)
-        → EachImage g old (IsStaged bodies body) → EachImage g new (SpellsEither bodies body)
-    gate_ok n f written follows each =
-        each_written g old new (IsStaged bodies body) (SpellsEither bodies body) gate 1 f (λ d c staged torn. torn_gate bodies gate body d c is sized staged torn) written follows each
-
-    -- a write at the gate that fails leaves each image with the body or without it
-    pub gate_err : Turns (Torn gate 1) (g.reads old) (g.reads new) → Follows (Torn gate 1) (g.may_leave old) (g.may_leave new)
-        → EachImage g old (IsStaged bodies body) → EachImage g new (SpellsEither bodies body)
-    gate_err turns follows each =
-        each_torn g old new (IsStaged bodies body) (SpellsEither bodies body) gate 1 (λ d c staged torn. torn_gate bodies gate body d c is sized staged torn) turns follows each
+    -- if each image has the body whole after the closed gate, a write at the gate, whatever it returns, leaves each with
+    -- the body or without it
+    pub at_gate : {T E : Type 0} (r : Result T E) (byte : ℕ) → WritesAt g gate (byte ∷ []) old new r
+        → EachImage g old (IsStaged bodies body) → EachImage g new (SpellsEither bodies (body ∷ []))
+    at_gate r byte writes each =
+        each_written g old new r gate (byte ∷ []) (IsStaged bodies body) (SpellsEither bodies (body ∷ [])) (λ d c staged torn. torn_gate bodies gate body d c is sized staged torn) writes each
 
     -- once the write at the gate has succeeded, the disk reads as the longer list
-    pub gate_text : g.reads new ≡ option_map (overwritten gate (1 ∷ [])) (g.reads old) → EachImage g old (IsStaged bodies body)
+    pub gate_text : g.reads new ≡ option_map (text_after_write gate (1 ∷ [])) (g.reads old) → EachImage g old (IsStaged bodies body)
         → IfSome (g.reads new) (λ text. Spells text (bodies ++ body ∷ []))
     gate_text written each =
-        if_map (overwritten gate (1 ∷ [])) (IsStaged bodies body) (λ text. Spells text (bodies ++ body ∷ [])) (g.reads old) (g.reads new)
+        if_map (text_after_write gate (1 ∷ [])) (IsStaged bodies body) (λ text. Spells text (bodies ++ body ∷ [])) (g.reads old) (g.reads new)
         (λ text staged. stored bodies gate body text is sized staged)
         written (text_of_each g old (IsStaged bodies body) (left old) each)
+
+-- both writes of an append put the body's block and a closed gate over the gate that was closed, and no other byte
+both_writes : (gate : ℕ) (body bytes text : List ℕ) → bytes ≡ bytes_after_gate body → gate < length text
+    → text_after_write gate (1 ∷ []) (text_after_write (gate + 1) bytes text) ≡ text_after_write gate (block body ++ 0 ∷ []) text
+both_writes gate body bytes text same within =
+    let before = take (gate + 1) text in
+    let after = drop (gate + 1 + length bytes) text in
+    let long : length before ≡ gate + 1 = length-take-le (gate + 1) text (omega arith) in
+    let kept : take gate (before ++ bytes ++ after) ≡ take gate text =
+    ap (λ (l : List ℕ). take gate l) (append_assoc before bytes after) ∙ take-append-le gate before (bytes ++ after) (omega (arith, long)) ∙ take-take gate (gate + 1) text (omega arith) in
+    let rest : drop (gate + 1) (before ++ bytes ++ after) ≡ bytes ++ after =
+    ap (λ (l : List ℕ). drop (gate + 1) l) (append_assoc before bytes after) ∙ drop_at before (bytes ++ after) (gate + 1) long in
+    (λ i. kept i ++ (1 ∷ []) ++ rest i)
+    ∙ append_assoc (take gate text) (1 ∷ []) (bytes ++ after)
+    ∙ ap (λ (n : ℕ). take gate text ++ 1 ∷ (bytes ++ drop n text)) (let e : gate + 1 + length bytes ≡ gate + length (1 ∷ bytes) = omega arith in e)
+    ∙ sym (append_assoc (take gate text) (1 ∷ bytes) (drop (gate + length (1 ∷ bytes)) text))
+    ∙ ap (λ (l : List ℕ). text_after_write gate (1 ∷ l) text) same
+
+-- the same of a text that may not be reported
+pub both_written : (old : Option (List ℕ)) (gate : ℕ) (body bytes : List ℕ) → bytes ≡ bytes_after_gate body → IfSome old (HasClosedGate gate)
+    → option_map (text_after_write gate (1 ∷ [])) (option_map (text_after_write (gate + 1) bytes) old) ≡ option_map (text_after_write gate (block body ++ 0 ∷ [])) old
+both_written None gate body bytes same closed = refl
+both_written (Some text) gate body bytes same closed = ap Some (both_writes gate body bytes text same closed.0)

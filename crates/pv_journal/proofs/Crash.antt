@@ -4,12 +4,13 @@ use Rattle.std.proofs.lemmas.List.{take_at, drop_at, drop_more, flat_map_more, g
 use Rattle.std.proofs.lemmas.List.Elements.{All-push}
 use Rattle.std.proofs.lemmas.Bool.{cases_eq}
 use Rattle.std.specs.Int.{w16, to_be_bytes}
-use Rattle.pv_outside.specs.Disk.{Torn, overwritten}
+use Rattle.pv_outside.specs.Disk.{Torn, text_after_write}
 use Rattle.pv_journal.specs.declared.block.TheConstants.{MARK}
-use Rattle.pv_journal.specs.Text.{IsBody, block, front, Spells, SpellsEither, written_behind}
+use Rattle.pv_journal.specs.Text.{IsBody, block, text_of, Spells, SpellsEither, bytes_after_gate}
 
 -- a list that has the elements of a shorter one at its places begins with that one
-begins_with : (xs ys : List ℕ) → length xs ≤ length ys → ((i : ℕ) → i < length xs → get_or ys i 0 ≡ get_or xs i 0) → ys ≡ xs ++ drop (length xs) ys
+begins_with : (xs ys : List ℕ) → length xs ≤ length ys → ((i : ℕ) → i < length xs → get_or ys i 0 ≡ get_or xs i 0)
+    → ys ≡ xs ++ drop (length xs) ys
 begins_with [] ys le same = refl
 begins_with (x ∷ xs) [] le same = absurd (omega arith)
 begins_with (x ∷ xs) (y ∷ ys) le same =
@@ -23,8 +24,9 @@ keeps_front xs ys c at n before torn =
     begins_with xs c (omega (arith, torn.no_shorter, length-append xs ys)) (λ i h.
     torn.outside i (omega (arith, length-append xs ys)) (inl (omega arith)) ∙ get_or_append_left xs ys 0 i h)
 
--- a torn write of one byte leaves all other bytes up to the old end, whatever stands at that place and past the end
-keeps_back : (xs ys c : List ℕ) (g : ℕ) → Torn (length xs) 1 (xs ++ g ∷ ys) c → c ≡ xs ++ get_or c (length xs) 0 ∷ (ys ++ drop (length ys) (drop (length xs + 1) c))
+-- a torn write of one byte leaves all other bytes up to the old end, whatever is at that place and past the end
+keeps_back : (xs ys c : List ℕ) (g : ℕ) → Torn (length xs) 1 (xs ++ g ∷ ys) c
+    → c ≡ xs ++ get_or c (length xs) 0 ∷ (ys ++ drop (length ys) (drop (length xs + 1) c))
 keeps_back xs ys c g torn =
     let whole : length (xs ++ g ∷ ys) ≡ length xs + (length ys + 1) = omega (arith, length-append xs (g ∷ ys)) in
     let in_front = keeps_front xs (g ∷ ys) c (length xs) 1 (omega arith) torn in
@@ -36,22 +38,23 @@ keeps_back xs ys c g torn =
     ∙ get_or-append-add xs (g ∷ ys) (suc i) 0) in
     in_front ∙ ap (λ (l : List ℕ). xs ++ l) (drop_more c (length xs) 0 (omega (arith, torn.no_shorter, whole)) ∙ ap (λ (l : List ℕ). get_or c (length xs) 0 ∷ l) behind)
 
--- The bytes spell these bodies but for the gate behind them, which may be anything, and behind it stand a further body whole and a closed gate.
+-- The bytes spell these bodies but for the gate after them, which may be anything, and after it stand a further body whole and a closed gate.
 pub record IsStaged (bodies : List (List ℕ)) (body bytes : List ℕ) : Type 0 where
   pub gate : ℕ
   pub rest : List ℕ
-  pub text : bytes ≡ front bodies ++ gate ∷ (written_behind body ++ rest)
+  pub text : bytes ≡ text_of bodies ++ gate ∷ (bytes_after_gate body ++ rest)
   pub sizes : All IsBody bodies
 
--- to append a body, three bytes more than it has are written behind the gate
-pub length-written_behind : (body : List ℕ) → length (written_behind body) ≡ length body + 3
-length-written_behind body = omega (arith, length-append (to_be_bytes w16 (length body) ++ body) (0 ∷ []), length-append (to_be_bytes w16 (length body)) body)
+-- to append a body, three bytes more than it has are written after the gate
+pub length-bytes_after_gate : (body : List ℕ) → length (bytes_after_gate body) ≡ length body + 3
+length-bytes_after_gate body = omega (arith, length-append (to_be_bytes w16 (length body) ++ body) (0 ∷ []), length-append (to_be_bytes w16 (length body)) body)
 
--- with the gate in front of it open, the body that was written is the last that the bytes spell
-opened : (bodies : List (List ℕ)) (body rest : List ℕ) → front bodies ++ 1 ∷ (written_behind body ++ rest) ≡ front (bodies ++ body ∷ []) ++ 0 ∷ rest
+-- with the gate before it open, the body that was written is the last that the bytes spell
+opened : (bodies : List (List ℕ)) (body rest : List ℕ)
+    → text_of bodies ++ 1 ∷ (bytes_after_gate body ++ rest) ≡ text_of (bodies ++ body ∷ []) ++ 0 ∷ rest
 opened bodies body rest =
-    ap (λ (l : List ℕ). front bodies ++ 1 ∷ l) (append_assoc (to_be_bytes w16 (length body) ++ body) (0 ∷ []) rest)
-    ∙ sym (append_assoc (front bodies) (block body) (0 ∷ rest))
+    ap (λ (l : List ℕ). text_of bodies ++ 1 ∷ l) (append_assoc (to_be_bytes w16 (length body) ++ body) (0 ∷ []) rest)
+    ∙ sym (append_assoc (text_of bodies) (block body) (0 ∷ rest))
     ∙ ap (λ (l : List ℕ). l ++ 0 ∷ rest) (flat_map_more block MARK bodies body)
 
 -- a gate of 0 is closed
@@ -59,51 +62,53 @@ zero_is_closed : ◌≢◌ {A = ℕ} 0 1
 zero_is_closed e = omega arith
 
 module _ (bodies : List (List ℕ)) where
-  -- whatever a crash makes of a write behind the closed gate, the bytes spell the bodies that they spelled
-  pub torn_behind : (at n : ℕ) (d c : List ℕ) → at ≡ length (front bodies) + 1 → Spells d bodies → Torn at n d c → Spells c bodies
+  -- whatever a crash makes of a write after the closed gate, the bytes spell the bodies that they spelled
+  pub torn_behind : (at n : ℕ) (d c : List ℕ) → at ≡ length (text_of bodies) + 1 → Spells d bodies → Torn at n d c → Spells c bodies
   torn_behind at n d c is spells torn =
-      let closed_front = front bodies ++ spells.gate ∷ [] in
-      let split : d ≡ closed_front ++ spells.rest = spells.text ∙ sym (append_assoc (front bodies) (spells.gate ∷ []) spells.rest) in
-      let stands = keeps_front closed_front spells.rest c at n (omega (arith, length-append (front bodies) (spells.gate ∷ []))) (subst (λ (l : List ℕ). Torn at n l c) split torn) in
+      let closed_front = text_of bodies ++ spells.gate ∷ [] in
+      let split : d ≡ closed_front ++ spells.rest = spells.text ∙ sym (append_assoc (text_of bodies) (spells.gate ∷ []) spells.rest) in
+      let stands = keeps_front closed_front spells.rest c at n (omega (arith, length-append (text_of bodies) (spells.gate ∷ []))) (subst (λ (l : List ℕ). Torn at n l c) split torn) in
       record {
         gate = spells.gate;
         rest = drop (length closed_front) c;
-        text = stands ∙ append_assoc (front bodies) (spells.gate ∷ []) (drop (length closed_front) c);
+        text = stands ∙ append_assoc (text_of bodies) (spells.gate ∷ []) (drop (length closed_front) c);
         closed = spells.closed;
         sizes = spells.sizes;
       }
 
-  -- the first write of an append, where it succeeds, leaves the body whole behind the gate
-  pub staged : (at : ℕ) (body text : List ℕ) → at ≡ length (front bodies) + 1 → Spells text bodies → IsStaged bodies body (overwritten at (written_behind body) text)
+  -- the first write of an append, if it succeeds, leaves the body whole after the gate
+  pub staged : (at : ℕ) (body text : List ℕ) → at ≡ length (text_of bodies) + 1 → Spells text bodies
+      → IsStaged bodies body (text_after_write at (bytes_after_gate body) text)
   staged at body text is spells =
-      let closed_front = front bodies ++ spells.gate ∷ [] in
-      let split : text ≡ closed_front ++ spells.rest = spells.text ∙ sym (append_assoc (front bodies) (spells.gate ∷ []) spells.rest) in
-      let before : take at text ≡ closed_front = ap (λ (l : List ℕ). take at l) split ∙ take_at closed_front spells.rest at (omega (arith, length-append (front bodies) (spells.gate ∷ []))) in
-      let rest = drop (at + length (written_behind body)) text in
+      let closed_front = text_of bodies ++ spells.gate ∷ [] in
+      let split : text ≡ closed_front ++ spells.rest = spells.text ∙ sym (append_assoc (text_of bodies) (spells.gate ∷ []) spells.rest) in
+      let before : take at text ≡ closed_front = ap (λ (l : List ℕ). take at l) split ∙ take_at closed_front spells.rest at (omega (arith, length-append (text_of bodies) (spells.gate ∷ []))) in
+      let rest = drop (at + length (bytes_after_gate body)) text in
       record {
         gate = spells.gate;
         rest = rest;
-        text = ap (λ (l : List ℕ). l ++ written_behind body ++ rest) before
-            ∙ append_assoc closed_front (written_behind body) rest
-            ∙ append_assoc (front bodies) (spells.gate ∷ []) (written_behind body ++ rest);
+        text = ap (λ (l : List ℕ). l ++ bytes_after_gate body ++ rest) before
+            ∙ append_assoc closed_front (bytes_after_gate body) rest
+            ∙ append_assoc (text_of bodies) (spells.gate ∷ []) (bytes_after_gate body ++ rest);
         sizes = spells.sizes;
       }
 
-  -- whatever a crash makes of the write of the gate, the bytes spell the list without the body behind it or with it
-  pub torn_gate : (at : ℕ) (body text c : List ℕ) → at ≡ length (front bodies) → IsBody body → IsStaged bodies body text → Torn at 1 text c → SpellsEither bodies body c
+  -- whatever a crash makes of the write of the gate, the bytes spell the list without the body after it or with it
+  pub torn_gate : (at : ℕ) (body text c : List ℕ) → at ≡ length (text_of bodies) → IsBody body → IsStaged bodies body text
+      → Torn at 1 text c → SpellsEither bodies (body ∷ []) c
   torn_gate at body text c is sized staged torn =
-      let behind = written_behind body ++ staged.rest in
-      let torn_here : Torn (length (front bodies)) 1 (front bodies ++ staged.gate ∷ behind) c = subst (λ (l : List ℕ). Torn (length (front bodies)) 1 l c) staged.text (subst (λ (k : ℕ). Torn k 1 text c) is torn) in
-      let gate = get_or c (length (front bodies)) 0 in
-      let past = drop (length behind) (drop (length (front bodies) + 1) c) in
-      let stands : c ≡ front bodies ++ gate ∷ (behind ++ past) = keeps_back (front bodies) behind c staged.gate torn_here in
+      let behind = bytes_after_gate body ++ staged.rest in
+      let torn_here : Torn (length (text_of bodies)) 1 (text_of bodies ++ staged.gate ∷ behind) c = subst (λ (l : List ℕ). Torn (length (text_of bodies)) 1 l c) staged.text (subst (λ (k : ℕ). Torn k 1 text c) is torn) in
+      let gate = get_or c (length (text_of bodies)) 0 in
+      let past = drop (length behind) (drop (length (text_of bodies) + 1) c) in
+      let stands : c ≡ text_of bodies ++ gate ∷ (behind ++ past) = keeps_back (text_of bodies) behind c staged.gate torn_here in
       elim (cases_eq gate 1) [
         | inl is_open ↦ inr (record {
           gate = 0;
           rest = staged.rest ++ past;
           text = stands
-              ∙ ap (λ (l : List ℕ). front bodies ++ gate ∷ l) (append_assoc (written_behind body) staged.rest past)
-              ∙ ap (λ (k : ℕ). front bodies ++ k ∷ (written_behind body ++ (staged.rest ++ past))) is_open
+              ∙ ap (λ (l : List ℕ). text_of bodies ++ gate ∷ l) (append_assoc (bytes_after_gate body) staged.rest past)
+              ∙ ap (λ (k : ℕ). text_of bodies ++ k ∷ (bytes_after_gate body ++ (staged.rest ++ past))) is_open
               ∙ opened bodies body (staged.rest ++ past);
           closed = zero_is_closed;
           sizes = All-push IsBody bodies body staged.sizes sized;
@@ -111,21 +116,33 @@ module _ (bodies : List (List ℕ)) where
         | inr is_closed ↦ inl (record { gate = gate; rest = behind ++ past; text = stands; closed = is_closed; sizes = staged.sizes })
       ]
 
-  -- the write of the open gate, where it succeeds, makes the body the last of the list
-  pub stored : (at : ℕ) (body text : List ℕ) → at ≡ length (front bodies) → IsBody body → IsStaged bodies body text → Spells (overwritten at (1 ∷ []) text) (bodies ++ body ∷ [])
+  -- the write of the open gate, if it succeeds, makes the body the last of the list
+  pub stored : (at : ℕ) (body text : List ℕ) → at ≡ length (text_of bodies) → IsBody body → IsStaged bodies body text
+      → Spells (text_after_write at (1 ∷ []) text) (bodies ++ body ∷ [])
   stored at body text is sized staged =
-      let behind = written_behind body ++ staged.rest in
-      let before : take at text ≡ front bodies = ap (λ (l : List ℕ). take at l) staged.text ∙ take_at (front bodies) (staged.gate ∷ behind) at (sym is) in
+      let behind = bytes_after_gate body ++ staged.rest in
+      let before : take at text ≡ text_of bodies = ap (λ (l : List ℕ). take at l) staged.text ∙ take_at (text_of bodies) (staged.gate ∷ behind) at (sym is) in
       let after : drop (at + 1) text ≡ behind =
-      ap (λ (l : List ℕ). drop (at + 1) l) (staged.text ∙ sym (append_assoc (front bodies) (staged.gate ∷ []) behind))
-      ∙ drop_at (front bodies ++ staged.gate ∷ []) behind (at + 1) (omega (arith, length-append (front bodies) (staged.gate ∷ []))) in
+      ap (λ (l : List ℕ). drop (at + 1) l) (staged.text ∙ sym (append_assoc (text_of bodies) (staged.gate ∷ []) behind))
+      ∙ drop_at (text_of bodies ++ staged.gate ∷ []) behind (at + 1) (omega (arith, length-append (text_of bodies) (staged.gate ∷ []))) in
       record {
         gate = 0;
         rest = staged.rest;
         text = ap (λ (l : List ℕ). l ++ (1 ∷ []) ++ drop (at + 1) text) before
-            ∙ ap (λ (l : List ℕ). front bodies ++ (1 ∷ []) ++ l) after
-            ∙ append_assoc (front bodies) (1 ∷ []) behind
+            ∙ ap (λ (l : List ℕ). text_of bodies ++ (1 ∷ []) ++ l) after
+            ∙ append_assoc (text_of bodies) (1 ∷ []) behind
             ∙ opened bodies body staged.rest;
         closed = zero_is_closed;
         sizes = All-push IsBody bodies body staged.sizes sized;
       }
+
+-- an image is itself, torn or not
+pub torn_none : (at n : ℕ) (image : List ℕ) → Torn at n image image
+torn_none at n image = record { no_shorter = omega arith; outside = λ i h out. refl }
+
+-- what is torn twice in one range is torn in it
+pub torn_then : (at n : ℕ) (a b c : List ℕ) → Torn at n a b → Torn at n b c → Torn at n a c
+torn_then at n a b c first second = record {
+  no_shorter = omega (arith, first.no_shorter, second.no_shorter);
+  outside = λ i h out. second.outside i (omega (arith, first.no_shorter)) out ∙ first.outside i h out;
+}

@@ -1,26 +1,26 @@
 -- Worked examples of what stands on a disk, computed from the definitions.
 use Rattle.std.proofs.Common.{◌≡◌, inl, [], ◌∷◌, ◌++◌, replicate, codes, refl}
 use Rattle.pv_journal.specs.declared.block.TheConstants.{MAX_BODY}
-use Rattle.pv_journal.specs.Text.{front, first_eight, written_behind, IsBroken}
+use Rattle.pv_journal.specs.Text.{text_of, first_eight, bytes_after_gate, IsBroken}
 
 -- a body has at most 2,048 bytes
 pub longest_body : MAX_BODY ≡ 2048
 longest_body = refl
 
 -- a journal without bodies
-pub no_bodies : front [] ++ 0 ∷ [] ≡ codes "PVJOURN1" ++ 0 ∷ []
+pub no_bodies : text_of [] ++ 0 ∷ [] ≡ codes "PVJOURN1" ++ 0 ∷ []
 no_bodies = refl
 
 -- a journal with the one body AB: the mark, an open gate, the length 2, the body, and a closed gate
-pub one_body : front (codes "AB" ∷ []) ++ 0 ∷ [] ≡ codes "PVJOURN1" ++ 1 ∷ 0 ∷ 2 ∷ 65 ∷ 66 ∷ 0 ∷ []
+pub one_body : text_of (codes "AB" ∷ []) ++ 0 ∷ [] ≡ codes "PVJOURN1" ++ 1 ∷ 0 ∷ 2 ∷ 65 ∷ 66 ∷ 0 ∷ []
 one_body = refl
 
--- what was written behind the gate to append AB: its length, the body, and a closed gate
-pub one_written : written_behind (codes "AB") ≡ 0 ∷ 2 ∷ 65 ∷ 66 ∷ 0 ∷ []
+-- what was written after the gate to append AB: its length, the body, and a closed gate
+pub one_written : bytes_after_gate (codes "AB") ≡ 0 ∷ 2 ∷ 65 ∷ 66 ∷ 0 ∷ []
 one_written = refl
 
 -- the high byte of a length comes first
-pub high_first : written_behind (replicate 258 7) ≡ 1 ∷ 2 ∷ replicate 258 7 ++ 0 ∷ []
+pub high_first : bytes_after_gate (replicate 258 7) ≡ 1 ∷ 2 ∷ replicate 258 7 ++ 0 ∷ []
 high_first = refl
 
 -- the first eight bytes of a disk that has fewer

@@ -1,49 +1,57 @@
 -- How what each image of a disk has goes on over one call of the disk.
-use Rattle.std.proofs.Common.{◌≡◌, ℕ, List, Option, Some, None, IsSome, IfSome, Result, Ok, Err, OnOk, OnErr, sym, subst, refl}
+use Rattle.std.proofs.Common.{◌≡◌, ℕ, List, length, Option, Some, None, IsSome, IfSome, Result, Ok, Err, IsOk, OnOk, OnErr, sym, subst, refl}
 use Rattle.std.specs.Option.{option_map, ForSome}
-use Rattle.pv_outside.specs.Disk.{Torn, Follows, NoMore, Turns}
-use Rattle.pv_outside.specs.declared.disk.Disk as disk
+use Rattle.pv_outside.specs.Disk.{Torn, text_after_write, NoMore, Turns}
+use Rattle.pv_outside.specs.Calls.{WritesAt}
+use Rattle.pv_outside.specs.declared.reports.Reports as reports
 use Rattle.pv_journal.specs.Journal.{EachImage}
 
--- what holds whatever was answered holds after an error
+-- what holds whatever was returned holds after an error
 pub on_err : {T E P : Type 0} (r : Result T E) → P → OnErr r P
 on_err (Ok x) p = tt
 on_err (Err e) p = p
 
--- what holds whatever was answered holds after a success
+-- what holds where a call succeeded holds after a success
+pub if_ok : {T E P : Type 0} (r : Result T E) → (IsOk r → P) → OnOk r P
+if_ok (Ok x) p = p refl
+if_ok (Err e) p = tt
+
+-- what holds whatever was returned holds after a success
 pub on_ok : {T E P : Type 0} (r : Result T E) → P → OnOk r P
 on_ok (Ok x) p = p
 on_ok (Err e) p = tt
 
--- a `requires` on what is told, as a clause says it
+-- a `requires` on what is reported, as a clause says it
 pub if_told : (o : Option (List ℕ)) (P : List ℕ → Type 0) → ForSome o P → IfSome o P
 if_told (Some x) P all = all x refl
 if_told None P all = tt
 
--- what two facts on what is told give
+-- what two facts on what is reported give
 pub if_both : (o : Option (List ℕ)) (P Q R : List ℕ → Type 0) → ((x : List ℕ) → P x → Q x → R x) → IfSome o P → IfSome o Q → IfSome o R
 if_both (Some x) P Q R both p q = both x p q
 if_both None P Q R both p q = tt
 
--- a disk that tells what it reads after a write that failed told it before
+-- a disk that reports what it reads after a write that failed reported it before
 turns_told : (step : List ℕ → List ℕ → Type 0) (old new : Option (List ℕ)) → Turns step old new → IsSome new → IsSome old
 turns_told step (Some a) (Some b) turns told = refl
 turns_told step (Some a) None turns told = refl
 turns_told step None (Some b) turns told = absurd turns
 turns_told step None None turns told = told
 
--- a disk that tells what it reads after a write that succeeded told it before
+-- a disk that reports what it reads after a write that succeeded reported it before
 map_told : (f : List ℕ → List ℕ) (old new : Option (List ℕ)) → new ≡ option_map f old → IsSome new → IsSome old
 map_told f (Some a) new is told = refl
 map_told f None new is told = subst (λ (o : Option (List ℕ)). IsSome o) is told
 
--- where a write gives each text with P one with Q, a disk that read as one with P reads as one with Q
-pub if_map : (f : List ℕ → List ℕ) (P Q : List ℕ → Type 0) (old new : Option (List ℕ)) → ((x : List ℕ) → P x → Q (f x)) → new ≡ option_map f old → IfSome old P → IfSome new Q
+-- if a write gives each text with P one with Q, a disk that read as one with P reads as one with Q
+pub if_map : (f : List ℕ → List ℕ) (P Q : List ℕ → Type 0) (old new : Option (List ℕ)) → ((x : List ℕ) → P x → Q (f x))
+    → new ≡ option_map f old → IfSome old P → IfSome new Q
 if_map f P Q (Some a) new step is p = subst (λ (o : Option (List ℕ)). IfSome o Q) (sym is) (step a p)
 if_map f P Q None new step is p = subst (λ (o : Option (List ℕ)). IfSome o Q) (sym is) tt
 
--- where a failed write makes of each text with P one with Q, a disk that read as one with P reads as one with Q
-pub if_turns : (step : List ℕ → List ℕ → Type 0) (P Q : List ℕ → Type 0) (old new : Option (List ℕ)) → ((x y : List ℕ) → P x → step x y → Q y) → Turns step old new → IfSome old P → IfSome new Q
+-- if a failed write makes of each text with P one with Q, a disk that read as one with P reads as one with Q
+pub if_turns : (step : List ℕ → List ℕ → Type 0) (P Q : List ℕ → Type 0) (old new : Option (List ℕ))
+    → ((x y : List ℕ) → P x → step x y → Q y) → Turns step old new → IfSome old P → IfSome new Q
 if_turns step P Q (Some a) (Some b) next turns p = next a b p turns
 if_turns step P Q (Some a) None next turns p = tt
 if_turns step P Q None (Some b) next turns p = absurd turns
@@ -54,34 +62,37 @@ is_text : (o : Option (List ℕ)) (L P : List ℕ → Type 0) → IfSome o L →
 is_text (Some text) L P left each = each refl text left
 is_text None L P left each = tt
 
--- where a crash leaves only what the disk reads as, each image has what that text has
-only_text : (o : Option (List ℕ)) (L P : List ℕ → Type 0) → IfSome o (λ text. (image : List ℕ) → L image → image ≡ text) → IfSome o P → IsSome o → (image : List ℕ) → L image → P image
+-- if a crash leaves only what the disk reads as, each image has what that text has
+only_text : (o : Option (List ℕ)) (L P : List ℕ → Type 0) → IfSome o (λ text. (image : List ℕ) → L image → image ≡ text) → IfSome o P
+    → IsSome o → (image : List ℕ) → L image → P image
 only_text (Some text) L P durable p told image left = subst P (sym (durable image left)) p
 only_text None L P durable p told image left = absurd (cc told)
 
-module _ {D F : Type 0} (g : disk.Ghosts D F) where
+module _ {D : Type 0} (g : reports.Ghosts D) where
   -- what each image has, the disk has as it reads
   pub text_of_each : (d : D) (P : List ℕ → Type 0) → IfSome (g.reads d) (g.may_leave d) → EachImage g d P → IfSome (g.reads d) P
   text_of_each d P left each = is_text (g.reads d) (g.may_leave d) P left each
 
   -- a call that wrote nothing leaves each image what all had before
-  pub each_kept : (old new : D) (P : List ℕ → Type 0) → g.reads new ≡ g.reads old → NoMore (g.may_leave old) (g.may_leave new) → EachImage g old P → EachImage g new P
+  pub each_kept : (old new : D) (P : List ℕ → Type 0) → g.reads new ≡ g.reads old → NoMore (g.may_leave old) (g.may_leave new)
+      → EachImage g old P → EachImage g new P
   each_kept old new P same no_more each told image left = each (subst (λ (o : Option (List ℕ)). IsSome o) same told) image (no_more image left)
 
-  -- after a write that succeeded each image has Q, where each torn image of those with P does
-  pub each_written : (old new : D) (P Q : List ℕ → Type 0) (at n : ℕ) (f : List ℕ → List ℕ) → ((d c : List ℕ) → P d → Torn at n d c → Q c)
-      → g.reads new ≡ option_map f (g.reads old) → Follows (Torn at n) (g.may_leave old) (g.may_leave new) → EachImage g old P → EachImage g new Q
-  each_written old new P Q at n f step written follows each told image left =
-      let from = follows image left in
-      step from.0 image (each (map_told f (g.reads old) (g.reads new) written told) from.0 from.1) from.2
+  -- a disk that reports what it reads after a write reported it before
+  pub writes_told : {T E : Type 0} (old new : D) (r : Result T E) (at : ℕ) (bytes : List ℕ) → WritesAt g at bytes old new r
+      → IsSome (g.reads new) → IsSome (g.reads old)
+  writes_told old new (Ok x) at bytes writes = map_told (text_after_write at bytes) (g.reads old) (g.reads new) writes.written
+  writes_told old new (Err e) at bytes writes = turns_told (Torn at (length bytes)) (g.reads old) (g.reads new) writes.torn
 
-  -- after a write that failed each image has Q, where each torn image of those with P does
-  pub each_torn : (old new : D) (P Q : List ℕ → Type 0) (at n : ℕ) → ((d c : List ℕ) → P d → Torn at n d c → Q c)
-      → Turns (Torn at n) (g.reads old) (g.reads new) → Follows (Torn at n) (g.may_leave old) (g.may_leave new) → EachImage g old P → EachImage g new Q
-  each_torn old new P Q at n step turns follows each told image left =
-      let from = follows image left in
-      step from.0 image (each (turns_told (Torn at n) (g.reads old) (g.reads new) turns told) from.0 from.1) from.2
+  -- after a write each image has Q, if each torn image of those with P does
+  pub each_written : {T E : Type 0} (old new : D) (r : Result T E) (at : ℕ) (bytes : List ℕ) (P Q : List ℕ → Type 0)
+      → ((d c : List ℕ) → P d → Torn at (length bytes) d c → Q c)
+      → WritesAt g at bytes old new r → EachImage g old P → EachImage g new Q
+  each_written old new r at bytes P Q step writes each told image left =
+      let from = writes.images image left in
+      step from.0 image (each (writes_told old new r at bytes writes told) from.0 from.1) from.2
 
   -- after a sync that succeeded, of a disk that reads as bytes with P, each image has P
-  pub each_synced : (new : D) (P : List ℕ → Type 0) → IfSome (g.reads new) (λ text. (image : List ℕ) → g.may_leave new image → image ≡ text) → IfSome (g.reads new) P → EachImage g new P
+  pub each_synced : (new : D) (P : List ℕ → Type 0)
+      → IfSome (g.reads new) (λ text. (image : List ℕ) → g.may_leave new image → image ≡ text) → IfSome (g.reads new) P → EachImage g new P
   each_synced new P durable reads = only_text (g.reads new) (g.may_leave new) P durable reads

@@ -5,7 +5,8 @@ mod Counted
 mod Crash
 mod Facts
 mod Gates
-mod Images
+pub mod Images
+pub mod Moments
 mod Reading
 mod Settle
 mod Unique

@@ -5,10 +5,10 @@ use Rattle.std.proofs.Math.Seq.{take-append-add}
 use Rattle.std.proofs.lemmas.Nat.{be_bytes_2}
 use Rattle.std.specs.List.{slice_range}
 use Rattle.std.specs.Int.{w16, to_be_bytes, from_be_bytes}
-use Rattle.pv_journal.specs.Block.{IsWhole}
+use Rattle.pv_journal.specs.Block.{HasBlockOf}
 use Rattle.pv_journal.specs.Text.{block, HasBlock, IsClosed, IsBroken, first_eight}
 use Rattle.std.proofs.lemmas.Bool.{cases_lt}
-use Rattle.pv_journal.specs.declared.block.TheConstants.{MARK}
+use Rattle.pv_journal.specs.declared.block.TheConstants.{MARK, MAX_BLOCK}
 
 -- both of two bytes below 256 are
 two_bytes : (high low : ℕ) → high < 256 → low < 256 → (i : ℕ) → get_or (high ∷ low ∷ []) i 0 < 256
@@ -16,9 +16,10 @@ two_bytes high low h l zero = h
 two_bytes high low h l (suc zero) = l
 two_bytes high low h l (suc (suc i)) = omega arith
 
--- an open gate, a length in range, and at least so many bytes are a block
-pub has_block : (bytes : List ℕ) (size : ℕ) → 3 ≤ length bytes → get_or bytes 0 0 ≡ 1 → size ≡ get_or bytes 1 0 * 256 + get_or bytes 2 0 → get_or bytes 1 0 < 256 → get_or bytes 2 0 < 256
-    → 0 < size → size ≤ 2048 → size ≤ length bytes - 3 → IsWhole size bytes
+-- an open gate, a length in range, and at least this many bytes are a block
+pub has_block : (bytes : List ℕ) (size : ℕ) → 3 ≤ length bytes → get_or bytes 0 0 ≡ 1 → size ≡ get_or bytes 1 0 * 256 + get_or bytes 2 0
+    → get_or bytes 1 0 < 256 → get_or bytes 2 0 < 256
+    → 0 < size → size ≤ 2048 → size ≤ length bytes - 3 → HasBlockOf size bytes
 has_block [] size long open_gate is high low some most within = absurd (omega arith)
 has_block (a ∷ []) size long open_gate is high low some most within = absurd (omega arith)
 has_block (a ∷ b ∷ []) size long open_gate is high low some most within = absurd (omega arith)
@@ -48,7 +49,8 @@ marked text same = elim (cases_lt (length text) 8) [
 ]
 
 -- what a read puts over eight zeros are the first eight bytes
-pub first_read : (text into : List ℕ) (held : ℕ) → held ≡ min (length text) 8 → into ≡ take held text → into ++ drop held (replicate 8 0) ≡ first_eight text
+pub first_read : (text into : List ℕ) (held : ℕ) → held ≡ min (length text) 8 → into ≡ take held text
+    → into ++ drop held (replicate 8 0) ≡ first_eight text
 first_read text into held is read = elim (cases_lt (length text) 8) [
   | inl short ↦
       let all : held ≡ length text = omega arith in
@@ -65,29 +67,31 @@ first_read text into held is read = elim (cases_lt (length text) 8) [
       (λ i. (read ∙ ap (λ (k : ℕ). take k text) all) i ++ nothing i) ∙ append-nil (take 8 text) ∙ sym (take-append-le 8 text (replicate 8 0) long)
 ]
 
--- what a read of at most a longest block gives is the front of what stands at the gate
-pub block_read : (text into rest : List ℕ) (gate held : ℕ) → held ≡ min (length text - gate) 2051 → gate ≤ length text → into ≡ take held (drop gate text) → take held (into ++ rest) ≡ take 2051 (drop gate text)
+-- what a read of at most a longest block gives is the first part of what is at the gate
+pub block_read : (text into rest : List ℕ) (gate held : ℕ) → held ≡ min (length text - gate) MAX_BLOCK → gate ≤ length text
+    → into ≡ take held (drop gate text) → take held (into ++ rest) ≡ take MAX_BLOCK (drop gate text)
 block_read text into rest gate held is within read =
     let size : length into ≡ held = ap length read ∙ length-take-le held (drop gate text) (omega (arith, length-drop gate text)) in
-    let same : take held (drop gate text) ≡ take 2051 (drop gate text) =
-    ap (λ (k : ℕ). take k (drop gate text)) (let e : held ≡ min 2051 (length (drop gate text)) = omega (arith, length-drop gate text) in e) ∙ take_min 2051 (drop gate text) in
+    let same : take held (drop gate text) ≡ take MAX_BLOCK (drop gate text) =
+    ap (λ (k : ℕ). take k (drop gate text)) (let e : held ≡ min MAX_BLOCK (length (drop gate text)) = omega (arith, length-drop gate text) in e) ∙ take_min MAX_BLOCK (drop gate text) in
     take_at into rest held size ∙ read ∙ same
 
 -- at a gate stands what a read of at most a longest block there shows: a closed gate
-closed_there : (rest : List ℕ) → IsClosed (take 2051 rest) → IsClosed rest
+closed_there : (rest : List ℕ) → IsClosed (take MAX_BLOCK rest) → IsClosed rest
 closed_there [] closed = closed
 closed_there (gate ∷ rest) closed = closed
 
 -- the block that such a read shows
-block_there : (rest : List ℕ) (size : ℕ) → HasBlock (take 2051 rest) (take size (drop 3 (take 2051 rest))) → HasBlock rest (take size (drop 3 (take 2051 rest)))
+block_there : (rest : List ℕ) (size : ℕ) → HasBlock (take MAX_BLOCK rest) (take size (drop 3 (take MAX_BLOCK rest)))
+    → HasBlock rest (take size (drop 3 (take MAX_BLOCK rest)))
 block_there rest size has = record {
-  rest = has.rest ++ drop 2051 rest;
-  text = sym (take-append-drop 2051 rest) ∙ ap (λ (l : List ℕ). l ++ drop 2051 rest) has.text ∙ append_assoc (block (take size (drop 3 (take 2051 rest)))) has.rest (drop 2051 rest);
+  rest = has.rest ++ drop MAX_BLOCK rest;
+  text = sym (take-append-drop MAX_BLOCK rest) ∙ ap (λ (l : List ℕ). l ++ drop MAX_BLOCK rest) has.text ∙ append_assoc (block (take size (drop 3 (take MAX_BLOCK rest)))) has.rest (drop MAX_BLOCK rest);
   size = has.size;
 }
 
 -- the broken gate that such a read shows
-broken_there : (rest : List ℕ) → IsBroken (take 2051 rest) → IsBroken rest
+broken_there : (rest : List ℕ) → IsBroken (take MAX_BLOCK rest) → IsBroken rest
 broken_there [] broken = tt
 broken_there (gate ∷ []) broken = broken
 broken_there (gate ∷ high ∷ []) broken = broken
@@ -99,22 +103,24 @@ broken_there (gate ∷ high ∷ low ∷ rest) broken = (broken.0, ⊎_elim (λ n
       | inr h ↦ inl (omega (arith, length-take 2048 rest))
     ]
 
--- where the bytes of at most a longest block begin with a closed gate, one stands there
-pub closed_at : (bytes rest : List ℕ) → bytes ≡ take 2051 rest → IsClosed bytes → IsClosed rest
+-- if the bytes of at most a longest block begin with a closed gate, one is there
+pub closed_at : (bytes rest : List ℕ) → bytes ≡ take MAX_BLOCK rest → IsClosed bytes → IsClosed rest
 closed_at bytes rest is closed = closed_there rest (subst IsClosed is closed)
 
--- where they begin with a broken gate, one stands there
-pub broken_at : (bytes rest : List ℕ) → bytes ≡ take 2051 rest → IsBroken bytes → IsBroken rest
+-- if they begin with a broken gate, one is there
+pub broken_at : (bytes rest : List ℕ) → bytes ≡ take MAX_BLOCK rest → IsBroken bytes → IsBroken rest
 broken_at bytes rest is broken = broken_there rest (subst IsBroken is broken)
 
--- where they begin with a block, the block of that body stands there
-pub block_at : (bytes rest body : List ℕ) (size : ℕ) → bytes ≡ take 2051 rest → body ≡ take size (drop 3 bytes) → HasBlock bytes (take size (drop 3 bytes)) → HasBlock rest body
+-- if they begin with a block, the block of that body is there
+pub block_at : (bytes rest body : List ℕ) (size : ℕ) → bytes ≡ take MAX_BLOCK rest → body ≡ take size (drop 3 bytes)
+    → HasBlock bytes (take size (drop 3 bytes)) → HasBlock rest body
 block_at bytes rest body size is same has =
     subst (λ (b : List ℕ). HasBlock rest b) (ap (λ (l : List ℕ). take size (drop 3 l)) (sym is) ∙ sym same)
     (block_there rest size (subst (λ (l : List ℕ). HasBlock l (take size (drop 3 l))) is has))
 
 -- what was copied out of a block is its body
-pub copied : (into rest bytes : List ℕ) (size : ℕ) → into ≡ slice_range bytes 3 (3 + size) → length (take size (drop 3 bytes)) ≡ size → take size (into ++ rest) ≡ take size (drop 3 bytes)
+pub copied : (into rest bytes : List ℕ) (size : ℕ) → into ≡ slice_range bytes 3 (3 + size) → length (take size (drop 3 bytes)) ≡ size
+    → take size (into ++ rest) ≡ take size (drop 3 bytes)
 copied into rest bytes size copy whole =
     let same : into ≡ take size (drop 3 bytes) = copy ∙ ap (λ (k : ℕ). take k (drop 3 bytes)) (let e : 3 + size - 3 ≡ size = omega arith in e) in
     take_at into rest size (ap length same ∙ whole) ∙ same

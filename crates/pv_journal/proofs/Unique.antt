@@ -8,9 +8,9 @@ use Rattle.std.proofs.lemmas.Nat.{from_be_bytes-to_be_bytes_2}
 use Rattle.std.specs.List.{flat_map}
 use Rattle.std.specs.Int.{w16, to_be_bytes, from_be_bytes}
 use Rattle.pv_journal.specs.declared.block.TheConstants.{MARK}
-use Rattle.pv_journal.specs.Text.{IsBody, block, front, Spells, IsClosed, HasBlock, IsBroken}
+use Rattle.pv_journal.specs.Text.{IsBody, block, text_of, Spells, IsClosed, HasBlock, IsBroken}
 
--- behind the mark, or behind some of the bodies, stand the blocks of these and a closed gate
+-- after the mark, or after some of the bodies, stand the blocks of these and a closed gate
 pub record Follows (rest : List ℕ) (bodies : List (List ℕ)) : Type 0 where
   pub gate : ℕ
   pub behind : List ℕ
@@ -18,7 +18,7 @@ pub record Follows (rest : List ℕ) (bodies : List (List ℕ)) : Type 0 where
   pub closed : gate ≢ 1
   pub sizes : All IsBody bodies
 
--- two blocks at the front of the same bytes are of one body
+-- two blocks at the beginning of the same bytes are of one body
 same_block : (a b x y : List ℕ) → IsBody a → IsBody b → block a ++ x ≡ block b ++ y → (a ≡ b) × (x ≡ y)
 same_block a b x y sized_a sized_b same =
     let digits : to_be_bytes w16 (length a) ≡ to_be_bytes w16 (length b) = cc in
@@ -28,7 +28,7 @@ same_block a b x y sized_a sized_b same =
     let body : a ≡ b = sym (take_at a x (length a) refl) ∙ ap (λ (l : List ℕ). take (length a) l) rest ∙ take_at b y (length a) (sym size) in
     (body, append_cancel_left b x y (ap (λ (l : List ℕ). l ++ x) (sym body) ∙ rest))
 
--- behind a closed gate there is no further body
+-- after a closed gate there is no further body
 pub closed_none : (rest : List ℕ) (more : List (List ℕ)) → Follows rest more → IsClosed rest → more ≡ []
 closed_none rest [] follows closed = refl
 closed_none [] (body ∷ more) follows closed = absurd closed
@@ -36,8 +36,9 @@ closed_none (g ∷ rest) (body ∷ more) follows closed =
     let is_open : g ≡ 1 = cc (follows.text) in
     absurd (closed is_open)
 
--- where the block of a body stands, that body is the first of those that follow
-pub first_is : (rest body : List ℕ) (more : List (List ℕ)) → Follows rest more → HasBlock rest body → (others : List (List ℕ)) × (more ≡ body ∷ others)
+-- if the block of a body stands, that body is the first of those that follow
+pub first_is : (rest body : List ℕ) (more : List (List ℕ)) → Follows rest more → HasBlock rest body
+    → (others : List (List ℕ)) × (more ≡ body ∷ others)
 first_is rest body [] follows has =
     let same : follows.gate ∷ follows.behind ≡ block body ++ has.rest = sym follows.text ∙ has.text in
     let is_open : follows.gate ≡ 1 = cc in
@@ -54,7 +55,7 @@ open_if_broken gate [] broken = broken
 open_if_broken gate (high ∷ []) broken = broken
 open_if_broken gate (high ∷ low ∷ rest) broken = broken.0
 
--- where bodies follow, or a closed gate, the bytes are not broken
+-- if bodies follow, or a closed gate, the bytes are not broken
 pub never_broken : (rest : List ℕ) (more : List (List ℕ)) → Follows rest more → IsBroken rest → ⊥
 never_broken rest [] follows broken = follows.closed (open_if_broken follows.gate follows.behind (subst IsBroken follows.text broken))
 never_broken rest (body ∷ more) follows broken =
@@ -64,28 +65,30 @@ never_broken rest (body ∷ more) follows broken =
     let size : from_be_bytes w16 (to_be_bytes w16 (length body)) ≡ length body = from_be_bytes-to_be_bytes_2 (length body) (omega (arith, sized)) in
     ⊎_elim (λ none. omega (arith, none, size, sized)) (⊎_elim (λ long. omega (arith, long, size, sized)) (λ short. omega (arith, short, size, length-append body behind))) there.1
 
--- of a text that spells some bodies and more, what stands behind the first ones are the others
-pub follows_front : (bodies more : List (List ℕ)) (text rest : List ℕ) → text ≡ front bodies ++ rest → Spells text (bodies ++ more) → Follows rest more
+-- of a text that spells some bodies and more, what stands after the first ones are the others
+pub follows_front : (bodies more : List (List ℕ)) (text rest : List ℕ) → text ≡ text_of bodies ++ rest → Spells text (bodies ++ more)
+    → Follows rest more
 follows_front bodies more text rest begins spells =
-    let whole : front bodies ++ rest ≡ front bodies ++ (flat_map block more ++ spells.gate ∷ spells.rest) =
+    let whole : text_of bodies ++ rest ≡ text_of bodies ++ (flat_map block more ++ spells.gate ∷ spells.rest) =
     sym begins ∙ spells.text
     ∙ ap (λ (l : List ℕ). MARK ++ l ++ spells.gate ∷ spells.rest) (flat_map-append block bodies more)
     ∙ ap (λ (l : List ℕ). l ++ spells.gate ∷ spells.rest) (sym (append_assoc MARK (flat_map block bodies) (flat_map block more)))
-    ∙ append_assoc (front bodies) (flat_map block more) (spells.gate ∷ spells.rest) in
+    ∙ append_assoc (text_of bodies) (flat_map block more) (spells.gate ∷ spells.rest) in
     record {
       gate = spells.gate;
       behind = spells.rest;
-      text = append_cancel_left (front bodies) rest (flat_map block more ++ spells.gate ∷ spells.rest) whole;
+      text = append_cancel_left (text_of bodies) rest (flat_map block more ++ spells.gate ∷ spells.rest) whole;
       closed = spells.closed;
       sizes = λ k d h. subst IsBody (get_or-append-add bodies more k d) (spells.sizes (length bodies + k) d (omega (arith, length-append bodies more)));
     }
 
--- a text that begins with some bodies, with a closed gate behind them, spells these
-pub spells_front : (bodies : List (List ℕ)) (text rest : List ℕ) → text ≡ front bodies ++ rest → IsClosed rest → All IsBody bodies → Spells text bodies
+-- a text that begins with some bodies, with a closed gate after them, spells these
+pub spells_front : (bodies : List (List ℕ)) (text rest : List ℕ) → text ≡ text_of bodies ++ rest → IsClosed rest → All IsBody bodies
+    → Spells text bodies
 spells_front bodies text [] begins closed sizes = absurd closed
 spells_front bodies text (gate ∷ rest) begins closed sizes = record { gate = gate; rest = rest; text = begins; closed = closed; sizes = sizes }
 
--- what stands behind some bodies is the text of at most one list of further ones
+-- what stands after some bodies is the text of at most one list of further ones
 same_following : (rest : List ℕ) (one other : List (List ℕ)) → Follows rest one → Follows rest other → one ≡ other
 same_following rest [] other a b = sym (closed_none rest other b (subst IsClosed (sym a.text) a.closed))
 same_following rest (body ∷ one) [] a b = closed_none rest (body ∷ one) a (subst IsClosed (sym b.text) b.closed)
@@ -107,7 +110,9 @@ same_spelled text one other a b =
     same_following rest one other (follows_front [] one text rest (a.text ∙ append_assoc MARK (flat_map block one) (a.gate ∷ a.rest)) a)
     (follows_front [] other text rest (a.text ∙ append_assoc MARK (flat_map block one) (a.gate ∷ a.rest)) b)
 
--- on a disk that spells the bodies that were read and more, these others stand at the gate
-pub follows_on_disk : (o : Option (List ℕ)) (gate : ℕ) (bodies more : List (List ℕ)) (text : List ℕ) → IfSome o (λ text. text ≡ front bodies ++ drop gate text) → o ≡ Some text → Spells text (bodies ++ more) → Follows (drop gate text) more
+-- on a disk that spells the bodies that were read and more, these others are at the gate
+pub follows_on_disk : (o : Option (List ℕ)) (gate : ℕ) (bodies more : List (List ℕ)) (text : List ℕ)
+    → IfSome o (λ text. text ≡ text_of bodies ++ drop gate text) → o ≡ Some text → Spells text (bodies ++ more)
+    → Follows (drop gate text) more
 follows_on_disk o gate bodies more text begins is spells =
-    follows_front bodies more text (drop gate text) (MatchOption-at_some _ (λ (t : List ℕ). t ≡ front bodies ++ drop gate t) text is begins) spells
+    follows_front bodies more text (drop gate text) (MatchOption-at_some _ (λ (t : List ℕ). t ≡ text_of bodies ++ drop gate t) text is begins) spells

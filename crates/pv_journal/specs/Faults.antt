@@ -8,29 +8,36 @@ use Rattle.pv_journal.specs.declared.fault.OpenFault.TheVariants.{Disk, NotForma
 use Rattle.pv_journal.specs.declared.fault.AppendFault.{AppendFault}
 use Rattle.pv_journal.specs.declared.fault.AppendFault.TheVariants.{Disk as AppendDisk, Full}
 
+-- The journal was full, of this limit, and is as it was.
+pub record IsFull {D : Type 0} (old new : Log D) (count : ℕ) : Type 0 where
+  pub shown : count ≡ old.limit
+  pub full : old.count ≡ old.limit
+  pub same : new ≡ old
+
 module _ {D F : Type 0} where
   -- a call of the disk failed
   abbrev pub IsDiskFault : OpenFault D F → Type 0
   IsDiskFault (Disk failure) = Unit {0}
-  IsDiskFault (NotFormatted kept) = ⊥
-  IsDiskFault (Broken at) = ⊥
-  IsDiskFault (TooMany count) = ⊥
+  IsDiskFault _ = ⊥
 
-  -- at the start, whatever the disk tells: the bytes that were kept are not the mark
+  -- a reading ended at a call of the disk that failed
+  abbrev pub ReadFailsOnDisk : {T : Type 0} → Result T (OpenFault D F) → Type 0
+  ReadFailsOnDisk (Ok value) = ⊥
+  ReadFailsOnDisk (Err fault) = IsDiskFault fault
+
+  -- at the start, whatever the disk reports: the bytes that were kept are not the mark
   abbrev pub IsStartFault : OpenFault D F → Type 0
   IsStartFault (Disk failure) = Unit {0}
   IsStartFault (NotFormatted kept) = kept ≢ MARK
-  IsStartFault (Broken at) = ⊥
-  IsStartFault (TooMany count) = ⊥
+  IsStartFault _ = ⊥
 
   -- at the start, on a disk of these bytes: its first eight are not the mark, and were kept
   abbrev pub StartFaultShows : List ℕ → OpenFault D F → Type 0
   StartFaultShows text (Disk failure) = Unit {0}
   StartFaultShows text (NotFormatted kept) = (kept ≡ first_eight text) × (first_eight text ≢ MARK)
-  StartFaultShows text (Broken at) = ⊥
-  StartFaultShows text (TooMany count) = ⊥
+  StartFaultShows text _ = ⊥
 
-  -- the next body, whatever the disk tells
+  -- the next body, whatever the disk reports
   abbrev pub IsNext : Log D → Result (Option ℕ) (OpenFault D F) → Type 0
   IsNext log (Ok (Some n)) = (0 < n) × (n ≤ MAX_BODY) × (log.count < log.limit)
   IsNext log (Ok None) = Unit {0}
@@ -39,14 +46,14 @@ module _ {D F : Type 0} where
   IsNext log (Err (Broken at)) = at ≡ log.gate
   IsNext log (Err (TooMany count)) = (count ≡ log.limit) × (log.count ≡ log.limit)
 
-  -- the next body, by the bytes that stand at the gate: they exclude one another
-  abbrev pub NextShows : List ℕ → Log D → List ℕ → Result (Option ℕ) (OpenFault D F) → Type 0
-  NextShows text log into (Ok (Some n)) = HasBlock (drop log.gate text) (take n into)
-  NextShows text log into (Ok None) = IsClosed (drop log.gate text)
-  NextShows text log into (Err (Disk failure)) = Unit {0}
-  NextShows text log into (Err (NotFormatted kept)) = ⊥
-  NextShows text log into (Err (Broken at)) = IsBroken (drop log.gate text)
-  NextShows text log into (Err (TooMany count)) = (body : List ℕ) × HasBlock (drop log.gate text) body
+  -- the next body, by the bytes at the gate: the cases exclude one another
+  abbrev pub NextShows : List ℕ → ℕ → List ℕ → Result (Option ℕ) (OpenFault D F) → Type 0
+  NextShows text gate into (Ok (Some n)) = HasBlock (drop gate text) (take n into)
+  NextShows text gate into (Ok None) = IsClosed (drop gate text)
+  NextShows text gate into (Err (Disk failure)) = Unit {0}
+  NextShows text gate into (Err (NotFormatted kept)) = ⊥
+  NextShows text gate into (Err (Broken at)) = (at ≡ gate) × IsBroken (drop gate text)
+  NextShows text gate into (Err (TooMany count)) = (body : List ℕ) × HasBlock (drop gate text) body
 
   -- the next body, on a disk that spells those that were read and then these
   abbrev pub NextSpells : List (List ℕ) → List ℕ → Result (Option ℕ) (OpenFault D F) → Type 0
@@ -62,7 +69,7 @@ module _ {D F : Type 0} where
   IsAppendDiskFault (AppendDisk failure) = Unit {0}
   IsAppendDiskFault (Full count) = ⊥
 
-  -- the journal was full, of this limit, and is as it was; or there was room
-  abbrev pub IsFull : Log D → Log D → AppendFault D F → Type 0
-  IsFull old new (AppendDisk failure) = old.count < old.limit
-  IsFull old new (Full count) = (count ≡ old.limit) × (old.count ≡ old.limit) × (new ≡ old)
+  -- an append ended at a call of the disk that failed
+  abbrev pub FailsOnDisk : {T : Type 0} → Result T (AppendFault D F) → Type 0
+  FailsOnDisk (Ok value) = ⊥
+  FailsOnDisk (Err fault) = IsAppendDiskFault fault

@@ -1,3 +1,4 @@
+pub mod Appending
 pub mod Block
 pub mod Faults
 pub mod Journal

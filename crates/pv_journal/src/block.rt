@@ -2,15 +2,24 @@ ghost use Rattle.std.specs.Prelude.{◌≡◌, ℕ, ◌+◌, ◌≤◌};
 ghost use Rattle.pv_journal.specs.Block.{BeginsWith};
 
 /// The first eight bytes of a formatted disk.
-pub const MARK: [u8; 8] = [b'P', b'V', b'J', b'O', b'U', b'R', b'N', b'1'];
+pub const MARK: [u8; MARK_SIZE] = [b'P', b'V', b'J', b'O', b'U', b'R', b'N', b'1'];
 
 /// The longest body, in bytes.
 pub const MAX_BODY: usize = 2048;
 
-/// How many bytes the longest block has.
-pub(crate) const MAX_BLOCK: usize = MAX_BODY + 3;
+/// How many bytes the mark has.
+pub(crate) const MARK_SIZE: usize = 8;
 
-/// What stands behind the bodies that were read.
+/// How many bytes a block has before its body: its gate, and the body's length in two.
+pub(crate) const HEAD_SIZE: usize = 3;
+
+/// How many bytes a journal without bodies has: the mark and a closed gate.
+pub(crate) const EMPTY_SIZE: usize = 9;
+
+/// How many bytes the longest block has.
+pub(crate) const MAX_BLOCK: usize = MAX_BODY + HEAD_SIZE;
+
+/// What comes after the bodies that were read.
 #[derive(Clone, Copy, Debug, PartialEq, Eq)]
 pub(crate) enum Block {
     /// A gate that is closed: there are no further bodies.

@@ -7,9 +7,9 @@ pub enum OpenFault<D: Disk> {
     Disk(D::Failure),
     /// These first eight bytes, filled up with 0, are not the mark.
     NotFormatted([u8; 8]),
-    /// No byte stands at this place, where a gate should, or the gate is open and no whole body follows.
+    /// No byte is at this place, where a gate should, or the gate is open and no whole body follows.
     Broken { at: u64 },
-    /// A further body stands behind as many as the limit, which is this.
+    /// There is a further body after `count` of them, which is the limit.
     TooMany { count: u64 },
 }
 
@@ -18,6 +18,6 @@ pub enum OpenFault<D: Disk> {
 pub enum AppendFault<D: Disk> {
     /// A call of the disk failed. The body is in hand.
     Disk(D::Failure),
-    /// There are as many bodies as the limit, which is this.
+    /// There are `count` bodies, which is the limit.
     Full { count: u64 },
 }

@@ -11,17 +11,18 @@
 //!   in hand    -> in hand     settle    a call of the disk failed
 //!   in hand    -> at rest     settle    whether the body in hand is stored
 //! ```
-ghost use Rattle.std.specs.Prelude.{◌≡◌, ◌⊎◌, ◌↔◌, ℕ, ◌+◌, ◌*◌, List, [], ◌∷◌, ◌++◌, length, take, Option, Some, None, Ok, true, false, ◌<◌, ◌≤◌, IfOk, IfErr, IfSome, OnOk, OnErr, IsErr, IsOk};
-ghost use Rattle.pv_outside.specs.Counts.{Rose};
-ghost use Rattle.pv_outside.specs.Disk.{CallsPassed, HasCalls, IsEndless};
-ghost use Rattle.pv_journal.specs.Text.{IsBody, Spells};
-ghost use Rattle.pv_journal.specs.Log.{most, IsAtRest, IsNoneInHand, IsAllRead, IsStillReading};
-ghost use Rattle.pv_journal.specs.Journal.{EachImage, DiskSpells, IsPaid, Remains, IsFused, IsReading, Holds, HoldsInHand};
-ghost use Rattle.pv_journal.specs.Faults.{IsDiskFault, IsStartFault, StartFaultShows, IsNext, NextShows, NextSpells, IsAppendDiskFault, IsFull};
+ghost use Rattle.std.specs.Prelude.{◌≡◌, ◌↔◌, ℕ, ◌+◌, List, [], ◌∷◌, ◌++◌, length, take, Option, Some, None, Ok, true, false, ◌<◌, ◌≤◌, IfOk, IfErr, IfSome, OnOk, OnErr, IsErr};
+ghost use Rattle.pv_outside.specs.Disk.{HasCalls};
+ghost use Rattle.pv_outside.specs.Calls.{IsFused};
+ghost use Rattle.pv_journal.specs.Text.{IsBody, text_of, Spells, SpellsEither};
+ghost use Rattle.pv_journal.specs.Log.{longest, most, IsAtRest, IsNoneInHand, IsAllRead, IsStillReading, KeepsCount};
+ghost use Rattle.pv_journal.specs.Journal.{DiskSpells, HasLeft, LeavesOnly, HasMade, Spends, ReadsOnly, IsReading, Holds, HoldsInHand};
+ghost use Rattle.pv_journal.specs.Faults.{IsDiskFault, ReadFailsOnDisk, IsStartFault, StartFaultShows, IsNext, NextShows, NextSpells, IsAppendDiskFault, FailsOnDisk};
+ghost use Rattle.pv_journal.specs.Appending.{IsAppended, IsNotAppended};
 
-use crate::block::{Block, MARK, MAX_BLOCK, MAX_BODY, first_block};
+use crate::block::{Block, HEAD_SIZE, MARK_SIZE, MAX_BLOCK, MAX_BODY, first_block};
 use crate::fault::{AppendFault, OpenFault};
-use crate::opening::{length_behind_mark, read_block};
+use crate::opening::{length_after_mark, read_block};
 use crate::storing::store;
 use pv_outside::{Disk, Fused, Limits};
 use std::marker::Model;
@@ -29,11 +30,11 @@ use std::marker::Model;
 /// What a journal may do next.
 #[derive(Clone, Copy, Debug, PartialEq, Eq)]
 enum Phase {
-    /// The bodies are being read, from a disk of so many bytes.
+    /// The bodies are being read, from a disk of `end` bytes.
     Reading { end: u64 },
     /// All bodies are read, and a further one can be appended.
     Resting,
-    /// A body of so many bytes was being appended when a call of the disk failed.
+    /// A body of `size` bytes was being appended when a call of the disk failed.
     InHand { size: u64 },
 }
 
@@ -45,6 +46,8 @@ pub struct Journal<D: Disk> {
     count: u64,
     gate: u64,
     phase: Phase,
+    // The block that is being read or written.
+    block: [u8; MAX_BLOCK],
 }
 
 impl<D: Disk> Model for Journal<D> {
@@ -58,66 +61,76 @@ impl<D: Disk> Model for Journal<D> {
 }
 
 impl<D: Disk> Journal<D> {
-    /// Begins to read a formatted disk, whose bodies may be as many as `limits.records`. It begins with
-    /// a sync. A disk that is refused is handed back.
+    /// Begins to read a formatted disk, of at most `limits.records` bodies. It makes three calls of the
+    /// disk, of which the first is a sync. A disk that is refused is handed back.
     pub fn start(mut disk: D, limits: Limits) -> Result<Journal<D>, (OpenFault<D>, D)>
-        ensures reading { IfOk result (λ journal. IsReading ⟦<D as Disk>⟧ journal []) }
+        ensures reading { IfOk result (λ journal. IsReading D.Reports journal []) }
         ensures limit { IfOk result (λ journal. journal.limit ≡ limits.records) }
-        ensures same { IfOk result (λ journal. Remains ⟦<D as Disk>⟧ disk journal.disk) }
+        ensures reads_only { IfOk result (λ journal. ReadsOnly D.Reports 3 ⊥ disk journal.disk) }
+        ensures moments { IfOk result (λ journal. LeavesOnly D.Reports disk journal.disk (D.may_leave disk)) }
 
-        // A disk is refused where a call of it failed, or where it does not begin with the mark.
+        // A disk is refused if a call of it failed, or if it does not begin with the mark.
         ensures refused { IfErr result (λ e. IsStartFault e.0) }
         ensures shown { IfErr result (λ e. IfSome (D.reads disk) (λ text. StartFaultShows text e.0)) }
-        ensures handed_back { IfErr result (λ e. Remains ⟦<D as Disk>⟧ disk e.1) }
-        ensures failed { IfErr result (λ e. IsDiskFault e.0 → Rose (D.faults disk) (D.faults e.1)) }
-        ensures passes { IfErr result (λ e. (room : ℕ) → IsEndless room (D.budget disk) → IsDiskFault e.0 → ⊥) }
+        ensures handed_back { IfErr result (λ e. ReadsOnly D.Reports 3 (IsDiskFault e.0) disk e.1) }
+        ensures moments_refused { IfErr result (λ e. LeavesOnly D.Reports disk e.1 (D.may_leave disk)) }
     {
-        match length_behind_mark(&mut disk) {
+        match length_after_mark(&mut disk) {
             Ok(end) => Ok(Journal {
                 disk,
                 limit: limits.records,
                 count: 0,
-                gate: MARK.len() as u64,
+                gate: MARK_SIZE as u64,
                 phase: Phase::Reading { end },
+                block: [0; MAX_BLOCK],
             }),
             Err(fault) => Err((fault, disk)),
         }
     }
 
-    /// Reads the next body into the front of `into` and answers its size, or None behind the last one;
-    /// from then on the journal can append. It makes one call of the disk. Once all bodies were read it
-    /// answers None without a call and changes nothing, also while a body is in hand.
+    /// Reads the next body into the beginning of `into` and returns its size, or None after the last one.
+    /// From then on the journal can append. It makes one call of the disk. Once all bodies were read it
+    /// returns None without a call and changes nothing, also while a body is in hand.
     pub fn next(&mut self, into: &mut [u8; MAX_BODY]) -> Result<Option<usize>, OpenFault<D>>
-        // Each body joins those that were read, and behind the last one these are all.
-        ensures found { IfOk result (λ answer. IfSome answer (λ n. (bodies : List (List ℕ)) → IsReading ⟦<D as Disk>⟧ self.old bodies
-            → IsReading ⟦<D as Disk>⟧ self.new (bodies ++ take n into.new ∷ []))) }
-        ensures goes_on { IfOk result (λ answer. IfSome answer (λ n. IsStillReading self.new.phase)) }
-        ensures at_rest { result ≡ Ok None → IsNoneInHand self.old.phase → IsAtRest self.new }
-        ensures ended { result ≡ Ok None → (bodies : List (List ℕ)) → IsReading ⟦<D as Disk>⟧ self.old bodies → Holds ⟦<D as Disk>⟧ self.new bodies }
-        ensures kept { OnErr result (self.new ≡ record self.old { disk = self.new.disk }) }
-        ensures rests { IsAllRead self.old.phase → result ≡ Ok None }
-        ensures unchanged { IsAllRead self.old.phase → self.new ≡ self.old }
-        ensures err { OnErr result ((bodies : List (List ℕ)) → IsReading ⟦<D as Disk>⟧ self.old bodies → IsReading ⟦<D as Disk>⟧ self.new bodies) }
-        ensures same { Remains ⟦<D as Disk>⟧ self.old.disk self.new.disk }
+        // Each body joins those that were read, and after the last one these are all.
+        ensures found { IfOk result (λ answer. IfSome answer (λ n. (bodies : List (List ℕ))
+            → IsReading D.Reports self.old bodies → IsReading D.Reports self.new (bodies ++ take n into.new ∷ []))) }
+        ensures goes_on { IfOk result (λ answer. IfSome answer (λ n. IsStillReading self.new)) }
+        ensures ended { result ≡ Ok None → (bodies : List (List ℕ))
+            → IsReading D.Reports self.old bodies → Holds D.Reports self.new bodies }
+        ensures at_rest { result ≡ Ok None → IsNoneInHand self.old → IsAtRest self.new }
+
+        // What it counts stays within the limit.
+        ensures counts { self.old.count ≤ self.new.count }
+        ensures within { self.new.count ≤ self.new.limit }
         ensures limit { self.new.limit ≡ self.old.limit }
 
-        // Each answer has its cause, and on a disk that tells its bytes these show which it is.
+        // Once all are read nothing changes, and after an error only the disk.
+        ensures rests { IsAllRead self.old → result ≡ Ok None }
+        ensures unchanged { IsAllRead self.old → self.new ≡ self.old }
+        ensures kept { OnErr result (self.new ≡ record self.old { disk = self.new.disk }) }
+        ensures err { OnErr result ((bodies : List (List ℕ))
+            → IsReading D.Reports self.old bodies → IsReading D.Reports self.new bodies) }
+
+        // What it takes of the disk, and what a crash at any moment of it leaves.
+        ensures reads_only { ReadsOnly D.Reports 1 (ReadFailsOnDisk result) self.old.disk self.new.disk }
+        ensures moments { LeavesOnly D.Reports self.old.disk self.new.disk (D.may_leave self.old.disk) }
+
+        // Each answer has its cause, and on a disk that reports its bytes these show which it is.
         ensures answer { IsNext self.old result }
-        ensures shown { (bodies : List (List ℕ)) → IsReading ⟦<D as Disk>⟧ self.old bodies → IfSome (D.reads self.old.disk) (λ text. NextShows text self.old into.new result) }
-        ensures spelled { (bodies more : List (List ℕ)) → IsReading ⟦<D as Disk>⟧ self.old bodies → DiskSpells ⟦<D as Disk>⟧ self.old.disk (bodies ++ more) → NextSpells more into.new result }
-        ensures failed { IfErr result (λ fault. IsDiskFault fault → Rose (D.faults self.old.disk) (D.faults self.new.disk)) }
-        ensures calls { D.clock self.new.disk ≤ D.clock self.old.disk + 1 }
-        ensures passes { IfErr result (λ fault. (room : ℕ) → IsEndless room (D.budget self.old.disk) → IsDiskFault fault → ⊥) }
+        ensures shown { (bodies : List (List ℕ)) → IsReading D.Reports self.old bodies
+            → IfSome (D.reads self.old.disk) (λ text. NextShows text (length (text_of bodies)) into.new result) }
+        ensures spelled { (bodies more : List (List ℕ)) → IsReading D.Reports self.old bodies
+            → DiskSpells D.Reports self.old.disk (bodies ++ more) → NextSpells more into.new result }
     {
         let Phase::Reading { end } = self.phase else {
             return Ok(None);
         };
-        let mut bytes = [0; MAX_BLOCK];
-        let held = match read_block(&mut self.disk, self.gate, end, &mut bytes) {
+        let held = match read_block(&mut self.disk, self.gate, end, &mut self.block) {
             Ok(held) => held,
             Err(failure) => return Err(OpenFault::Disk(failure)),
         };
-        let bytes = &bytes[..held];
+        let bytes = &self.block[..held];
         match first_block(bytes) {
             Block::Closed => {
                 self.phase = Phase::Resting;
@@ -128,81 +141,87 @@ impl<D: Disk> Journal<D> {
                 Err(OpenFault::TooMany { count: self.count })
             }
             Block::Whole { size } => {
-                into[..size].copy_from_slice(&bytes[3..3 + size]);
+                into[..size].copy_from_slice(&bytes[HEAD_SIZE..HEAD_SIZE + size]);
                 self.count += 1;
-                self.gate += size as u64 + 3;
+                self.gate += (size + HEAD_SIZE) as u64;
                 Ok(Some(size))
             }
         }
     }
 
-    /// Appends a body and answers its place, from 0. After a failure of the disk the body is in hand.
-    /// It makes at most four calls of the disk.
+    /// Appends a body of 1 to 2,048 bytes and returns its place, from 0. After a failure of the disk the
+    /// body is in hand. It makes at most four calls of the disk.
     pub fn append(&mut self, body: &[u8]) -> Result<u64, AppendFault<D>>
         requires at_rest { IsAtRest self.old }
         requires size { IsBody body.now }
 
-        ensures place { IfOk result (λ place. place ≡ self.old.count) }
-        ensures still_at_rest { OnOk result (IsAtRest self.new) }
-        ensures stored { OnOk result ((bodies : List (List ℕ)) → Holds ⟦<D as Disk>⟧ self.old bodies → Holds ⟦<D as Disk>⟧ self.new (bodies ++ body.now ∷ [])) }
-        ensures in_hand { IfErr result (λ fault. IsAppendDiskFault fault → (bodies : List (List ℕ)) → Holds ⟦<D as Disk>⟧ self.old bodies → HoldsInHand ⟦<D as Disk>⟧ self.new bodies body.now) }
-        ensures kept { OnErr result (self.new ≡ record self.old { disk = self.new.disk; phase = self.new.phase }) }
-        ensures size_in_hand { IfErr result (λ fault. IsAppendDiskFault fault → self.new.phase ≡ Phase.InHand (length body.now)) }
-
-        // Until two calls of the disk have succeeded, each image spells the list without the body.
-        ensures early { OnErr result ((bodies : List (List ℕ)) → Holds ⟦<D as Disk>⟧ self.old bodies
-            → CallsPassed 2 (D.clock self.old.disk) (D.clock self.new.disk) ⊎ EachImage ⟦<D as Disk>⟧ self.new.disk (λ image. Spells image bodies)) }
-
-        // It is full exactly where it has as many bodies as the limit, and then nothing changes.
-        ensures full { IfErr result (IsFull self.old self.new) }
-        ensures room { OnOk result (self.old.count < self.old.limit) }
+        // The body is stored; or a call of the disk failed and it is in hand; or the journal is full.
+        ensures appended { IfOk result (IsAppended D.Reports self.old self.new body.now) }
+        ensures refused { IfErr result (IsNotAppended D.Reports self.old self.new body.now) }
         ensures limit { self.new.limit ≡ self.old.limit }
 
-        ensures failed { IfErr result (λ fault. IsAppendDiskFault fault → Rose (D.faults self.old.disk) (D.faults self.new.disk)) }
-        ensures counted { D.faults self.old.disk ≤ D.faults self.new.disk }
-        ensures calls { D.clock self.new.disk ≤ D.clock self.old.disk + 4 }
-        ensures all_four { OnOk result (CallsPassed 4 (D.clock self.old.disk) (D.clock self.new.disk)) }
-        ensures paid { IsPaid ⟦<D as Disk>⟧ self.old.disk self.new.disk }
-        ensures endless { (room : ℕ) → IsEndless room (D.budget self.old.disk) → IsEndless room (D.budget self.new.disk) }
-        ensures told { (room : ℕ) → HasCalls 0 room (D.budget self.old.disk) → HasCalls 0 room (D.budget self.new.disk) }
-        ensures passes { IfErr result (λ fault. (bodies : List (List ℕ)) → Holds ⟦<D as Disk>⟧ self.old bodies → HasCalls 4 (9 + 2051 * self.old.limit) (D.budget self.old.disk) → IsAppendDiskFault fault → ⊥) }
+        // A crash at any moment of the call leaves an image that spells the list without the body or with it.
+        // It is without it if fewer than two calls of the disk were left.
+        ensures moments { (bodies : List (List ℕ)) → Holds D.Reports self.old bodies
+            → LeavesOnly D.Reports self.old.disk self.new.disk (SpellsEither bodies (body.now ∷ [])) }
+        ensures few { (bodies : List (List ℕ)) (n : ℕ) → Holds D.Reports self.old bodies → HasLeft n (D.budget self.old.disk) → n < 2
+            → LeavesOnly D.Reports self.old.disk self.new.disk (λ image. Spells image bodies) }
+
+        // What it takes of the disk. With four calls and room for all bodies the disk does not fail.
+        ensures spends { Spends D.Reports 4 (FailsOnDisk result) self.old.disk self.new.disk }
+        ensures all_four { OnOk result (HasMade D.Reports 4 self.old.disk self.new.disk) }
+        ensures passes { IfErr result (λ fault. (bodies : List (List ℕ)) → Holds D.Reports self.old bodies
+            → HasCalls 4 (longest self.old.limit) (D.budget self.old.disk) → IsAppendDiskFault fault → ⊥) }
     {
         let place = self.count;
         if place == self.limit as u64 {
             return Err(AppendFault::Full { count: place });
         }
-        let size = body.len() as u64;
-        self.phase = Phase::InHand { size };
-        if let Err(failure) = store(&mut self.disk, self.gate, body) {
+        let size = body.len();
+        self.phase = Phase::InHand { size: size as u64 };
+        if let Err(failure) = store(&mut self.disk, self.gate, body, &mut self.block) {
             return Err(AppendFault::Disk(failure));
         }
         self.count += 1;
-        self.gate += size + 3;
+        self.gate += (size + HEAD_SIZE) as u64;
         self.phase = Phase::Resting;
         Ok(place)
     }
 
-    /// Syncs and reads the gate: whether the body in hand is stored. It is in hand no more. None where
-    /// none was in hand, and then the disk is not called.
+    /// Finds out whether the body in hand is stored, by a sync and a read of its gate. Afterwards nothing is
+    /// in hand. It returns None if none was, and then the disk is not called.
     pub fn settle(&mut self) -> Result<Option<bool>, D::Failure>
-        ensures none { (result ≡ Ok None) ↔ IsNoneInHand self.old.phase }
-        ensures unchanged { IsNoneInHand self.old.phase → self.new ≡ self.old }
+        ensures none { (result ≡ Ok None) ↔ IsNoneInHand self.old }
+        ensures unchanged { IsNoneInHand self.old → self.new ≡ self.old }
+
+        // The body that was in hand joins the list, or does not.
         ensures at_rest { IfOk result (λ answer. IfSome answer (λ stored. IsAtRest self.new)) }
-        ensures stored { result ≡ Ok (Some true) → (bodies : List (List ℕ)) (body : List ℕ) → HoldsInHand ⟦<D as Disk>⟧ self.old bodies body → Holds ⟦<D as Disk>⟧ self.new (bodies ++ body ∷ []) }
-        ensures dropped { result ≡ Ok (Some false) → (bodies : List (List ℕ)) (body : List ℕ) → HoldsInHand ⟦<D as Disk>⟧ self.old bodies body → Holds ⟦<D as Disk>⟧ self.new bodies }
+        ensures stored { result ≡ Ok (Some true) → (bodies : List (List ℕ)) (body : List ℕ)
+            → HoldsInHand D.Reports self.old bodies (body ∷ []) → Holds D.Reports self.new (bodies ++ body ∷ []) }
+        ensures one_more { result ≡ Ok (Some true) → self.new.count ≡ self.old.count + 1 }
+        ensures dropped { result ≡ Ok (Some false) → (bodies : List (List ℕ)) (body : List ℕ)
+            → HoldsInHand D.Reports self.old bodies (body ∷ []) → Holds D.Reports self.new bodies }
+        ensures put_down { result ≡ Ok (Some false) → KeepsCount self.old self.new }
 
         // What the disk reads as spells that list too.
-        ensures reads_stored { result ≡ Ok (Some true) → (bodies : List (List ℕ)) (body : List ℕ) → HoldsInHand ⟦<D as Disk>⟧ self.old bodies body → IfSome (D.reads self.new.disk) (λ text. Spells text (bodies ++ body ∷ [])) }
-        ensures reads_dropped { result ≡ Ok (Some false) → (bodies : List (List ℕ)) (body : List ℕ) → HoldsInHand ⟦<D as Disk>⟧ self.old bodies body → IfSome (D.reads self.new.disk) (λ text. Spells text bodies) }
+        ensures reads_stored { result ≡ Ok (Some true) → (bodies : List (List ℕ)) (body : List ℕ)
+            → HoldsInHand D.Reports self.old bodies (body ∷ [])
+            → IfSome (D.reads self.new.disk) (λ text. Spells text (bodies ++ body ∷ [])) }
+        ensures reads_dropped { result ≡ Ok (Some false) → (bodies : List (List ℕ)) (body : List ℕ)
+            → HoldsInHand D.Reports self.old bodies (body ∷ [])
+            → IfSome (D.reads self.new.disk) (λ text. Spells text bodies) }
 
+        // After a failure of the disk it is in hand still.
         ensures kept { OnErr result (self.new ≡ record self.old { disk = self.new.disk }) }
-        ensures put_down { result ≡ Ok (Some false) → self.new ≡ record self.old { disk = self.new.disk; phase = self.new.phase } }
-        ensures in_hand { OnErr result ((bodies : List (List ℕ)) (body : List ℕ) → HoldsInHand ⟦<D as Disk>⟧ self.old bodies body → HoldsInHand ⟦<D as Disk>⟧ self.new bodies body) }
-        ensures same { Remains ⟦<D as Disk>⟧ self.old.disk self.new.disk }
+        ensures in_hand { OnErr result ((bodies hand : List (List ℕ))
+            → HoldsInHand D.Reports self.old bodies hand → HoldsInHand D.Reports self.new bodies hand) }
         ensures limit { self.new.limit ≡ self.old.limit }
-        ensures failed { IsErr result → Rose (D.faults self.old.disk) (D.faults self.new.disk) }
-        ensures calls { D.clock self.new.disk ≤ D.clock self.old.disk + 2 }
-        ensures passes { (room : ℕ) → IsEndless room (D.budget self.old.disk) → IsOk result }
+
+        // What it takes of the disk, and what a crash at any moment of it leaves.
+        ensures both_calls { OnOk result ((IsNoneInHand self.old → ⊥) → HasMade D.Reports 2 self.old.disk self.new.disk) }
+        ensures moments { (bodies hand : List (List ℕ)) → HoldsInHand D.Reports self.old bodies hand
+            → LeavesOnly D.Reports self.old.disk self.new.disk (SpellsEither bodies hand) }
+        ensures reads_only { ReadsOnly D.Reports 2 (IsErr result) self.old.disk self.new.disk }
     {
         let Phase::InHand { size } = self.phase else {
             return Ok(None);
@@ -215,14 +234,14 @@ impl<D: Disk> Journal<D> {
             return Ok(Some(false));
         }
         self.count += 1;
-        self.gate += size + 3;
+        self.gate += size + HEAD_SIZE as u64;
         Ok(Some(true))
     }
 
     /// How many bodies were read, or there are. With one in hand they are within the limit.
     pub fn count(&self) -> u64
         ensures count { result ≡ self.now.count }
-        ensures within { most self.now.phase self.now.count ≤ self.now.limit }
+        ensures within { most self.now ≤ self.now.limit }
     {
         self.count
     }
@@ -236,13 +255,16 @@ impl<D: Disk> Journal<D> {
 }
 
 impl<D: Fused> Journal<D> {
-    /// Lets so many further calls of the disk pass, and then none. Nothing else changes.
+    /// Lets this many further calls of the disk pass, and then none. Nothing else changes.
     pub fn fuse(&mut self, calls: u32)
-        ensures disk { IsFused ⟦<D as Disk>⟧ calls self.old.disk self.new.disk }
+        ensures disk { IsFused D.Reports calls self.old.disk self.new.disk }
         ensures same { self.new ≡ record self.old { disk = self.new.disk } }
-        ensures reading { (bodies : List (List ℕ)) → IsReading ⟦<D as Disk>⟧ self.old bodies → IsReading ⟦<D as Disk>⟧ self.new bodies }
-        ensures holds { (bodies : List (List ℕ)) → Holds ⟦<D as Disk>⟧ self.old bodies → Holds ⟦<D as Disk>⟧ self.new bodies }
-        ensures in_hand { (bodies : List (List ℕ)) (body : List ℕ) → HoldsInHand ⟦<D as Disk>⟧ self.old bodies body → HoldsInHand ⟦<D as Disk>⟧ self.new bodies body }
+
+        // It holds what it held.
+        ensures reading { (bodies : List (List ℕ)) → IsReading D.Reports self.old bodies → IsReading D.Reports self.new bodies }
+        ensures holds { (bodies : List (List ℕ)) → Holds D.Reports self.old bodies → Holds D.Reports self.new bodies }
+        ensures in_hand { (bodies hand : List (List ℕ))
+            → HoldsInHand D.Reports self.old bodies hand → HoldsInHand D.Reports self.new bodies hand }
     {
         self.disk.fuse(calls);
     }

@@ -1,11 +1,11 @@
-//! A list of bodies on a disk: wherever a call of the disk fails, what a crash may leave then spells the
-//! list without the body that was being appended, or with it.
+//! A list of bodies on a disk. At every moment of a call, also if a call of the disk fails, a crash leaves
+//! the list without the body that is being appended, or with it.
 //!
 //! [`format`] makes a disk an empty list. [`Journal::start`] and [`Journal::next`] read the bodies of a
 //! disk one by one, and a journal that was read to its end takes further ones by [`Journal::append`].
-//! Once that has answered, what a crash may leave has the body. Where a call of the disk fails instead,
-//! the body is in hand: it is on the disk or it is not, and [`Journal::settle`] tells which. A body has
-//! 1 to 2,048 bytes.
+//! Once that has returned, what a crash may leave has the body. If a call of the disk fails instead, the
+//! body is in hand: it is on the disk or it is not, and [`Journal::settle`] finds out. A body has 1 to
+//! 2,048 bytes.
 //!
 //! ```text
 //! format(&mut disk)?;
@@ -15,10 +15,10 @@
 //! let place = journal.append(b"AB")?;    // 0, and what a crash may leave has `AB`
 //! ```
 //!
-//! What stands on the disk is said by `specs/Text.antt`, what a journal holds over any disk by
-//! `specs/Journal.antt`, and when each answer comes by `specs/Faults.antt`. No clause of a journal
-//! trusts a checksum: a gate in front of each body, one byte, is opened by a write of its own after the
-//! body was synced, and a body counts where its gate and all before it are open.
+//! `specs/Text.antt` says what is on the disk, `specs/Journal.antt` what a journal holds over any disk,
+//! and `specs/Faults.antt` and `specs/Appending.antt` when each answer comes. No clause of a journal
+//! trusts a checksum. Before each body is a gate, one byte, which is opened by a write of its own after
+//! the body was synced. A body counts if its gate and all before it are open.
 #![tactic(auto)]
 
 mod block;
@@ -33,7 +33,7 @@ pub use block::{MARK, MAX_BODY};
 pub use fault::{AppendFault, OpenFault};
 pub use formatting::format;
 pub use journal::Journal;
-pub use law::bytes_spell_one_list;
+pub use law::{bytes_spell_one_list, settle_then_append};
 
 #[cfg(test)]
 mod tests;

@@ -1,27 +1,26 @@
 ghost use Rattle.std.specs.Prelude.{◌≡◌, ◌↔◌, ◌+◌, ◌<◌, ◌≤◌, ℕ, ◌++◌, length, take, drop, slice_index, IfOk, IfErr, OnOk, IsErr, IfSome, IsTrue};
-ghost use Rattle.pv_outside.specs.Counts.{Rose};
-ghost use Rattle.pv_outside.specs.Disk.{IsEndless};
 ghost use Rattle.pv_journal.specs.Text.{first_eight};
-ghost use Rattle.pv_journal.specs.Journal.{Remains, IsSynced, IsDurable};
-ghost use Rattle.pv_journal.specs.Faults.{IsDiskFault, IsStartFault, StartFaultShows};
+ghost use Rattle.pv_journal.specs.Journal.{ReadsOnly, IsSynced, IsDurable};
+ghost use Rattle.pv_journal.specs.Faults.{ReadFailsOnDisk, IsStartFault, StartFaultShows};
+ghost use Rattle.pv_journal.specs.declared.block.TheConstants.{MARK_SIZE};
 
-use crate::block::{MARK, MAX_BLOCK};
+use crate::block::{MARK, MARK_SIZE, MAX_BLOCK};
 use crate::fault::OpenFault;
 use pv_outside::Disk;
 
-/// Syncs the disk, and answers how many bytes it has, if these begin with the mark.
-pub(crate) fn length_behind_mark<D: Disk>(disk: &mut D) -> Result<u64, OpenFault<D>>
-    ensures same { Remains ⟦<D as Disk>⟧ disk.old disk.new }
-    ensures length { IfOk result (λ end. 8 ≤ end) }
-    ensures marked { IfOk result (λ end. IfSome (D.reads disk.old) (λ text. (length text ≡ end) × (text ≡ MARK ++ drop 8 text))) }
-    ensures durable { OnOk result (IsDurable ⟦<D as Disk>⟧ disk.new) }
-    ensures synced { OnOk result (IsSynced ⟦<D as Disk>⟧ disk.new) }
+/// Syncs the disk, and returns how many bytes it has, if these begin with the mark.
+pub(crate) fn length_after_mark<D: Disk>(disk: &mut D) -> Result<u64, OpenFault<D>>
+    ensures reads_only { ReadsOnly D.Reports 3 (ReadFailsOnDisk result) disk.old disk.new }
+    ensures length { IfOk result (λ end. MARK_SIZE ≤ end) }
+    ensures marked { IfOk result (λ end. IfSome (D.reads disk.old) (λ text. (length text ≡ end) × (text ≡ MARK ++ drop MARK_SIZE text))) }
+    ensures durable { OnOk result (IsDurable D.Reports disk.new) }
+    ensures synced { OnOk result (IsSynced D.Reports disk.new) }
+
+    // A call failed, or the disk does not begin with the mark.
     ensures refused { IfErr result IsStartFault }
     ensures shown { IfErr result (λ fault. IfSome (D.reads disk.old) (λ text. StartFaultShows text fault)) }
-    ensures failed { IfErr result (λ fault. IsDiskFault fault → Rose (D.faults disk.old) (D.faults disk.new)) }
-    ensures passes { IfErr result (λ fault. (room : ℕ) → IsEndless room (D.budget disk.old) → IsDiskFault fault → ⊥) }
 {
-    let mut first = [0; 8];
+    let mut first = [0; MARK_SIZE];
     match first_bytes(disk, &mut first) {
         Ok(end) if is_mark(&first) => Ok(end),
         Ok(_) => Err(OpenFault::NotFormatted(first)),
@@ -29,34 +28,34 @@ pub(crate) fn length_behind_mark<D: Disk>(disk: &mut D) -> Result<u64, OpenFault
     }
 }
 
-/// Syncs the disk, reads the first eight bytes, filled up with 0, and answers how many bytes there are.
-fn first_bytes<D: Disk>(disk: &mut D, into: &mut [u8; 8]) -> Result<u64, D::Failure>
-    ensures same { Remains ⟦<D as Disk>⟧ disk.old disk.new }
+/// Syncs the disk, reads the first eight bytes, filled up with 0, and returns how many bytes there are.
+fn first_bytes<D: Disk>(disk: &mut D, into: &mut [u8; MARK_SIZE]) -> Result<u64, D::Failure>
+    ensures reads_only { ReadsOnly D.Reports 3 (IsErr result) disk.old disk.new }
     ensures length { IfOk result (λ end. IfSome (D.reads disk.old) (λ text. length text ≡ end)) }
     ensures bytes { OnOk result (IfSome (D.reads disk.old) (λ text. into.new ≡ first_eight text)) }
-    ensures filled { IfOk result (λ end. end < 8 → slice_index into.new 7 ≡ 0) }
-    ensures durable { OnOk result (IsDurable ⟦<D as Disk>⟧ disk.new) }
-    ensures synced { OnOk result (IsSynced ⟦<D as Disk>⟧ disk.new) }
-    ensures failed { IsErr result → Rose (D.faults disk.old) (D.faults disk.new) }
-    ensures passes { IsErr result → (room : ℕ) → IsEndless room (D.budget disk.old) → ⊥ }
+    ensures filled { IfOk result (λ end. end < MARK_SIZE → slice_index into.new 7 ≡ 0) }
+
+    // After it a crash leaves what the disk reads as.
+    ensures durable { OnOk result (IsDurable D.Reports disk.new) }
+    ensures synced { OnOk result (IsSynced D.Reports disk.new) }
 {
     disk.sync()?;
     let end = disk.len()?;
-    *into = [0; 8];
-    let held = end.min(8) as usize;
+    *into = [0; MARK_SIZE];
+    let held = end.min(MARK_SIZE as u64) as usize;
     disk.read(0, &mut into[..held])?;
     Ok(end)
 }
 
 /// The bytes are the mark.
-fn is_mark(first: &[u8; 8]) -> bool
+fn is_mark(first: &[u8; MARK_SIZE]) -> bool
     ensures { IsTrue result ↔ (first.now ≡ MARK) }
 {
     *first == MARK
 }
 
-/// Reads as much of a longest block as there is at this place of a disk of so many bytes, and answers
-/// how much.
+/// Reads as much of a longest block as there is at this place of a disk of `end` bytes, and returns how
+/// much.
 pub(crate) fn read_block<D: Disk>(
     disk: &mut D,
     gate: u64,
@@ -64,15 +63,13 @@ pub(crate) fn read_block<D: Disk>(
     into: &mut [u8; MAX_BLOCK],
 ) -> Result<usize, D::Failure>
     requires within { gate ≤ end }
-    requires told { IfSome (D.reads disk.old) (λ text. length text ≡ end) }
-    ensures same { Remains ⟦<D as Disk>⟧ disk.old disk.new }
+    requires long { IfSome (D.reads disk.old) (λ text. length text ≡ end) }
+
+    ensures reads_only { ReadsOnly D.Reports 1 (IsErr result) disk.old disk.new }
     ensures held { IfOk result (λ held. (held ≤ MAX_BLOCK) × (gate + held ≤ end)) }
     ensures bytes { IfOk result (λ held. IfSome (D.reads disk.old) (λ text. take held into.new ≡ take MAX_BLOCK (drop gate text))) }
-    ensures durable { IsDurable ⟦<D as Disk>⟧ disk.old → IsDurable ⟦<D as Disk>⟧ disk.new }
-    ensures synced { IsSynced ⟦<D as Disk>⟧ disk.old → IsSynced ⟦<D as Disk>⟧ disk.new }
-    ensures calls { D.clock disk.new ≤ D.clock disk.old + 1 }
-    ensures failed { IsErr result → Rose (D.faults disk.old) (D.faults disk.new) }
-    ensures passes { IsErr result → (room : ℕ) → IsEndless room (D.budget disk.old) → ⊥ }
+    ensures durable { IsDurable D.Reports disk.old → IsDurable D.Reports disk.new }
+    ensures synced { IsSynced D.Reports disk.old → IsSynced D.Reports disk.new }
 {
     let held = (end - gate).min(MAX_BLOCK as u64) as usize;
     disk.read(gate, &mut into[..held])?;

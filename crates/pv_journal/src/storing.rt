@@ -1,61 +1,65 @@
 ghost use Rattle.std.specs.Prelude.{◌≡◌, ◌⊎◌, ℕ, ◌+◌, ◌^◌, ◌<◌, ◌≤◌, List, [], ◌∷◌, ◌++◌, length, take, IfSome, IsErr, IsOk, OnOk, OnErr};
-ghost use Rattle.std.specs.Option.{ForSome};
-ghost use Rattle.pv_outside.specs.Counts.{Rose};
-ghost use Rattle.pv_outside.specs.Disk.{CallsPassed, HasCalls, IsEndless};
-ghost use Rattle.pv_journal.specs.Text.{IsBody, front, Spells, SpellsEither, written_behind, HasClosedGate, MayHaveBody};
-ghost use Rattle.pv_journal.specs.Journal.{EachImage, IsSynced, IsPaid};
+ghost use Rattle.std.specs.Option.{ForSome, option_map};
+ghost use Rattle.pv_outside.specs.Disk.{HasCalls, text_after_write};
+ghost use Rattle.pv_journal.specs.declared.block.TheConstants.{HEAD_SIZE};
+ghost use Rattle.pv_journal.specs.Text.{IsBody, block, text_of, Spells, SpellsEither, bytes_after_gate, HasClosedGate, MayHaveBody};
+ghost use Rattle.pv_journal.specs.Journal.{EachImage, IsSynced, LeavesOnly, HasMade, Spends};
 
-use crate::block::MAX_BLOCK;
+use crate::block::{HEAD_SIZE, MAX_BLOCK};
 use pv_outside::Disk;
 
-/// Writes a body behind the gate and puts it on the disk; then opens the gate, and puts that there too.
-pub(crate) fn store<D: Disk>(disk: &mut D, gate: u64, body: &[u8]) -> Result<(), D::Failure>
+/// Writes a body after the gate and puts it on the disk; then opens the gate, and puts that there too. The
+/// last slice is room for what is written.
+pub(crate) fn store<D: Disk>(
+    disk: &mut D,
+    gate: u64,
+    body: &[u8],
+    room: &mut [u8; MAX_BLOCK],
+) -> Result<(), D::Failure>
     requires size { IsBody body.now }
     requires place { gate < 2 ^ 63 }
     requires closed { ForSome (D.reads disk.old) (HasClosedGate gate) }
 
-    // Where each image spelled a list whose gate this is, each spells it with the body, or perhaps without.
-    ensures stored { OnOk result ((bodies : List (List ℕ)) → gate ≡ length (front bodies) → EachImage ⟦<D as Disk>⟧ disk.old (λ image. Spells image bodies)
-        → EachImage ⟦<D as Disk>⟧ disk.new (λ image. Spells image (bodies ++ body.now ∷ []))) }
-    ensures in_hand { OnErr result ((bodies : List (List ℕ)) → gate ≡ length (front bodies) → EachImage ⟦<D as Disk>⟧ disk.old (λ image. Spells image bodies)
-        → EachImage ⟦<D as Disk>⟧ disk.new (SpellsEither bodies body.now)) }
+    // Say each image spelled a list whose gate this is. Then a crash at any moment of the call leaves one that
+    // spells it without the body or with it. After an Ok each spells it with the body.
+    ensures moments { (bodies : List (List ℕ)) → gate ≡ length (text_of bodies) → EachImage D.Reports disk.old (λ image. Spells image bodies)
+        → LeavesOnly D.Reports disk.old disk.new (SpellsEither bodies (body.now ∷ [])) }
+    ensures stored { OnOk result ((bodies : List (List ℕ)) → gate ≡ length (text_of bodies) → EachImage D.Reports disk.old (λ image. Spells image bodies)
+        → EachImage D.Reports disk.new (λ image. Spells image (bodies ++ body.now ∷ []))) }
 
-    // Until two calls of the disk have succeeded, each image spells the list without it.
-    ensures early { OnErr result ((bodies : List (List ℕ)) → gate ≡ length (front bodies) → EachImage ⟦<D as Disk>⟧ disk.old (λ image. Spells image bodies)
-        → CallsPassed 2 (D.clock disk.old) (D.clock disk.new) ⊎ EachImage ⟦<D as Disk>⟧ disk.new (λ image. Spells image bodies)) }
+    // Until two calls of the disk have succeeded, it leaves one that spells the list without it.
+    ensures early { (bodies : List (List ℕ)) → gate ≡ length (text_of bodies) → EachImage D.Reports disk.old (λ image. Spells image bodies)
+        → HasMade D.Reports 2 disk.old disk.new ⊎ LeavesOnly D.Reports disk.old disk.new (λ image. Spells image bodies) }
 
-    ensures next_gate { OnOk result (IfSome (D.reads disk.new) (HasClosedGate (gate + length body.now + 3))) }
+    // After an Ok its block and a closed gate were written, and no other byte.
+    ensures written { OnOk result (D.reads disk.new ≡ option_map (text_after_write gate (block body.now ++ 0 ∷ [])) (D.reads disk.old)) }
+    ensures next_gate { OnOk result (IfSome (D.reads disk.new) (HasClosedGate (gate + length body.now + HEAD_SIZE))) }
     ensures same_gate { OnErr result (IfSome (D.reads disk.new) (MayHaveBody gate (length body.now))) }
 
-    ensures synced { OnOk result (IsSynced ⟦<D as Disk>⟧ disk.new) }
-    ensures endless { (room : ℕ) → IsEndless room (D.budget disk.old) → IsEndless room (D.budget disk.new) }
-    ensures told { (room : ℕ) → HasCalls 0 room (D.budget disk.old) → HasCalls 0 room (D.budget disk.new) }
-    ensures passes { HasCalls 4 (gate + length body.now + 4) (D.budget disk.old) → IsSynced ⟦<D as Disk>⟧ disk.old → IsOk result }
-    ensures calls { D.clock disk.new ≤ D.clock disk.old + 4 }
-    ensures all_four { OnOk result (CallsPassed 4 (D.clock disk.old) (D.clock disk.new)) }
-    ensures paid { IsPaid ⟦<D as Disk>⟧ disk.old disk.new }
-    ensures counted { D.faults disk.old ≤ D.faults disk.new }
-    ensures failed { IsErr result → Rose (D.faults disk.old) (D.faults disk.new) }
+    // What it takes of the disk.
+    ensures synced { OnOk result (IsSynced D.Reports disk.new) }
+    ensures passes { HasCalls 4 (gate + length body.now + HEAD_SIZE + 1) (D.budget disk.old) → IsSynced D.Reports disk.old → IsOk result }
+    ensures all_four { OnOk result (HasMade D.Reports 4 disk.old disk.new) }
+    ensures spends { Spends D.Reports 4 (IsErr result) disk.old disk.new }
 {
-    let mut bytes = [0; MAX_BLOCK];
-    let length = spell(body, &mut bytes);
-    disk.write(gate + 1, &bytes[..length])?;
-    // The body has to be on the disk first: behind a gate that is open, whatever stands there counts.
+    let length = spell(body, room);
+    disk.write(gate + 1, &room[..length])?;
+    // The body has to be on the disk first: after a gate that is open, whatever is there counts.
     disk.sync()?;
     disk.write(gate, &[1])?;
     disk.sync()
 }
 
-/// Puts into the front what stands behind the gate of a body: its length, the body and a closed gate.
-/// Answers how many bytes these are.
+/// Puts into the beginning what comes after the gate of a body: its length, the body and a closed gate.
+/// Returns how many bytes these are.
 fn spell(body: &[u8], into: &mut [u8; MAX_BLOCK]) -> usize
     requires { IsBody body.now }
-    ensures length { result ≡ length body.now + 3 }
-    ensures bytes { take result into.new ≡ written_behind body.now }
+    ensures length { result ≡ length body.now + HEAD_SIZE }
+    ensures bytes { take result into.new ≡ bytes_after_gate body.now }
 {
     let size = body.len();
     into[..2].copy_from_slice(&(size as u16).to_be_bytes());
     into[2..2 + size].copy_from_slice(body);
     into[2 + size] = 0;
-    size + 3
+    size + HEAD_SIZE
 }

@@ -1,4 +1,5 @@
 mod BytesLemmas
+mod Calls
 mod Facts
 mod ImageLemmas
 mod Moments

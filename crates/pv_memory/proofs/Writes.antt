@@ -7,10 +7,11 @@ use Rattle.std.proofs.lemmas.List.Folds.{list_any-append}
 use Rattle.std.proofs.lemmas.List.Elements.{All-push}
 use Rattle.std.proofs.lemmas.Bool.{cases_lt, lt-leb, le-leb, le-ltb, lt-ltb, true≢false, or_parts, or_from}
 use Rattle.std.proofs.Math.Bool.{and-false}
-use Rattle.pv_outside.specs.Disk.{Torn, overwritten, Follows}
-use Rattle.pv_outside.proofs.CallerLemmas.{length-overwritten}
+use Rattle.pv_outside.specs.Disk.{Torn, text_after_write, Follows}
+use Rattle.pv_outside.specs.declared.disk.TheConstants.{MAX_UNSYNCED}
+use Rattle.pv_outside.proofs.CallerLemmas.{length-text_after_write}
 use Rattle.pv_memory.specs.declared.past.Range.{Range}
-use Rattle.pv_memory.specs.Medium.{is_within, is_pending, Moment, IsTorn, IsImage, IsSound, IsEachWithin}
+use Rattle.pv_memory.specs.Medium.{is_within, is_pending, Moment, IsTorn, IsImage, MatchesSync, IsEachWithin}
 
 module _ (at : ℕ) (bytes text : List ℕ) (within : at ≤ length text) where
   -- before the place of a write stand as many bytes as the place says
@@ -22,7 +23,7 @@ module _ (at : ℕ) (bytes text : List ℕ) (within : at ≤ length text) where
   written = omega (arith, length-append (take at text) bytes, front)
 
   -- outside of its range a write changes no byte
-  stands : (k : ℕ) → (k < at) ⊎ (at + length bytes ≤ k) → get_or (overwritten at bytes text) k 0 ≡ get_or text k 0
+  stands : (k : ℕ) → (k < at) ⊎ (at + length bytes ≤ k) → get_or (text_after_write at bytes text) k 0 ≡ get_or text k 0
   stands k (inl h) =
       get_or_append_left (take at text ++ bytes) (drop (at + length bytes) text) 0 k (omega (arith, written))
       ∙ get_or_append_left (take at text) bytes 0 k (omega (arith, front))
@@ -33,18 +34,18 @@ module _ (at : ℕ) (bytes text : List ℕ) (within : at ≤ length text) where
       ∙ ap (λ (n : ℕ). get_or text n 0) (let e : at + length bytes + (k - (at + length bytes)) ≡ k = omega arith in e)
 
   -- what stood in the range of a write, put back there, gives the text from before the write
-  pub put_back : take at (overwritten at bytes text) ++ take (length bytes) (drop at text) ++ drop (at + length bytes) (overwritten at bytes text) ≡ text
+  pub put_back : take at (text_after_write at bytes text) ++ take (length bytes) (drop at text) ++ drop (at + length bytes) (text_after_write at bytes text) ≡ text
   put_back =
-      let before : take at (overwritten at bytes text) ≡ take at text =
+      let before : take at (text_after_write at bytes text) ≡ take at text =
       ap (λ (l : List ℕ). take at l) (append_assoc (take at text) bytes (drop (at + length bytes) text)) ∙ take_at (take at text) (bytes ++ drop (at + length bytes) text) at front in
-      let behind : drop (at + length bytes) (overwritten at bytes text) ≡ drop (length bytes) (drop at text) =
+      let behind : drop (at + length bytes) (text_after_write at bytes text) ≡ drop (length bytes) (drop at text) =
       drop_at (take at text ++ bytes) (drop (at + length bytes) text) (at + length bytes) written ∙ sym (drop-drop (length bytes) at text) in
       (λ i. before i ++ take (length bytes) (drop at text) ++ behind i)
       ∙ append_assoc (take at text) (take (length bytes) (drop at text)) (drop (length bytes) (drop at text))
       ∙ ap (λ (l : List ℕ). take at text ++ l) (take-append-drop (length bytes) (drop at text))
       ∙ take-append-drop at text
 
--- a place that is not within a range lies before it or behind it
+-- a place that is not within a range lies before it or after it
 outside : (range : Range) (k : ℕ) → is_within range k ≡ false → (k < range.at) ⊎ (range.at + range.size ≤ k)
 outside range k out = elim (cases_lt k range.at) [
   | inl before ↦ inl before
@@ -54,45 +55,48 @@ outside range k out = elim (cases_lt k range.at) [
   ]
 ]
 
--- a place that lies before a range or behind it is not within it
+-- a place that lies before a range or after it is not within it
 is_outside : (range : Range) (k : ℕ) → (k < range.at) ⊎ (range.at + range.size ≤ k) → is_within range k ≡ false
 is_outside range k (inl before) = ap (λ (b : Bool). b && nat_lt k (range.at + range.size)) (lt-leb range.at k before)
 is_outside range k (inr behind) = ap (λ (b : Bool). nat_le range.at k && b) (le-ltb k (range.at + range.size) behind) ∙ and-false (nat_le range.at k)
 
 -- a place is pending after one write more where it was before, or where it lies in the range of this write
-pending_push : (pending : List Range) (range : Range) (k : ℕ) → is_pending (pending ++ range ∷ []) k ≡ (is_pending pending k || (is_within range k || false))
+pending_push : (pending : List Range) (range : Range) (k : ℕ)
+    → is_pending (pending ++ range ∷ []) k ≡ (is_pending pending k || (is_within range k || false))
 pending_push pending range k = list_any-append (λ r. is_within r k) pending (range ∷ [])
 
 -- a place that is not pending after a write was not pending before, and does not lie in its range
-not_in_push : (pending : List Range) (range : Range) (k : ℕ) → is_pending (pending ++ range ∷ []) k ≡ false → (is_pending pending k ≡ false) × (is_within range k ≡ false)
+not_in_push : (pending : List Range) (range : Range) (k : ℕ) → is_pending (pending ++ range ∷ []) k ≡ false
+    → (is_pending pending k ≡ false) × (is_within range k ≡ false)
 not_in_push pending range k out =
     let parts = or_parts (is_pending pending k) (is_within range k || false) (sym (pending_push pending range k) ∙ out) in
     (parts.0, (or_parts (is_within range k) false parts.1).0)
 
 -- a place that was not pending, and does not lie in the range of a write, is not pending after it
-in_neither : (pending : List Range) (range : Range) (k : ℕ) → is_pending pending k ≡ false → is_within range k ≡ false → is_pending (pending ++ range ∷ []) k ≡ false
+in_neither : (pending : List Range) (range : Range) (k : ℕ) → is_pending pending k ≡ false → is_within range k ≡ false
+    → is_pending (pending ++ range ∷ []) k ≡ false
 in_neither pending range k p q = pending_push pending range k ∙ or_from (is_pending pending k) (is_within range k || false) p (or_from (is_within range k) false q refl)
 
 -- A write of these bytes at this place.
-module _ (at : ℕ) (bytes text synced : List ℕ) (pending : List Range) (sound : IsSound text synced pending) (within : at ≤ length text) where
+module _ (at : ℕ) (bytes text synced : List ℕ) (pending : List Range) (matches : MatchesSync text synced pending) (within : at ≤ length text) where
   -- the range of this write
   abbrev range : Range
   range = record { at = at; size = length bytes }
 
   -- after it the text ends where it ended, or at the write's end where that lies further
-  long : length (overwritten at bytes text) ≡ at + length bytes + (length text - (at + length bytes))
-  long = length-overwritten at bytes text within
+  long : length (text_after_write at bytes text) ≡ at + length bytes + (length text - (at + length bytes))
+  long = length-text_after_write at bytes text within
 
   -- the ranges that were written before still lie within the text
-  still_within : IsEachWithin pending (length (overwritten at bytes text))
-  still_within k d h = omega (arith, long, sound.within k d h)
+  still_within : IsEachWithin pending (length (text_after_write at bytes text))
+  still_within k d h = omega (arith, long, matches.within k d h)
 
   -- a write keeps what a disk keeps: the text and that of the last sync differ in the ranges written since alone
-  pub sound_after : length pending < 8 → IsSound (overwritten at bytes text) synced (pending ++ range ∷ [])
-  sound_after few = record {
-    shorter = omega (arith, sound.shorter, long);
-    within = All-push (λ r. r.at + r.size ≤ length (overwritten at bytes text)) pending range still_within (omega (arith, long));
-    same = λ k h out. let parts = not_in_push pending range k out in sound.same k h parts.0 ∙ sym (stands at bytes text within k (outside range k parts.1));
+  pub matches_after : length pending < MAX_UNSYNCED → MatchesSync (text_after_write at bytes text) synced (pending ++ range ∷ [])
+  matches_after few = record {
+    shorter = omega (arith, matches.shorter, long);
+    within = All-push (λ r. r.at + r.size ≤ length (text_after_write at bytes text)) pending range still_within (omega (arith, long));
+    same = λ k h out. let parts = not_in_push pending range k out in matches.same k h parts.0 ∙ sym (stands at bytes text within k (outside range k parts.1));
     settled = λ none. absurd (omega (arith, none, length-append pending (range ∷ [])));
     few = omega (arith, few, length-append pending (range ∷ []));
   }
@@ -103,7 +107,7 @@ module _ (at : ℕ) (bytes text synced : List ℕ) (pending : List Range) (sound
 
   -- what a crash depends on after the write
   abbrev new_moment : Moment
-  new_moment = record { text = overwritten at bytes text; end = length synced; pending = pending ++ range ∷ [] }
+  new_moment = record { text = text_after_write at bytes text; end = length synced; pending = pending ++ range ∷ [] }
 
   -- a byte of the image from before the write: in the write's range what the disk read there, and else what the image has
   byte_before : List ℕ → ℕ → ℕ
@@ -114,7 +118,7 @@ module _ (at : ℕ) (bytes text synced : List ℕ) (pending : List Range) (sound
   image_before image = map (byte_before image) (range_with_len 0 (length synced))
 
   -- the text after the write is the one from before, torn in the write's range
-  torn_text : Torn at (length bytes) text (overwritten at bytes text)
+  torn_text : Torn at (length bytes) text (text_after_write at bytes text)
   torn_text = record { no_shorter = omega (arith, long); outside = λ k h out. stands at bytes text within k out }
 
   -- the image from before the write has its bytes
@@ -146,14 +150,14 @@ module _ (at : ℕ) (bytes text synced : List ℕ) (pending : List Range) (sound
         go true e = ap (λ (b : Bool). if b then get_or text k 0 else get_or image k 0) e
         go false e = ap (λ (b : Bool). if b then get_or text k 0 else get_or image k 0) e ∙ kept_byte k h p e
 
-    -- where nothing else was written since the last sync, the image is the old text, torn in the write's range
+    -- if nothing else was written since the last sync, the image is the old text, torn in the write's range
     from_text : length pending ≡ 0 → Torn at (length bytes) text image
     from_text none = record {
-      no_shorter = omega (arith, sound.settled none, torn.no_shorter);
-      outside = λ k h out. kept_byte k (omega (arith, sound.settled none)) (ap (λ ranges. is_pending ranges k) (nil_from_length pending none)) (is_outside range k out);
+      no_shorter = omega (arith, matches.settled none, torn.no_shorter);
+      outside = λ k h out. kept_byte k (omega (arith, matches.settled none)) (ap (λ ranges. is_pending ranges k) (nil_from_length pending none)) (is_outside range k out);
     }
 
-    -- where something was, the image from before the write is one that a crash might have left then, and the image is that one, torn in the write's range
+    -- if something was, the image from before the write is one that a crash might have left then, and the image is that one, torn in the write's range
     from_torn : 0 < length pending → IsTorn old_moment (image_before image) × Torn at (length bytes) (image_before image) image
     from_torn some = (
       record {

@@ -18,13 +18,13 @@ abbrev pub fails_now : Plan → Bool
 fails_now plan = list_any (λ n. n == plan.call) plan.failing
 
 -- the plan once the next call was made
-abbrev pub after_call : Plan → Plan
-after_call plan = record { call = one_more plan.call; failing = plan.failing; faults = if fails_now plan then one_more plan.faults else plan.faults }
+abbrev pub plan_after_call : Plan → Plan
+plan_after_call plan = record { call = one_more plan.call; failing = plan.failing; faults = if fails_now plan then one_more plan.faults else plan.faults }
 
 -- the plan once a fault of another kind was met
-abbrev pub after_fault : Plan → Plan
-after_fault plan = record plan { faults = one_more plan.faults }
+abbrev pub plan_after_fault : Plan → Plan
+plan_after_fault plan = record plan { faults = one_more plan.faults }
 
 -- the plan once a call was made that failed, named or not: each count has risen by one
-abbrev pub after_failure : Plan → Plan
-after_failure plan = record { call = one_more plan.call; failing = plan.failing; faults = one_more plan.faults }
+abbrev pub plan_after_failure : Plan → Plan
+plan_after_failure plan = record { call = one_more plan.call; failing = plan.failing; faults = one_more plan.faults }

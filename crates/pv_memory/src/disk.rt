@@ -1,23 +1,25 @@
 ghost use Rattle.std.specs.Prelude.{◌≡◌, ◌↔◌, ◌+◌, ◌≤◌, [], Option, Some, None, false, length, IfOk, IsOk, IsErr, IfSome, OnOk, OnErr, is_ok, ◌&&◌, not, List, slice_range, ℕ};
 ghost use Rattle.std.specs.Option.{option_map, ForSome};
 ghost use Rattle.pv_outside.specs.Counts.{Rose};
-ghost use Rattle.pv_outside.specs.Disk.{overwritten, Torn, Follows, NoMore, Turns, clock_after, Elapses, after_call, after_write, after_sync, budget_after, CanCall, CanWrite, IsSpent, fused};
-ghost use Rattle.pv_memory.specs.Medium.{Medium, moment_of, IsImage, IsForgotten, LeftSince, budget_of, can_pass, has_room, image_of, after_pass, after_failing, after_looking, after_writing, after_syncing};
-ghost use Rattle.pv_memory.specs.MediumLaws.{now_counts, only_now, fresh};
+ghost use Rattle.pv_outside.specs.declared.failed.TheConstants.{COUNT_END};
+ghost use Rattle.pv_outside.specs.Disk.{budget_after_call, budget_after_sync};
+ghost use Rattle.pv_outside.specs.Calls.{WritesNothing, WritesAt, IsFused};
+ghost use Rattle.pv_memory.specs.Medium.{Medium, moment_of, IsImage, IsForgotten, LeftSince, budget_of, can_pass, has_room, image_of, disk_after_count, disk_after_failure, disk_after_read, disk_after_write, disk_after_sync};
+ghost use Rattle.pv_memory.specs.MediumLaws.{now_counts, only_now, now_is_known, new_disk};
 ghost use Rattle.std.specs.Prelude.{refl};
 ghost use Rattle.std.proofs.Common.{inl};
 
 use crate::bytes::{catch_up, overwrite, restore};
 use crate::faults::Faults;
 use crate::past::{Past, Range};
-use pv_outside::{Disk, Failed, Fused, KEPT_BYTES, MAX_UNSYNCED};
+use pv_outside::{Disk, Failed, Fused, MAX_UNSYNCED, Reports};
 use std::alloc::{AllocError, Global};
 use std::marker::Model;
 
 /// The range of a call that writes nothing.
 const NOTHING: Range = Range { at: 0, size: 0 };
 
-/// A disk in memory, which tells all of itself and can be made to crash.
+/// A disk in memory, which reports all of itself and can be made to crash.
 #[derive(Debug, Drop)]
 pub struct MemDisk {
     text: Vec<u8>,
@@ -35,17 +37,18 @@ impl Model for MemDisk {
 
     ghost Value = { Medium };
 
-    ghost use Rattle.pv_memory.specs.Inside.{medium_of, IsKept};
+    ghost use Rattle.pv_memory.specs.Inside.{medium_of, IsMemDisk};
 
     ghost view = { medium_of };
 
-    ghost invariant = { IsKept };
+    ghost invariant = { IsMemDisk };
 }
 
 impl MemDisk {
-    /// An empty disk with this room, of which the calls of these numbers fail. All memory is taken here.
+    /// An empty disk with room for `room` bytes, of which the calls of these numbers fail, counted from 0.
+    /// All memory is taken here.
     pub fn new(alloc: Global, room: u64, fails: &[u64]) -> Result<MemDisk, AllocError>
-        ensures { IfOk result (λ disk. disk ≡ fresh room fails.now) }
+        ensures { IfOk result (λ disk. disk ≡ new_disk room fails.now) }
     {
         let room = room as usize;
         Ok(MemDisk {
@@ -67,13 +70,19 @@ impl MemDisk {
         &self.text
     }
 
-    /// Makes the disk the image of this number that a crash now may leave: 0 is the disk at the last
+    /// Makes the disk the image of this number that a crash now may leave. 0 is the disk at the last
     /// sync, 1 the disk as it reads, and the others have a pattern over each range that was written
     /// since the last sync. Nothing is pending afterwards, and there is no end to the calls that pass.
     pub fn crash(&mut self, image: u8)
         ensures image { self.new.text ≡ image_of self.old image }
         ensures left { IsImage (moment_of self.old) self.new.text }
-        ensures same { self.new ≡ record self.old { text = self.new.text; synced = self.new.text; pending = []; past = []; left = None } }
+        ensures same { self.new ≡ record self.old {
+          text = self.new.text;
+          synced = self.new.text;
+          pending = [];
+          past = [];
+          left = None;
+        } }
     {
         restore(&mut self.text, &mut self.synced, &self.pending, image);
         self.pending.clear();
@@ -81,16 +90,17 @@ impl MemDisk {
         self.left = None;
     }
 
-    /// Counts a call, which fails where it is named to, where it is refused, or where no further one
-    /// passes; else it keeps what stands in the range that the call is about to write.
-    fn begin(&mut self, range: Range, is_refused: bool) -> Result<(), Failed>
-        requires { range.at ≤ length self.old.text }
-        ensures ok { OnOk result (self.new ≡ after_pass range self.old) }
+    /// Counts a call, which fails if it is named to, if it is refused, or if no further one passes.
+    fn begin(&mut self, is_refused: bool) -> Result<(), Failed>
+        ensures ok { OnOk result (self.new ≡ disk_after_count self.old) }
         ensures not_refused { OnOk result (is_refused ≡ false) }
-        ensures err { OnErr result (self.new ≡ after_failing self.old) }
+        ensures err { OnErr result (self.new ≡ disk_after_failure self.old) }
+
+        // The counts of calls and of faults.
         ensures counted { self.old.plan.faults ≤ self.new.plan.faults }
         ensures failed { IsErr result → Rose self.old.plan.faults self.new.plan.faults }
         ensures exact { is_ok result ≡ (can_pass self.old && not is_refused) }
+        ensures ends { self.old.clock ≤ COUNT_END }
     {
         if self.faults.next_fails() {
             return Err(Failed);
@@ -99,21 +109,30 @@ impl MemDisk {
             self.faults.count_fault();
             return Err(Failed);
         }
-        if range.size > KEPT_BYTES as usize {
-            self.past.forget();
-        } else {
-            self.past
-                .keep(range, &self.text, &self.pending, self.synced.len());
-        }
         self.clock = self.clock.saturating_add(1);
         self.left = self.left.map(|left| left - 1);
         Ok(())
     }
+
+    /// Begins a call that writes nothing.
+    fn begin_read(&mut self) -> Result<(), Failed>
+        ensures ok { OnOk result (self.new ≡ disk_after_read self.old) }
+        ensures err { OnErr result (self.new ≡ disk_after_failure self.old) }
+
+        // The counts of calls and of faults.
+        ensures counted { self.old.plan.faults ≤ self.new.plan.faults }
+        ensures failed { IsErr result → Rose self.old.plan.faults self.new.plan.faults }
+        ensures exact { is_ok result ≡ can_pass self.old }
+        ensures ends { self.old.clock ≤ COUNT_END }
+    {
+        self.begin(false)?;
+        self.past
+            .note(NOTHING, &self.text, &self.pending, self.synced.len());
+        Ok(())
+    }
 }
 
-impl Disk for MemDisk {
-    type Failure = Failed;
-
+impl Reports for MemDisk {
     ghost reads = { λ m. Some m.text };
 
     ghost may_leave = { λ m. IsImage (moment_of m) };
@@ -127,6 +146,10 @@ impl Disk for MemDisk {
     ghost budget = { budget_of };
 
     ghost faults = { λ m. m.plan.faults };
+}
+
+impl Disk for MemDisk {
+    type Failure = Failed;
 
     ghost reads_is_left = { λ m. inl refl };
 
@@ -134,49 +157,36 @@ impl Disk for MemDisk {
 
     ghost only_now = { only_now };
 
+    ghost now_is_known = { now_is_known };
+
     ghost any_if_forgotten = { λ m t image forgotten. inl forgotten };
 
     fn len(&mut self) -> Result<u64, Failed>
         ensures len { IfOk result (λ n. IfSome (Some self.old.text) (λ text. n ≡ length text)) }
-        ensures reads { Some self.new.text ≡ Some self.old.text }
-        ensures images { NoMore (IsImage (moment_of self.old)) (IsImage (moment_of self.new)) }
-        ensures clock { self.new.clock ≡ clock_after result self.old.clock }
-        ensures time { Elapses self.old.clock self.new.clock (IsForgotten self.old) (IsForgotten self.new) (LeftSince self.old) (LeftSince self.new) (IsImage (moment_of self.new)) 0 }
-        ensures budget { budget_of self.new ≡ budget_after result after_call (budget_of self.old) }
-        ensures passes { CanCall (budget_of self.old) → IsOk result }
-        ensures spent { IsSpent (budget_of self.old) → IsErr result }
-        ensures counted { self.old.plan.faults ≤ self.new.plan.faults }
-        ensures failed { IsErr result → Rose self.old.plan.faults self.new.plan.faults }
+        ensures keeps { WritesNothing ⟦<MemDisk as Reports>⟧ budget_after_call self.old self.new result }
 
-        // It fails exactly where it is named to or no further call passes, and then it changes nothing.
+        // It fails exactly if it is named to or no further call passes, and then it changes nothing.
         ensures exact { is_ok result ≡ can_pass self.old }
-        ensures done { OnOk result (self.new ≡ after_looking self.old) }
-        ensures err { OnErr result (self.new ≡ after_failing self.old) }
+        ensures done { OnOk result (self.new ≡ disk_after_read self.old) }
+        ensures err { OnErr result (self.new ≡ disk_after_failure self.old) }
     {
-        self.begin(NOTHING, false)?;
+        self.begin_read()?;
         Ok(self.text.len() as u64)
     }
 
     fn read(&mut self, at: u64, into: &mut [u8]) -> Result<(), Failed>
         requires within { ForSome (Some self.old.text) (λ text. at + length into.old ≤ length text) }
-        ensures bytes { OnOk result (IfSome (Some self.old.text) (λ text. into.new ≡ slice_range text at (at + length into.old))) }
-        ensures reads { Some self.new.text ≡ Some self.old.text }
-        ensures images { NoMore (IsImage (moment_of self.old)) (IsImage (moment_of self.new)) }
-        ensures clock { self.new.clock ≡ clock_after result self.old.clock }
-        ensures time { Elapses self.old.clock self.new.clock (IsForgotten self.old) (IsForgotten self.new) (LeftSince self.old) (LeftSince self.new) (IsImage (moment_of self.new)) 0 }
-        ensures budget { budget_of self.new ≡ budget_after result after_call (budget_of self.old) }
-        ensures passes { CanCall (budget_of self.old) → IsOk result }
-        ensures spent { IsSpent (budget_of self.old) → IsErr result }
-        ensures counted { self.old.plan.faults ≤ self.new.plan.faults }
-        ensures failed { IsErr result → Rose self.old.plan.faults self.new.plan.faults }
+        ensures bytes { OnOk result (IfSome (Some self.old.text) (λ text.
+            into.new ≡ slice_range text at (at + length into.old))) }
+        ensures keeps { WritesNothing ⟦<MemDisk as Reports>⟧ budget_after_call self.old self.new result }
 
-        // It fails exactly where it is named to or no further call passes, and then it changes nothing.
+        // It fails exactly if it is named to or no further call passes, and then it changes nothing.
         ensures exact { is_ok result ≡ can_pass self.old }
-        ensures done { OnOk result (self.new ≡ after_looking self.old) }
-        ensures err { OnErr result (self.new ≡ after_failing self.old) }
+        ensures done { OnOk result (self.new ≡ disk_after_read self.old) }
+        ensures err { OnErr result (self.new ≡ disk_after_failure self.old) }
         ensures kept { OnErr result (into.new ≡ into.old) }
     {
-        self.begin(NOTHING, false)?;
+        self.begin_read()?;
         let at = at as usize;
         into.copy_from_slice(&self.text[at..at + into.len()]);
         Ok(())
@@ -184,22 +194,13 @@ impl Disk for MemDisk {
 
     fn write(&mut self, at: u64, bytes: &[u8]) -> Result<(), Failed>
         requires within { ForSome (Some self.old.text) (λ text. at ≤ length text) }
-        ensures written { OnOk result (Some self.new.text ≡ option_map (overwritten at bytes.now) (Some self.old.text)) }
-        ensures torn { OnErr result (Turns (Torn at (length bytes.now)) (Some self.old.text) (Some self.new.text)) }
-        ensures images { Follows (Torn at (length bytes.now)) (IsImage (moment_of self.old)) (IsImage (moment_of self.new)) }
-        ensures clock { self.new.clock ≡ clock_after result self.old.clock }
-        ensures time { Elapses self.old.clock self.new.clock (IsForgotten self.old) (IsForgotten self.new) (LeftSince self.old) (LeftSince self.new) (IsImage (moment_of self.new)) (length bytes.now) }
-        ensures budget { budget_of self.new ≡ budget_after result after_write (budget_of self.old) }
-        ensures passes { CanWrite (budget_of self.old) (at + length bytes.now) → IsOk result }
-        ensures spent { IsSpent (budget_of self.old) → IsErr result }
-        ensures counted { self.old.plan.faults ≤ self.new.plan.faults }
-        ensures failed { IsErr result → Rose self.old.plan.faults self.new.plan.faults }
+        ensures writes { WritesAt ⟦<MemDisk as Reports>⟧ at bytes.now self.old self.new result }
 
-        // It fails exactly where it is named to, no further call passes or it has no room, and then it
-        // changes nothing.
+        // It fails exactly if it is named to, no further call passes or it has no room, and then it changes
+        // nothing.
         ensures exact { is_ok result ≡ (can_pass self.old && has_room self.old (at + length bytes.now)) }
-        ensures done { OnOk result (self.new ≡ after_writing at bytes.now self.old) }
-        ensures err { OnErr result (self.new ≡ after_failing self.old) }
+        ensures done { OnOk result (self.new ≡ disk_after_write at bytes.now self.old) }
+        ensures err { OnErr result (self.new ≡ disk_after_failure self.old) }
     {
         let range = Range {
             at: at as usize,
@@ -207,30 +208,25 @@ impl Disk for MemDisk {
         };
         let is_full = self.pending.len() == MAX_UNSYNCED as usize;
         let is_refused = is_full || range.size > self.room - range.at;
-        self.begin(range, is_refused)?;
+        self.begin(is_refused)?;
+        self.past
+            .note(range, &self.text, &self.pending, self.synced.len());
         overwrite(&mut self.text, range.at, bytes);
         self.pending.push(range).unwrap();
         Ok(())
     }
 
     fn sync(&mut self) -> Result<(), Failed>
-        ensures durable { OnOk result (IfSome (Some self.new.text) (λ text. (image : List ℕ) → IsImage (moment_of self.new) image → image ≡ text)) }
-        ensures reads { Some self.new.text ≡ Some self.old.text }
-        ensures images { NoMore (IsImage (moment_of self.old)) (IsImage (moment_of self.new)) }
-        ensures clock { self.new.clock ≡ clock_after result self.old.clock }
-        ensures time { Elapses self.old.clock self.new.clock (IsForgotten self.old) (IsForgotten self.new) (LeftSince self.old) (LeftSince self.new) (IsImage (moment_of self.new)) 0 }
-        ensures budget { budget_of self.new ≡ budget_after result after_sync (budget_of self.old) }
-        ensures passes { CanCall (budget_of self.old) → IsOk result }
-        ensures spent { IsSpent (budget_of self.old) → IsErr result }
-        ensures counted { self.old.plan.faults ≤ self.new.plan.faults }
-        ensures failed { IsErr result → Rose self.old.plan.faults self.new.plan.faults }
+        ensures durable { OnOk result (IfSome (Some self.new.text) (λ text.
+            (image : List ℕ) → IsImage (moment_of self.new) image → image ≡ text)) }
+        ensures keeps { WritesNothing ⟦<MemDisk as Reports>⟧ budget_after_sync self.old self.new result }
 
-        // It fails exactly where it is named to or no further call passes, and then it changes nothing.
+        // It fails exactly if it is named to or no further call passes, and then it changes nothing.
         ensures exact { is_ok result ≡ can_pass self.old }
-        ensures done { OnOk result (self.new ≡ after_syncing self.old) }
-        ensures err { OnErr result (self.new ≡ after_failing self.old) }
+        ensures done { OnOk result (self.new ≡ disk_after_sync self.old) }
+        ensures err { OnErr result (self.new ≡ disk_after_failure self.old) }
     {
-        self.begin(NOTHING, false)?;
+        self.begin_read()?;
         catch_up(&mut self.synced, &self.text, &self.pending);
         self.pending.clear();
         Ok(())
@@ -239,15 +235,9 @@ impl Disk for MemDisk {
 
 impl Fused for MemDisk {
     fn fuse(&mut self, calls: u32)
-        ensures left { budget_of self.new ≡ option_map (fused calls) (budget_of self.old) }
-        ensures reads { Some self.new.text ≡ Some self.old.text }
-        ensures images { (image : List ℕ) → IsImage (moment_of self.new) image ↔ IsImage (moment_of self.old) image }
-        ensures clock { self.new.clock ≡ self.old.clock }
-        ensures since { (t : ℕ) (image : List ℕ) → LeftSince self.new t image ↔ LeftSince self.old t image }
-        ensures forgotten { (t : ℕ) → IsForgotten self.new t ↔ IsForgotten self.old t }
-        ensures faults { self.new.plan.faults ≡ self.old.plan.faults }
+        ensures fused { IsFused ⟦<MemDisk as Reports>⟧ calls self.old self.new }
 
-        // So many further calls pass, also of a disk that does not tell its budget.
+        // This many further calls pass, also of a disk that does not report its budget.
         ensures exact { self.new ≡ record self.old { left = Some calls } }
     {
         self.left = Some(calls as u64);

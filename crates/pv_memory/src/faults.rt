@@ -1,12 +1,12 @@
 ghost use Rattle.std.specs.Prelude.{◌≡◌, ◌≤◌, IfOk, IsTrue};
 ghost use Rattle.pv_outside.specs.Counts.{Rose};
-ghost use Rattle.pv_memory.specs.Faults.{Plan, fails_now, after_call, after_fault};
+ghost use Rattle.pv_memory.specs.Faults.{Plan, fails_now, plan_after_call, plan_after_fault};
 
 use std::alloc::{AllocError, Global};
 use std::marker::Model;
 
-/// Which calls of an object fail, counted from 0, and how often one has. Both counts stand still at
-/// the end of 64 bits.
+/// Which calls of an object fail, counted from 0, and how often one has. Both counts no longer
+/// rise at the end of 64 bits.
 #[derive(Debug, Drop)]
 pub(crate) struct Faults {
     call: u64,
@@ -34,7 +34,7 @@ impl Faults {
     /// Counts a call, and answers whether it fails.
     pub(crate) fn next_fails(&mut self) -> bool
         ensures fails { result ≡ fails_now self.old }
-        ensures counted { self.new ≡ after_call self.old }
+        ensures counted { self.new ≡ plan_after_call self.old }
         ensures never_falls { self.old.faults ≤ self.new.faults }
         ensures rose { IsTrue result → Rose self.old.faults self.new.faults }
     {
@@ -48,7 +48,7 @@ impl Faults {
 
     /// Counts a fault that no call was named for.
     pub(crate) fn count_fault(&mut self)
-        ensures counted { self.new ≡ after_fault self.old }
+        ensures counted { self.new ≡ plan_after_fault self.old }
         ensures rose { Rose self.old.faults self.new.faults }
         ensures never_falls { self.old.faults ≤ self.new.faults }
     {

@@ -1,7 +1,7 @@
-//! The outside in memory: sources, sinks and disks that tell their bytes and fail at the calls that a
-//! test names, for programs that need no real outside and for tests.
+//! The outside in memory, for tests and for programs that need no real outside: sources, sinks and disks
+//! that report their bytes, and fail at the calls that they were made to fail at.
 //!
-//! [`MemSource`] gives the bytes that it was made with, [`MemSink`] keeps what it is given, and
+//! [`MemSource`] gives the bytes that it was made with, [`MemSink`] keeps what is written to it, and
 //! [`MemDisk`] keeps it and can be made to crash. Each is made with the numbers of the calls, counted
 //! from 0, that fail. A call that fails changes nothing but the counts of calls and faults.
 //!

@@ -1,8 +1,10 @@
 ghost use Rattle.std.specs.Prelude.{◌≡◌, ◌≤◌, [], ◌∷◌, length, take, drop, IfOk};
 ghost use Rattle.pv_outside.specs.declared.disk.TheConstants.{KEPT_BYTES, KEPT_CALLS, MAX_UNSYNCED};
+ghost use Rattle.pv_memory.specs.Past.{changes_after};
 
 use pv_outside::{KEPT_BYTES, KEPT_CALLS, MAX_UNSYNCED};
 use std::alloc::{AllocError, Global};
+use std::collections::VecDeque;
 use std::marker::Model;
 
 /// A range of a disk: where it begins, and how many bytes it has.
@@ -25,7 +27,7 @@ pub(crate) struct Step {
 impl Model for Step {
     ghost use Rattle.std.specs.Prelude.{◌≤◌, vec_capacity};
     ghost use Rattle.pv_outside.specs.declared.disk.TheConstants.{KEPT_BYTES, MAX_UNSYNCED};
-    ghost use Rattle.pv_memory.specs.Medium.{Change};
+    ghost use Rattle.pv_memory.specs.Past.{Change};
 
     ghost Value = { Change };
 
@@ -44,12 +46,17 @@ impl Step {
         })
     }
 
-    /// Keeps what stands in a range that is about to be written, and what was pending before that.
+    /// Keeps the bytes of a range that is about to be written, and what was pending before that.
     pub(crate) fn keep(&mut self, range: Range, text: &[u8], pending: &[Range], end: usize)
         requires within { range.at ≤ length text.now }
         requires size { range.size ≤ KEPT_BYTES }
         requires few { length pending.now ≤ MAX_UNSYNCED }
-        ensures { self.new ≡ record { range = range; replaced = take range.size (drop range.at text.now); pending = pending.now; end = end } }
+        ensures { self.new ≡ record {
+          range = range;
+          replaced = take range.size (drop range.at text.now);
+          pending = pending.now;
+          end = end;
+        } }
     {
         let size = range.size.min(text.len() - range.at);
         self.range = range;
@@ -63,17 +70,18 @@ impl Step {
     }
 }
 
-/// What each of the last calls has changed, the newest first.
+/// What each of the last calls has changed, the newest first: a ring, whose oldest step is written anew at
+/// each call.
 #[derive(Debug, Drop)]
 pub(crate) struct Past {
-    steps: Vec<Step>,
+    steps: VecDeque<Step>,
     known: usize,
 }
 
 impl Model for Past {
     ghost use Rattle.std.specs.Prelude.{◌≡◌, ◌≤◌, List, length, take};
     ghost use Rattle.pv_outside.specs.declared.disk.TheConstants.{KEPT_CALLS};
-    ghost use Rattle.pv_memory.specs.Medium.{Change};
+    ghost use Rattle.pv_memory.specs.Past.{Change};
 
     ghost Value = { List Change };
 
@@ -86,20 +94,43 @@ impl Past {
     pub(crate) fn new(alloc: Global) -> Result<Past, AllocError>
         ensures { IfOk result (λ past. past ≡ []) }
     {
-        let mut steps = Vec::with_capacity(alloc, KEPT_CALLS as usize)?;
+        let mut steps = VecDeque::with_capacity(alloc, KEPT_CALLS as usize)?;
         for _i in 0..KEPT_CALLS {
-            steps.push(Step::new(alloc)?)?;
+            steps.push_back(Step::new(alloc)?)?;
         }
         Ok(Past { steps, known: 0 })
     }
 
-    /// Keeps what a call changes that is about to write a range. It forgets the call that lies furthest
-    /// back, where it knows as many as it keeps.
-    pub(crate) fn keep(&mut self, range: Range, text: &[u8], pending: &[Range], end: usize)
+    /// Keeps what a call changes that is about to write a range. A large write makes it forget all calls.
+    pub(crate) fn note(&mut self, range: Range, text: &[u8], pending: &[Range], end: usize)
+        requires within { range.at ≤ length text.now }
+        requires few { length pending.now ≤ MAX_UNSYNCED }
+        ensures { self.new ≡ changes_after (record {
+          range = range;
+          replaced = take range.size (drop range.at text.now);
+          pending = pending.now;
+          end = end;
+        }) self.old }
+    {
+        if range.size > KEPT_BYTES as usize {
+            self.forget();
+        } else {
+            self.keep(range, text, pending, end);
+        }
+    }
+
+    /// Keeps what a call changes that is about to write a range. It forgets the oldest call once it is
+    /// full.
+    fn keep(&mut self, range: Range, text: &[u8], pending: &[Range], end: usize)
         requires within { range.at ≤ length text.now }
         requires size { range.size ≤ KEPT_BYTES }
         requires few { length pending.now ≤ MAX_UNSYNCED }
-        ensures { self.new ≡ take KEPT_CALLS (record { range = range; replaced = take range.size (drop range.at text.now); pending = pending.now; end = end } ∷ self.old) }
+        ensures { self.new ≡ take KEPT_CALLS (record {
+          range = range;
+          replaced = take range.size (drop range.at text.now);
+          pending = pending.now;
+          end = end;
+        } ∷ self.old) }
     {
         self.steps.rotate_right(1);
         self.steps[0].keep(range, text, pending, end);

@@ -2,14 +2,14 @@ ghost use Rattle.std.specs.Prelude.{◌≡◌, ◌≤◌, ◌||◌, [], Option, 
 ghost use Rattle.pv_outside.specs.Counts.{Rose};
 ghost use Rattle.pv_outside.specs.Sink.{Writes};
 ghost use Rattle.pv_memory.specs.Faults.{fails_now};
-ghost use Rattle.pv_memory.specs.Streams.{is_past_room, after_write};
+ghost use Rattle.pv_memory.specs.Streams.{is_past_room, sink_after_write};
 
 use crate::faults::Faults;
 use pv_outside::{Failed, Sink};
 use std::alloc::{AllocError, Global};
 use std::marker::Model;
 
-/// A sink that keeps what it is given, as long as it has room.
+/// A sink that keeps what is written to it, as long as it has room.
 #[derive(Debug, Drop)]
 pub struct MemSink {
     bytes: Vec<u8>,
@@ -29,7 +29,8 @@ impl Model for MemSink {
 }
 
 impl MemSink {
-    /// A sink with room for so many bytes, taken at once, of which the calls of these numbers fail.
+    /// A sink with room for `room` bytes, taken at once, of which the calls of these numbers fail, counted
+    /// from 0.
     pub fn new(alloc: Global, room: usize, fails: &[u64]) -> Result<MemSink, AllocError>
         ensures { IfOk result (λ s. s ≡ record { bytes = []; room = room; plan = record { call = 0; failing = fails.now; faults = 0 } }) }
     {
@@ -59,7 +60,7 @@ impl Sink for MemSink {
         ensures failed { IsErr result → Rose self.old.plan.faults self.new.plan.faults }
 
         // It fails at the calls that were named and past its room, and then keeps nothing of the bytes.
-        ensures exact { self.new ≡ after_write self.old bytes.now }
+        ensures exact { self.new ≡ sink_after_write self.old bytes.now }
         ensures fails { is_err result ≡ (fails_now self.old.plan || is_past_room self.old bytes.now) }
     {
         if self.faults.next_fails() {

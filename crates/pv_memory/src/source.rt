@@ -1,9 +1,9 @@
 ghost use Rattle.std.specs.Prelude.{◌≡◌, ℕ, ◌<◌, ◌≤◌, ◌+◌, List, [], length, take, drop, min, Option, Some, IfOk, OnErr, IsErr, is_err, false, ◌++◌, ◌==◌, ◌&&◌, nat_lt};
 ghost use Rattle.std.specs.Io.KnownBytes.{IsAtEnd};
 ghost use Rattle.pv_outside.specs.Counts.{Rose};
-ghost use Rattle.pv_outside.specs.Source.{Ends, Takes, Leaves};
+ghost use Rattle.pv_outside.specs.Source.{MarksEnd, Takes, Leaves};
 ghost use Rattle.pv_memory.specs.Faults.{fails_now};
-ghost use Rattle.pv_memory.specs.Streams.{SourceState, after_read};
+ghost use Rattle.pv_memory.specs.Streams.{SourceState, source_after_read};
 
 use crate::faults::Faults;
 use pv_outside::{Failed, Source};
@@ -57,17 +57,19 @@ impl Source for MemSource {
         ensures within { IfOk result (λ n. n ≤ length into.old) }
         ensures taken { Takes (Some self.old.read) (Some self.new.read) result into.new }
         ensures left { Leaves (Some self.old.left) (Some self.new.left) result into.new }
-        ensures end { Ends self.old.ended self.new.ended result (length into.old) }
+        ensures end { MarksEnd self.old.ended self.new.ended result (length into.old) }
         ensures only_at_end { result ≡ Ok 0 → 0 < length into.old → IsAtEnd (Some self.old.left) }
+
+        // A fault is counted.
         ensures counted { self.old.plan.faults ≤ self.new.plan.faults }
         ensures failed { IsErr result → Rose self.old.plan.faults self.new.plan.faults }
 
-        // It gives all that there is room for, and fails at the calls that were named.
-        ensures exact { self.new ≡ after_read self.old (length into.old) }
+        // It gives as many as there is room for, and fails at the calls that were named.
+        ensures exact { self.new ≡ source_after_read self.old (length into.old) }
         ensures fails { is_err result ≡ fails_now self.old.plan }
         ensures kept { OnErr result (into.new ≡ into.old) }
 
-        // Behind the bytes that it gave the slice is as it was.
+        // After the bytes that it gave the slice is as it was.
         ensures rest { IfOk result (λ n. drop n into.new ≡ drop n into.old) }
     {
         if self.faults.next_fails() {
@@ -80,13 +82,15 @@ impl Source for MemSource {
     }
 }
 
-/// Copies bytes from a place on into the front of a slice, as many as there are and go in, and answers
+/// Copies bytes from a place on into the beginning of a slice, as many as there are and fit, and returns
 /// how many.
 fn copy_from(bytes: &[u8], at: usize, into: &mut [u8]) -> usize
     requires { at ≤ length bytes.now }
     ensures count { result ≡ length (take (length into.old) (drop at bytes.now)) }
     ensures within { result ≤ length into.old }
     ensures given { take result into.new ≡ take (length into.old) (drop at bytes.now) }
+
+    // The rest of the slice, and what is read and left of the bytes afterwards.
     ensures rest { drop result into.new ≡ drop result into.old }
     ensures read { take (at + result) bytes.now ≡ take at bytes.now ++ take (length into.old) (drop at bytes.now) }
     ensures left { drop (at + result) bytes.now ≡ drop (length into.old) (drop at bytes.now) }
@@ -97,7 +101,7 @@ fn copy_from(bytes: &[u8], at: usize, into: &mut [u8]) -> usize
     count
 }
 
-/// Whether an answer of so many bytes, to a read with so much room, tells the end.
+/// Whether a read with room for `room` bytes that returns `count` has reached the end.
 fn is_end(count: usize, room: usize) -> bool
     ensures { result ≡ (count == 0 && nat_lt 0 room) }
 {

@@ -29,7 +29,7 @@ fn a_sink_keeps_what_fits(rt: HostRuntime) -> Result<(), Fail> {
 
 #[test]
 fn a_crash_leaves_the_image_of_its_number(rt: HostRuntime) -> Result<(), Fail> {
-    // The bytes `ab` are synced, and `c` and `de` are written over and behind them.
+    // The bytes `ab` are synced, and `c` and `de` are written over and after them.
     let table: [(u8, &[u8]); 6] = [
         (0, b"ab"),
         (1, b"acde"),
@@ -55,7 +55,9 @@ fn a_crash_leaves_the_image_of_its_number(rt: HostRuntime) -> Result<(), Fail> {
 }
 
 #[test]
-fn a_disk_fails_where_it_is_told_to_and_past_its_room(rt: HostRuntime) -> Result<(), Fail> {
+fn a_disk_fails_at_the_calls_that_were_named_and_past_its_room(
+    rt: HostRuntime,
+) -> Result<(), Fail> {
     let mut disk = MemDisk::new(rt.alloc(), 4, &[1])?;
     assert_eq!(rt; disk.write(0, b"abcd"), Ok(()));
     assert_eq!(rt; disk.sync(), Err(Failed));

@@ -7,18 +7,18 @@ pub all_at : {X : Type 0} (P : X → Type 0) (before : List X) (x : X) (behind :
 all_at P [] x behind all = All-head P x behind all
 all_at P (y ∷ before) x behind all = all_at P before x behind (All-tail P y (before ++ x ∷ behind) all)
 
--- where the spellings of some records begin with a body, it is the spelling of the first
+-- if the spellings of some records begin with a body, it is the spelling of the first
 pub first_of : {X : Type 0} (f : X → List ℕ) (more : List X) (body : List ℕ) (others : List (List ℕ)) → map f more ≡ body ∷ others
     → (x : X) × (rest : List X) × (more ≡ x ∷ rest) × (f x ≡ body)
 first_of f [] body others e = cc
 first_of f (x ∷ rest) body others e = (x, rest, refl, ap (λ (l : List (List ℕ)). get_or l 0 []) e)
 
--- where there are no spellings there are no records
+-- if there are no spellings there are no records
 pub none_of : {X : Type 0} (f : X → List ℕ) (more : List X) → map f more ≡ [] → more ≡ []
 none_of f [] e = refl
 none_of f (x ∷ rest) e = cc
 
--- lists of which each element tells what it is are equal where what they tell is
+-- lists of which each element reports what it is are equal where what they report is
 pub told_apart : {X : Type 0} (f : X → List ℕ) (P : X → Type 0) → ((x y : X) → P x → P y → f x ≡ f y → x ≡ y)
     → (one other : List X) → All P one → All P other → map f one ≡ map f other → one ≡ other
 told_apart f P tells [] [] each all e = refl

@@ -17,7 +17,7 @@ tails x y xs ys e = ap (drop 1) e
 heads : {X : Type 0} (x y : X) (xs ys : List X) → x ∷ xs ≡ y ∷ ys → x ≡ y
 heads x y xs ys e = ap (λ l. get_or l 0 x) e
 
--- an element of a list that was pushed to is the one that was pushed, behind all others, or was there before
+-- an element of a list that was pushed to is the one that was pushed, after all others, or was there before
 pub of_push : {X : Type 0} (xs : List X) (y : X) (before : List X) (x : X) (behind : List X) → xs ++ y ∷ [] ≡ before ++ x ∷ behind
     → ((before ≡ xs) × (x ≡ y)) ⊎ ((rest : List X) × (xs ≡ before ++ x ∷ rest))
 of_push [] y [] x behind e = inl (refl, sym (heads y x [] behind e))
@@ -28,14 +28,16 @@ of_push {X = X} (z ∷ xs) y (b ∷ before) x behind e = under (of_push xs y bef
     same : z ≡ b
     same = heads z b (xs ++ y ∷ []) (before ++ x ∷ behind) e
 
-    under : ((before ≡ xs) × (x ≡ y)) ⊎ ((rest : List X) × (xs ≡ before ++ x ∷ rest)) → ((b ∷ before ≡ z ∷ xs) × (x ≡ y)) ⊎ ((rest : List X) × (z ∷ xs ≡ b ∷ (before ++ x ∷ rest)))
+    under : ((before ≡ xs) × (x ≡ y)) ⊎ ((rest : List X) × (xs ≡ before ++ x ∷ rest))
+        → ((b ∷ before ≡ z ∷ xs) × (x ≡ y)) ⊎ ((rest : List X) × (z ∷ xs ≡ b ∷ (before ++ x ∷ rest)))
     under (inl last) = inl (ap (λ l. b ∷ l) last.0 ∙ ap (λ w. w ∷ xs) (sym same), last.1)
     under (inr there) = inr (there.0, ap (λ w. w ∷ xs) same ∙ ap (λ l. b ∷ l) there.1)
 
 module _ {S State Request Rec Reply : Type 0} (r : rules.Ghosts S State Request Rec Reply) where
-  -- where each of some records had room and one more has it in a state that stands for these, each of all has it
+  -- if each of some records had room and one more has it in a state that stands for these, each of all has it
   pub room_for_each : (same_room : (one other : State) (records : List Rec) (rec : Rec) → r.stands one records → r.stands other records → r.limits_of one ≡ r.limits_of other → r.fits one rec → r.fits other rec)
-      (limits : Limits) (state : State) (records : List Rec) (rec : Rec) → EachHasRoom r limits records → r.stands state records → r.limits_of state ≡ limits → r.fits state rec
+      (limits : Limits) (state : State) (records : List Rec) (rec : Rec) → EachHasRoom r limits records → r.stands state records
+      → r.limits_of state ≡ limits → r.fits state rec
       → EachHasRoom r limits (records ++ rec ∷ [])
   room_for_each same_room limits state records rec each stands is_limit fits before behind x other e other_stands other_limit = in_each (of_push records rec before x behind e)
     where
@@ -47,7 +49,8 @@ module _ {S State Request Rec Reply : Type 0} (r : rules.Ghosts S State Request 
 
   -- records that meet the limits, and one more that has room, meet them together where they were fewer than the limit
   pub meets_more : (same_room : (one other : State) (records : List Rec) (rec : Rec) → r.stands one records → r.stands other records → r.limits_of one ≡ r.limits_of other → r.fits one rec → r.fits other rec)
-      (limits : Limits) (state : State) (records : List Rec) (rec : Rec) → Meets r limits records → r.stands state records → r.limits_of state ≡ limits → r.fits state rec → length records < limits.records
+      (limits : Limits) (state : State) (records : List Rec) (rec : Rec) → Meets r limits records → r.stands state records
+      → r.limits_of state ≡ limits → r.fits state rec → length records < limits.records
       → Meets r limits (records ++ rec ∷ [])
   meets_more same_room limits state records rec meets stands is_limit fits below = record {
     count = omega (arith, below, length_push records rec);

@@ -29,8 +29,9 @@ abbrev rec_or : ℕ → Decision ℕ ℕ → ℕ
 rec_or byte (Answer reply) = byte
 rec_or byte (Store rec reply) = rec
 
--- where a byte is stored, both tests have passed, and it is the one that was asked
-shown : (small room : Bool) (byte count rec reply : ℕ) → (if (small && room) then Store byte count else Answer count) ≡ Store rec reply → (small ≡ true) × (room ≡ true) × (byte ≡ rec)
+-- if a byte is stored, both tests have passed, and it is the one that was asked
+shown : (small room : Bool) (byte count rec reply : ℕ) → (if (small && room) then Store byte count else Answer count) ≡ Store rec reply
+    → (small ≡ true) × (room ≡ true) × (byte ≡ rec)
 shown true true byte count rec reply e = (refl, refl, ap (rec_or byte) e)
 shown true false byte count rec reply e = absurd (subst IsAnswer e tt)
 shown false true byte count rec reply e = absurd (subst IsAnswer e tt)

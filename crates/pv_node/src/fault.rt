@@ -9,9 +9,9 @@ pub enum NodeFault<D: Disk> {
     Disk(D::Failure),
     /// These first eight bytes, filled up with 0, are not the mark of a journal.
     NotFormatted([u8; 8]),
-    /// No byte stands at this place, where a gate should, or the gate is open and no whole body follows.
+    /// No byte is at this place, where a gate should, or the gate is open and no whole body follows.
     Broken { at: u64 },
-    /// A further body stands behind as many records as the limit, which is this.
+    /// A further body stands after as many records as the limit, which is this.
     TooMany { count: u64 },
     /// The body of this number, from 0, is no record's spelling, or the record has no room in the state.
     Unreadable { number: u64 },

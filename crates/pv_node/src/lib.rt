@@ -9,12 +9,12 @@
 //!
 //! ```text
 //! let mut node = Node::<Ledger, _>::open(alloc, disk, limits)?;
-//! let told = node.ask(&request)?;
-//! told.reply;     // what the rules answer at the state of the records
-//! told.number;    // the place of the record that this request stored: each crash leaves it now
+//! let reported = node.ask(&request)?;
+//! reported.reply;     // what the rules answer at the state of the records
+//! reported.number;    // the place of the record that this request stored: each crash leaves it now
 //! ```
 //!
-//! Where a call of the disk fails while a record is being stored, the record is in hand: it is on the
+//! If a call of the disk fails while a record is being stored, the record is in hand: it is on the
 //! disk or it is not. The next `ask`, or [`Node::settle`], finds out.
 //!
 //! Which records an image, a disk and a node stand for is said by `specs/Standing.antt`, what an ask and

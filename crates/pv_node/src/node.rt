@@ -9,17 +9,18 @@
 //!   in hand    -> in hand     settle    a call of the disk failed
 //!   in hand    -> at rest     settle    the record, if it is stored
 //! ```
-ghost use Rattle.std.specs.Prelude.{◌≡◌, ℕ, ◌+◌, ◌*◌, ◌<◌, ◌≤◌, List, length, take, Option, Some, None, Ok, IfOk, IfErr, IfSome, OnOk, OnErr, IsErr, IsOk};
-ghost use Rattle.pv_outside.specs.Counts.{Rose};
+ghost use Rattle.std.specs.Prelude.{◌≡◌, ◌≢◌, ℕ, ◌+◌, ◌*◌, ◌<◌, ◌≤◌, List, length, take, Option, Some, None, Ok, IfOk, IfErr, IfSome, OnOk, OnErr, IsErr, IsOk};
 ghost use Rattle.pv_outside.specs.Disk.{HasCalls, IsEndless};
-ghost use Rattle.pv_journal.specs.Journal.{EachImage, HasLeft, Remains, IsFused};
+ghost use Rattle.pv_outside.specs.Calls.{IsFused};
+ghost use Rattle.pv_journal.specs.Journal.{EachImage, HasLeft, LeavesOnly, HasMade, ReadsOnly};
+ghost use Rattle.pv_journal.specs.Log.{longest};
 ghost use Rattle.pv_node.specs.Standing.{StandsEither, Meets, MeetsBoth, DiskStands, StandsFor};
 ghost use Rattle.pv_node.specs.Opening.{IsOutside, IsOpenFault, FaultShows, IsOpenDiskFault};
-ghost use Rattle.pv_node.specs.Asking.{FailsOnDisk, IsSettled, IsUnsettled, IsRefused, CanStore, IsKept, CarriesOut, Asks, Spends};
+ghost use Rattle.pv_node.specs.Asking.{to_store, AskLeaves, FailsOnDisk, IsSettled, IsUnsettled, IsRefused, CanStore, HasStored, CarriesOut, Asks, SpendsOnAsk};
 
 use crate::decision::{Decision, Told};
 use crate::fault::{AskFault, NodeFault};
-use crate::replay::{replay, told_by_node};
+use crate::replay::{of_node, replay};
 use crate::rules::Rules;
 use pv_fields::Out;
 use pv_journal::{AppendFault, Journal, MAX_BODY};
@@ -27,7 +28,7 @@ use pv_outside::{Disk, Fused, Limits};
 use std::alloc::Global;
 use std::marker::Model;
 
-/// Rules over a journal: a state that is what the records on a disk come to.
+/// Rules over a journal: a state in memory, and the records that it follows from on a disk.
 #[derive(Drop)]
 pub struct Node<R: Rules, D: Disk> {
     state: R::State,
@@ -46,7 +47,7 @@ impl<R: Rules, D: Disk> Model for Node<R, D> {
     ghost invariant = { λ n. IsNode R.Rules (record { journal = n.journal; state = n.state; hand = n.hand }) };
 }
 
-/// Puts the spelling of a record into the front, and answers how many bytes it has.
+/// Puts the spelling of a record into the beginning, and returns how many bytes it has.
 fn spell<R: Rules>(rec: &R::Rec, into: &mut [u8; MAX_BODY]) -> usize
     requires { R.is_record rec.now }
     ensures within { result ≤ MAX_BODY }
@@ -63,29 +64,32 @@ impl<R: Rules, D: Disk> Node<R, D> {
     /// refused is handed back. This call alone takes memory.
     pub fn open(alloc: Global, disk: D, limits: Limits) -> Result<Node<R, D>, (NodeFault<D>, D)>
         // The node stands for the records that the disk stands for, and has none in hand.
-        ensures opened { IfOk result (λ node. (records : List R.Rec) × StandsFor ⟦<R as Rules>⟧ ⟦<D as Disk>⟧ node records) }
-        ensures found { IfOk result (λ node. (records : List R.Rec) → DiskStands ⟦<R as Rules>⟧ ⟦<D as Disk>⟧ disk records → StandsFor ⟦<R as Rules>⟧ ⟦<D as Disk>⟧ node records) }
+        ensures opened { IfOk result (λ node. (records : List R.Rec) × StandsFor ⟦<R as Rules>⟧ D.Reports node records) }
+        ensures found { IfOk result (λ node. (records : List R.Rec) → DiskStands ⟦<R as Rules>⟧ D.Reports disk records → StandsFor ⟦<R as Rules>⟧ D.Reports node records) }
         ensures none_in_hand { IfOk result (λ node. node.hand ≡ None) }
         ensures limits { IfOk result (λ node. R.limits_of node.state ≡ limits) }
-        ensures same { IfOk result (λ node. Remains ⟦<D as Disk>⟧ disk node.journal.disk) }
 
-        // On a disk that stands for records within the limits, each of which has room, only want of memory or the disk is in the way.
-        ensures opens { IfErr result (λ e. (records : List R.Rec) → DiskStands ⟦<R as Rules>⟧ ⟦<D as Disk>⟧ disk records
+        // It makes three calls of the disk and one for each gate, and a crash leaves what it might have left before.
+        ensures reads_only { IfOk result (λ node. ReadsOnly D.Reports (node.journal.count + 4) ⊥ disk node.journal.disk) }
+        ensures moments { IfOk result (λ node. LeavesOnly D.Reports disk node.journal.disk (D.may_leave disk)) }
+
+        // On a disk that stands for records within the limits, each of which has room, only an allocation or the
+        // disk can fail.
+        ensures opens { IfErr result (λ e. (records : List R.Rec) → DiskStands ⟦<R as Rules>⟧ D.Reports disk records
             → Meets ⟦<R as Rules>⟧ limits records → IsOutside e.0) }
 
-        // Each fault has its cause, and on a disk that tells its bytes these show which it is.
+        // Each fault has its cause, and on a disk that reports its bytes these show which it is.
         ensures refused { IfErr result (λ e. IsOpenFault limits e.0) }
         ensures shown { IfErr result (λ e. IfSome (D.reads disk) (λ text. FaultShows ⟦<R as Rules>⟧ limits text e.0)) }
-        ensures handed_back { IfErr result (λ e. Remains ⟦<D as Disk>⟧ disk e.1) }
-        ensures failed { IfErr result (λ e. IsOpenDiskFault e.0 → Rose (D.faults disk) (D.faults e.1)) }
-        ensures passes { IfErr result (λ e. (room : ℕ) → IsEndless room (D.budget disk) → IsOpenDiskFault e.0 → ⊥) }
+        ensures handed_back { IfErr result (λ e. ReadsOnly D.Reports (limits.records + 4) (IsOpenDiskFault e.0) disk e.1) }
+        ensures moments_refused { IfErr result (λ e. LeavesOnly D.Reports disk e.1 (D.may_leave disk)) }
     {
         let Ok(mut state) = R::open(alloc, limits) else {
             return Err((NodeFault::Memory, disk));
         };
         let mut journal = match Journal::start(disk, limits) {
             Ok(journal) => journal,
-            Err((fault, disk)) => return Err((told_by_node(fault), disk)),
+            Err((fault, disk)) => return Err((of_node(fault), disk)),
         };
         let mut body = [0; MAX_BODY];
         if let Err(fault) = replay::<R, D>(&mut state, &mut journal, &mut body) {
@@ -100,20 +104,28 @@ impl<R: Rules, D: Disk> Node<R, D> {
     }
 
     /// Answers a request. It first settles what is in hand, then decides, and then stores what is to be
-    /// stored: the reply is told once each crash leaves the record. After a failure of the disk a record
+    /// stored: the reply is returned once each crash leaves the record. After a failure of the disk a record
     /// may be in hand, and the state is as it was but for a record that was settled.
     pub fn ask(&mut self, request: &R::Request) -> Result<Told<R::Reply>, AskFault<D>>
         requires { R.is_request request.now }
 
-        ensures asked { Asks ⟦<R as Rules>⟧ ⟦<D as Disk>⟧ request.now self.old self.new result }
-        ensures answers { self.old.hand ≡ None → CarriesOut ⟦<R as Rules>⟧ ⟦<D as Disk>⟧ (R.judgement self.old.state request.now) self.old self.new result }
+        ensures asked { Asks ⟦<R as Rules>⟧ D.Reports request.now self.old self.new result }
+        ensures answers { self.old.hand ≡ None → CarriesOut ⟦<R as Rules>⟧ D.Reports (R.judgement self.old.state request.now) self.old self.new result }
         ensures none_in_hand { OnOk result (self.new.hand ≡ None) }
         ensures limits { R.limits_of self.new.state ≡ R.limits_of self.old.state }
 
-        // What it takes of the disk. One with room for all records, whose calls have no end, is not in its way.
-        ensures spends { Spends ⟦<R as Rules>⟧ ⟦<D as Disk>⟧ 6 self.old self.new result }
-        ensures never_fails { (records : List R.Rec) → StandsFor ⟦<R as Rules>⟧ ⟦<D as Disk>⟧ self.old records
-            → IsEndless (9 + 2051 * (R.limits_of self.old.state).records) (D.budget self.old.journal.disk) → FailsOnDisk result → ⊥ }
+        // What a crash at any moment of it leaves; and with fewer than two calls of the disk left, it leaves what it
+        // might have left before.
+        ensures moments { (records : List R.Rec) → StandsFor ⟦<R as Rules>⟧ D.Reports self.old records
+            → LeavesOnly D.Reports self.old.journal.disk self.new.journal.disk (AskLeaves ⟦<R as Rules>⟧ D.Reports request.now self.old records) }
+        ensures few { (records : List R.Rec) (n : ℕ) → StandsFor ⟦<R as Rules>⟧ D.Reports self.old records
+            → HasLeft n (D.budget self.old.journal.disk) → n < 2
+            → LeavesOnly D.Reports self.old.journal.disk self.new.journal.disk (StandsEither ⟦<R as Rules>⟧ records self.old.hand) }
+
+        // What it takes of the disk. One with room for all records, whose calls have no end, does not fail.
+        ensures spends { SpendsOnAsk ⟦<R as Rules>⟧ D.Reports 6 self.old self.new result }
+        ensures never_fails { (records : List R.Rec) → StandsFor ⟦<R as Rules>⟧ D.Reports self.old records
+            → IsEndless (longest (R.limits_of self.old.state).records) (D.budget self.old.journal.disk) → FailsOnDisk result → ⊥ }
     {
         match self.settle() {
             Ok(_) => {
@@ -124,7 +136,7 @@ impl<R: Rules, D: Disk> Node<R, D> {
         }
     }
 
-    /// Does what was decided, and answers the reply.
+    /// Does what was decided, and returns the reply.
     fn carry_out(
         &mut self,
         decision: Decision<R::Rec, R::Reply>,
@@ -132,10 +144,12 @@ impl<R: Rules, D: Disk> Node<R, D> {
         requires none_in_hand { self.old.hand ≡ None }
         requires can { CanStore ⟦<R as Rules>⟧ self.old.state decision }
 
-        ensures carried_out { CarriesOut ⟦<R as Rules>⟧ ⟦<D as Disk>⟧ decision self.old self.new result }
+        ensures carried_out { CarriesOut ⟦<R as Rules>⟧ D.Reports decision self.old self.new result }
+        ensures moments { (records : List R.Rec) → StandsFor ⟦<R as Rules>⟧ D.Reports self.old records
+            → LeavesOnly D.Reports self.old.journal.disk self.new.journal.disk (StandsEither ⟦<R as Rules>⟧ records (to_store decision)) }
         ensures none_in_hand { OnOk result (self.new.hand ≡ None) }
         ensures limits { R.limits_of self.new.state ≡ R.limits_of self.old.state }
-        ensures spends { Spends ⟦<R as Rules>⟧ ⟦<D as Disk>⟧ 4 self.old self.new result }
+        ensures spends { SpendsOnAsk ⟦<R as Rules>⟧ D.Reports 4 self.old self.new result }
     {
         match decision {
             Decision::Answer(reply) => Ok(Told {
@@ -143,48 +157,53 @@ impl<R: Rules, D: Disk> Node<R, D> {
                 number: None,
             }),
             Decision::Store(rec, reply) => {
-                let number = Some(self.store(rec)?);
+                let number = Some(self.store(&rec)?);
                 Ok(Told { reply, number })
             }
         }
     }
 
-    /// Stores a record and takes it into the state. Answers its place.
-    fn store(&mut self, rec: R::Rec) -> Result<u64, AskFault<D>>
+    /// Stores a record and takes it into the state. Returns its place.
+    fn store(&mut self, rec: &R::Rec) -> Result<u64, AskFault<D>>
         requires at_rest { self.old.hand ≡ None }
-        requires spelled { R.is_record rec }
-        requires room { R.fits self.old.state rec }
+        requires spelled { R.is_record rec.now }
+        requires room { R.fits self.old.state rec.now }
 
+        // The record is stored, or a call of the disk failed, or the node is full.
         ensures place { IfOk result (λ number. number ≡ self.old.journal.count) }
-        ensures stored { OnOk result (IsKept ⟦<R as Rules>⟧ ⟦<D as Disk>⟧ self.old self.new rec) }
-        ensures refused { IfErr result (IsRefused ⟦<R as Rules>⟧ ⟦<D as Disk>⟧ self.old self.new rec) }
+        ensures stored { OnOk result (HasStored ⟦<R as Rules>⟧ D.Reports self.old self.new rec.now) }
+        ensures refused { IfErr result (IsRefused ⟦<R as Rules>⟧ D.Reports self.old self.new rec.now) }
+        ensures moments { (records : List R.Rec) → StandsFor ⟦<R as Rules>⟧ D.Reports self.old records
+            → LeavesOnly D.Reports self.old.journal.disk self.new.journal.disk (StandsEither ⟦<R as Rules>⟧ records (Some rec.now)) }
         ensures limits { R.limits_of self.new.state ≡ R.limits_of self.old.state }
-        ensures spends { Spends ⟦<R as Rules>⟧ ⟦<D as Disk>⟧ 4 self.old self.new result }
+        ensures spends { SpendsOnAsk ⟦<R as Rules>⟧ D.Reports 4 self.old self.new result }
     {
-        let size = spell::<R>(&rec, &mut self.body);
+        let size = spell::<R>(rec, &mut self.body);
         match self.journal.append(&self.body[..size]) {
             Ok(number) => {
-                R::absorb(&mut self.state, &rec, number);
+                R::absorb(&mut self.state, rec, number);
                 Ok(number)
             }
             Err(AppendFault::Full { count }) => Err(AskFault::Full { count }),
             Err(AppendFault::Disk(failure)) => {
-                self.hand = Some(rec);
+                self.hand = Some(*rec);
                 Err(AskFault::Disk(failure))
             }
         }
     }
 
-    /// Finds out whether the record in hand is stored, takes it into the state if it is, and answers it
+    /// Finds out whether the record in hand is stored, takes it into the state if it is, and returns it
     /// then. Afterwards nothing is in hand. It is the settling that `ask` begins with.
     pub fn settle(&mut self) -> Result<Option<R::Rec>, D::Failure>
-        ensures settled { IfOk result (IsSettled ⟦<R as Rules>⟧ ⟦<D as Disk>⟧ self.old self.new) }
-        ensures unsettled { OnErr result (IsUnsettled ⟦<R as Rules>⟧ ⟦<D as Disk>⟧ self.old self.new) }
+        ensures settled { IfOk result (IsSettled ⟦<R as Rules>⟧ D.Reports self.old self.new) }
+        ensures unsettled { OnErr result (IsUnsettled ⟦<R as Rules>⟧ D.Reports self.old self.new) }
         ensures limits { R.limits_of self.new.state ≡ R.limits_of self.old.state }
-        ensures same { Remains ⟦<D as Disk>⟧ self.old.journal.disk self.new.journal.disk }
-        ensures failed { IsErr result → Rose (D.faults self.old.journal.disk) (D.faults self.new.journal.disk) }
-        ensures calls { D.clock self.new.journal.disk ≤ D.clock self.old.journal.disk + 2 }
-        ensures passes { (room : ℕ) → IsEndless room (D.budget self.old.journal.disk) → IsOk result }
+
+        // What a crash at any moment of it leaves, and what it takes of the disk.
+        ensures moments { (records : List R.Rec) → StandsFor ⟦<R as Rules>⟧ D.Reports self.old records
+            → LeavesOnly D.Reports self.old.journal.disk self.new.journal.disk (StandsEither ⟦<R as Rules>⟧ records self.old.hand) }
+        ensures both_calls { OnOk result (self.old.hand ≢ None → HasMade D.Reports 2 self.old.journal.disk self.new.journal.disk) }
+        ensures reads_only { ReadsOnly D.Reports 2 (IsErr result) self.old.journal.disk self.new.journal.disk }
     {
         let Some(rec) = self.hand else {
             return Ok(None);
@@ -211,7 +230,7 @@ impl<R: Rules, D: Disk> Node<R, D> {
     /// How many records there are, without one in hand.
     pub fn count(&self) -> u64
         ensures count { result ≡ self.now.journal.count }
-        ensures records { (records : List R.Rec) → StandsFor ⟦<R as Rules>⟧ ⟦<D as Disk>⟧ self.now records → result ≡ length records }
+        ensures records { (records : List R.Rec) → StandsFor ⟦<R as Rules>⟧ D.Reports self.now records → result ≡ length records }
         ensures within { result ≤ (R.limits_of self.now.state).records }
     {
         self.journal.count()
@@ -220,21 +239,21 @@ impl<R: Rules, D: Disk> Node<R, D> {
     /// The disk.
     pub fn into_disk(self) -> D
         ensures disk { result ≡ self.journal.disk }
-        ensures images { (records : List R.Rec) → StandsFor ⟦<R as Rules>⟧ ⟦<D as Disk>⟧ self records → EachImage ⟦<D as Disk>⟧ result (StandsEither ⟦<R as Rules>⟧ records self.hand) }
-        ensures meets { (records : List R.Rec) → StandsFor ⟦<R as Rules>⟧ ⟦<D as Disk>⟧ self records → MeetsBoth ⟦<R as Rules>⟧ (R.limits_of self.state) records self.hand }
+        ensures images { (records : List R.Rec) → StandsFor ⟦<R as Rules>⟧ D.Reports self records → EachImage D.Reports result (StandsEither ⟦<R as Rules>⟧ records self.hand) }
+        ensures meets { (records : List R.Rec) → StandsFor ⟦<R as Rules>⟧ D.Reports self records → MeetsBoth ⟦<R as Rules>⟧ (R.limits_of self.state) records self.hand }
     {
         self.journal.into_disk()
     }
 }
 
 impl<R: Rules, D: Fused> Node<R, D> {
-    /// Lets so many further calls of the disk pass, and then none. Nothing else changes.
+    /// Lets this many further calls of the disk pass, and then none. Nothing else changes.
     pub fn fuse(&mut self, calls: u32)
-        ensures disk { IsFused ⟦<D as Disk>⟧ calls self.old.journal.disk self.new.journal.disk }
-        ensures told { (room : ℕ) → HasCalls 0 room (D.budget self.old.journal.disk) → HasCalls calls room (D.budget self.new.journal.disk) }
+        ensures disk { IsFused D.Reports calls self.old.journal.disk self.new.journal.disk }
+        ensures has { (room : ℕ) → HasCalls 0 room (D.budget self.old.journal.disk) → HasCalls calls room (D.budget self.new.journal.disk) }
         ensures left { (room : ℕ) → HasCalls 0 room (D.budget self.old.journal.disk) → HasLeft calls (D.budget self.new.journal.disk) }
         ensures same { self.new ≡ record self.old { journal = record self.old.journal { disk = self.new.journal.disk } } }
-        ensures records { (records : List R.Rec) → StandsFor ⟦<R as Rules>⟧ ⟦<D as Disk>⟧ self.old records → StandsFor ⟦<R as Rules>⟧ ⟦<D as Disk>⟧ self.new records }
+        ensures records { (records : List R.Rec) → StandsFor ⟦<R as Rules>⟧ D.Reports self.old records → StandsFor ⟦<R as Rules>⟧ D.Reports self.new records }
     {
         self.journal.fuse(calls);
     }

@@ -1,4 +1,4 @@
-ghost use Rattle.std.specs.Prelude.{◌≡◌, ◌↔◌, ℕ, ◌<◌, List, [], ◌∷◌, ◌++◌, length, None, IfOk, IfSome, OnOk, OnErr, IsErr, IsTrue};
+ghost use Rattle.std.specs.Prelude.{◌≡◌, ◌↔◌, ℕ, ◌+◌, ◌<◌, List, [], ◌∷◌, ◌++◌, length, None, IfOk, IfSome, OnOk, OnErr, IsErr, IsTrue};
 ghost use Rattle.pv_outside.specs.declared.limits.Limits.{Limits};
 ghost use Rattle.pv_fields.specs.Out.{room_of, Appends};
 ghost use Rattle.pv_journal.specs.Text.{IsBody};
@@ -18,7 +18,7 @@ use std::alloc::{AllocError, Global};
 ///
 /// A node takes memory by `open` alone: a state has all its room from then on.
 pub trait Rules {
-    /// What the records so far come to.
+    /// What the node keeps in memory: all that follows from its records.
     type State: Drop;
 
     /// What is asked.
@@ -27,7 +27,7 @@ pub trait Rules {
     /// What is stored.
     type Rec: Copy;
 
-    /// What is answered.
+    /// What is replied.
     type Reply: Drop;
 
     /// The limits that a state was opened with.
@@ -35,6 +35,9 @@ pub trait Rules {
 
     /// The state stands for these records, in the order in which they were absorbed.
     ghost stands: { Self.State → List Self.Rec → Type 0 };
+
+    /// How many records the state has taken in.
+    ghost count_of: { Self.State → ℕ };
 
     /// The state with one record more, which has this place.
     ghost after: { Self.State → Self.Rec → ℕ → Self.State };
@@ -68,10 +71,12 @@ pub trait Rules {
     fn has_room(state: &Self::State, rec: &Self::Rec) -> bool
         ensures { IsTrue result ↔ fits state.now rec.now };
 
-    /// Takes a record into the state, at its place.
+    /// Takes a record into the state, at its place: the next one, which is below the limit of records.
     fn absorb(state: &mut Self::State, rec: &Self::Rec, place: u64)
         requires spelled { is_record rec.now }
         requires room { fits state.old rec.now }
+        requires next { place ≡ count_of state.old }
+        requires within { place < (limits_of state.old).records }
         ensures { state.new ≡ after state.old rec.now place };
 
     /// Appends the spelling of a record.
@@ -81,7 +86,7 @@ pub trait Rules {
         ensures refused { IsErr result ↔ (room_of out.old < length (spelling rec.now)) }
         ensures err { OnErr result (out.new ≡ out.old) };
 
-    /// The record that is spelled so; None exactly where there is none.
+    /// The record that is spelled so; None exactly if there is none.
     fn decode(bytes: &[u8]) -> Option<Self::Rec>
         ensures found { IfSome result (λ rec. is_record rec × (spelling rec ≡ bytes.now)) }
         ensures none { result ≡ None → (rec : Self.Rec) → is_record rec → spelling rec ≡ bytes.now → ⊥ };
@@ -90,11 +95,13 @@ pub trait Rules {
     ghost sized: { (rec : Self.Rec) → is_record rec → IsBody (spelling rec) };
 
     /// A spelling has one meaning.
-    ghost one_meaning: { (one other : Self.Rec) → is_record one → is_record other → spelling one ≡ spelling other → one ≡ other };
+    ghost one_meaning: { (one other : Self.Rec)
+        → is_record one → is_record other → spelling one ≡ spelling other → one ≡ other };
 
     /// A record that is stored has a spelling and has room.
     ghost stored: { (state : Self.State) (request : Self.Request) (rec : Self.Rec) (reply : Self.Reply)
-        → is_request request → judgement state request ≡ Decision.Store rec reply → is_record rec × fits state rec };
+        → is_request request → judgement state request ≡ Decision.Store rec reply
+        → is_record rec × fits state rec };
 
     /// A state that took in a record stands for the longer list, within the limit of records.
     ghost grows: { (state : Self.State) (records : List Self.Rec) (rec : Self.Rec)
@@ -107,7 +114,14 @@ pub trait Rules {
 
     /// They also judge alike.
     ghost same_judgement: { (one other : Self.State) (records : List Self.Rec) (request : Self.Request)
-        → stands one records → stands other records → limits_of one ≡ limits_of other → is_request request → judgement one request ≡ judgement other request };
+        → stands one records → stands other records → limits_of one ≡ limits_of other → is_request request
+        → judgement one request ≡ judgement other request };
+
+    /// A state has taken in as many records as it stands for.
+    ghost counted: { (state : Self.State) (records : List Self.Rec) → stands state records → count_of state ≡ length records };
+
+    /// And one more with each.
+    ghost counts_on: { (state : Self.State) (rec : Self.Rec) (place : ℕ) → count_of (after state rec place) ≡ count_of state + 1 };
 
     /// The limits of a state stay.
     ghost limits_stay: { (state : Self.State) (rec : Self.Rec) (place : ℕ) → limits_of (after state rec place) ≡ limits_of state };

@@ -6,11 +6,12 @@ use super::*;
 use pv_fields::{NoRoom, Out};
 use pv_journal::format;
 use pv_memory::MemDisk;
-use pv_outside::{Disk, Limits};
+use pv_outside::{Disk, Fused, Limits};
 use std::alloc::{AllocError, Global};
 use std::test::Fail;
+use std::thread;
 
-/// Rules that store a byte below 128 while there is room for it, and answer how many there were.
+/// Rules that store a byte below 128 while there is room for it, and reply how many there were.
 struct Counting;
 
 /// How many bytes were stored, and for how many there is room.
@@ -32,6 +33,8 @@ impl Rules for Counting {
     ghost limits_of = { λ state. state.limits };
 
     ghost stands = { λ state records. state.count ≡ length records };
+
+    ghost count_of = { λ state. state.count };
 
     ghost after = { λ state rec place. record state { count = state.count + 1 } };
 
@@ -56,6 +59,10 @@ impl Rules for Counting {
     ghost same_room = { λ one other records rec stands same limits room. has_room_too one.count other.count one.limits.frames other.limits.frames (stands ∙ sym same) (ap (λ l. l.frames) limits) room };
 
     ghost same_judgement = { λ one other records request stands same limits is. judged_alike one.count other.count one.limits.frames other.limits.frames request (stands ∙ sym same) (ap (λ l. l.frames) limits) };
+
+    ghost counted = { λ state records stands. stands };
+
+    ghost counts_on = { λ state rec place. refl };
 
     ghost limits_stay = { λ state rec place. refl };
 
@@ -131,7 +138,7 @@ fn open(alloc: Global, disk: MemDisk, limits: Limits) -> Result<Node<Counting, M
 }
 
 /// A disk of these bytes, all of them synced, of which the calls of these numbers fail: the first two
-/// were made, and opening a node over it makes four more where it has no records.
+/// were made, and opening a node over it makes four more if it has no records.
 fn disk_of(alloc: Global, bytes: &[u8], fails: &[u64]) -> Result<MemDisk, Fail> {
     let mut disk = MemDisk::new(alloc, 10_000, fails)?;
     disk.write(0, bytes)?;
@@ -154,11 +161,11 @@ fn ask(node: &mut Node<Counting, MemDisk>, byte: u8) -> Result<(u64, Option<u64>
     }
 }
 
-fn may_move_into_a_thread<T: Send + Drop>(_value: T) {}
-
 #[test]
-fn a_node_may_move_into_a_thread(rt: HostRuntime) -> Result<(), Fail> {
-    may_move_into_a_thread(empty(rt.alloc(), &[])?);
+fn a_node_is_handed_to_a_thread(rt: HostRuntime) -> Result<(), Fail> {
+    let mut node = empty(rt.alloc(), &[])?;
+    let (told, ()) = thread::join(&rt, move || ask(&mut node, 65), || ());
+    assert_eq!(rt; told, Ok((0, Some(0))));
     Ok(())
 }
 
@@ -196,7 +203,7 @@ fn a_node_is_full_at_its_limit_and_not_before(rt: HostRuntime) -> Result<(), Fai
 }
 
 #[test]
-fn bytes_that_are_no_records_are_told_for_what_they_are(rt: HostRuntime) -> Result<(), Fail> {
+fn bytes_that_are_no_records_are_refused_for_what_they_are(rt: HostRuntime) -> Result<(), Fail> {
     let three = b"PVJOURN1\x01\x00\x01A\x01\x00\x01B\x01\x00\x01C\x00";
     let wide = Limits {
         frames: 9,
@@ -233,7 +240,7 @@ fn bytes_that_are_no_records_are_told_for_what_they_are(rt: HostRuntime) -> Resu
 }
 
 #[test]
-fn a_disk_that_fails_while_it_is_read_is_told(rt: HostRuntime) -> Result<(), Fail> {
+fn a_disk_that_fails_while_it_is_read_is_reported(rt: HostRuntime) -> Result<(), Fail> {
     // The calls 2 to 5 are those of the opening.
     for failing in 2..6 {
         let disk = disk_of(rt.alloc(), b"PVJOURN1\x00", &[failing])?;
@@ -262,28 +269,75 @@ fn a_record_in_hand_is_settled_before_the_next_judgement(rt: HostRuntime) -> Res
     Ok(())
 }
 
+/// The images that each stop is tried with.
+const IMAGES: [u8; 16] = [0, 1, 2, 3, 4, 5, 7, 8, 15, 31, 64, 97, 103, 128, 200, 255];
+
+/// What is stopped: an opening over two records; or at a node without records an ask, a settling of a
+/// record in hand, or an ask while a record is in hand.
+#[derive(Clone, Copy, Debug, PartialEq, Eq)]
+enum Run {
+    Open,
+    Ask,
+    Settle,
+    SettleThenAsk,
+}
+
 #[test]
-fn a_stop_at_each_call_of_an_ask_leaves_the_records_before_or_the_new_one_too(
-    rt: HostRuntime,
-) -> Result<(), Fail> {
-    for calls in 0..5 {
-        // The gate at place 8 becomes 97 in image 7 and 1 in image 103.
-        for (image, opens) in [(0, false), (1, true), (7, false), (103, true)] {
-            let mut node = empty(rt.alloc(), &[])?;
-            node.fuse(calls);
-            let told = ask(&mut node, 65);
-            let mut disk = node.into_disk();
-            disk.crash(image);
-            let mut node = open(rt.alloc(), disk, LIMITS).map_err(|_| Fail::from("not opened"))?;
-            let there = (calls == 4 || calls == 3 && opens) as u64;
-            assert_eq!(rt; told.is_ok(), calls == 4);
-            assert_eq!(rt;
-                node.state().count,
-                there,
-                "image {image} after {calls} calls"
-            );
-            assert_eq!(rt; ask(&mut node, 66), Ok((there, Some(there))));
+fn a_stop_at_each_call_leaves_the_records_before_or_one_more(rt: HostRuntime) -> Result<(), Fail> {
+    // How many calls of the disk each makes, and how few and how many records there may be afterwards.
+    let table = [
+        (Run::Open, 6, 2, 2),
+        (Run::Ask, 4, 0, 1),
+        (Run::Settle, 2, 0, 1),
+        (Run::SettleThenAsk, 6, 0, 2),
+    ];
+    for (run, calls, least, most) in table {
+        for stop in 0..calls + 1 {
+            for image in IMAGES {
+                let (is_ok, there) = after_stop(rt.alloc(), run, stop, image)?;
+                assert_eq!(rt; is_ok, stop == calls, "{run:?} after {stop} calls");
+                let least = if is_ok { most } else { least };
+                assert!(rt;
+                    least <= there && there <= most,
+                    "{run:?}, image {image}, {stop} calls"
+                );
+            }
         }
     }
     Ok(())
+}
+
+/// Whether the run succeeded of which `calls` calls of the disk pass, and how many records the image has
+/// that a stop leaves then.
+fn after_stop(alloc: Global, run: Run, calls: u32, image: u8) -> Result<(bool, u64), Fail> {
+    let (is_ok, mut disk) = if run == Run::Open {
+        let mut disk = disk_of(alloc, TWO, &[])?;
+        disk.fuse(calls);
+        match Node::<Counting, MemDisk>::open(alloc, disk, LIMITS) {
+            Ok(node) => (true, node.into_disk()),
+            Err((_, disk)) => (false, disk),
+        }
+    } else {
+        stop_node(alloc, run, calls)?
+    };
+    disk.crash(image);
+    let node = open(alloc, disk, LIMITS).map_err(|_| Fail::from("not opened"))?;
+    Ok((is_ok, node.count()))
+}
+
+/// Whether the run at a node succeeded of which `calls` calls of the disk pass, and its disk.
+fn stop_node(alloc: Global, run: Run, calls: u32) -> Result<(bool, MemDisk), Fail> {
+    // Call 9 is the last sync of an append: the record is in hand, and its gate is written.
+    let failing: &[u64] = if run == Run::Ask { &[] } else { &[9] };
+    let mut node = empty(alloc, failing)?;
+    if run != Run::Ask {
+        let _ = ask(&mut node, 65);
+    }
+    node.fuse(calls);
+    let is_ok = if run == Run::Settle {
+        node.settle().is_ok()
+    } else {
+        ask(&mut node, 66).is_ok()
+    };
+    Ok((is_ok, node.into_disk()))
 }

@@ -1,11 +1,11 @@
--- The limits in figures, and the words of two ends, computed from the definitions.
+-- The limits in figures, and three messages, computed from the definitions.
 use Rattle.std.proofs.Common.{◌≡◌, ◌-◌, codes, refl}
 use Rattle.std.specs.Prelude.{◌^◌}
 use Rattle.std.specs.Fmt.{digits}
 use Rattle.pv_outside.specs.declared.disk.TheConstants.{KEPT_CALLS, KEPT_BYTES, MAX_UNSYNCED}
 use Rattle.pv_outside.specs.declared.failed.TheConstants.{COUNT_END}
 use Rattle.pv_outside.specs.declared.limits.TheConstants.{MAX_FRAMES, MAX_RECORDS}
-use Rattle.pv_outside.specs.declared.status.Status.TheVariants.{BadLine, ReadFault}
+use Rattle.pv_outside.specs.declared.status.Status.TheVariants.{BadLine, Memory, ReadFault}
 use Rattle.pv_outside.specs.Status.{words_of}
 
 -- a node may hold 20,000 frames
@@ -16,7 +16,7 @@ most_frames = refl
 pub most_records : MAX_RECORDS ≡ 50000
 most_records = refl
 
--- a disk that tells its images tells those of eight calls back
+-- a disk that reports its images knows those of eight calls back
 pub calls_kept : KEPT_CALLS ≡ 8
 calls_kept = refl
 
@@ -24,7 +24,7 @@ calls_kept = refl
 pub bytes_kept : KEPT_BYTES ≡ 4096
 bytes_kept = refl
 
--- a disk that tells its budget takes eight writes between two syncs
+-- a disk that reports its budget takes eight writes between two syncs
 pub most_unsynced : MAX_UNSYNCED ≡ 8
 most_unsynced = refl
 
@@ -32,11 +32,15 @@ most_unsynced = refl
 pub last_count : COUNT_END ≡ 2 ^ 64 - 1
 last_count = refl
 
--- a line that is no form is told by its number
-pub line_two : words_of (BadLine 2) ≡ codes "line 2 is none of the script's forms"
+-- the message of a bad line has its number
+pub line_two : words_of (BadLine 2) ≡ codes "line 2: not a valid command"
 unfolding digits
 line_two = refl
 
--- an input that could not be read is told as such
+-- that of an input that could not be read
 pub unread : words_of ReadFault ≡ codes "the input could not be read"
 unread = refl
+
+-- that of an allocation that failed
+pub memory : words_of Memory ≡ codes "out of memory"
+memory = refl

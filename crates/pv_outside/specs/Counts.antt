@@ -1,4 +1,4 @@
--- The counts that an object of the outside keeps: they never fall, and at the end of 64 bits they stand still.
+-- The counts that an object of the outside keeps: they never fall, and at the end of 64 bits they no longer rise.
 use Rattle.std.specs.Prelude.{ℕ, ◌+◌, ◌≤◌, min}
 use Rattle.pv_outside.specs.declared.failed.TheConstants.{COUNT_END}
 

@@ -1,11 +1,11 @@
--- What one read does to what a source tells of itself.
+-- What one read does to what a source reports.
 use Rattle.std.specs.Prelude.{◌≡◌, ℕ, Bool, ◌||◌, ◌&&◌, ◌==◌, nat_lt, List, take, Option, Result, MatchResult}
 use Rattle.std.specs.Io.KnownBytes.{Appends, Consumes, Keeps}
 use Rattle.pv_outside.specs.declared.failed.Failed.{Failed}
 
--- the end is met where a read that has room answers 0, and stays met
-abbrev pub Ends : Bool → Bool → Result ℕ Failed → ℕ → Type 0
-Ends before now answer room = MatchResult answer (λ n. now ≡ (before || (n == 0 && nat_lt 0 room))) (λ _. now ≡ before)
+-- a read that has room and returns 0 has reached the end, and it stays reached
+abbrev pub MarksEnd : Bool → Bool → Result ℕ Failed → ℕ → Type 0
+MarksEnd before now answer room = MatchResult answer (λ n. now ≡ (before || (n == 0 && nat_lt 0 room))) (λ _. now ≡ before)
 
 -- the bytes that were given join those read so far; a fault reads nothing
 abbrev pub Takes : Option (List ℕ) → Option (List ℕ) → Result ℕ Failed → List ℕ → Type 0

@@ -9,14 +9,14 @@ pub trait Sink {
     /// How often a write has failed.
     ghost write_faults: { Self → ℕ };
 
-    /// The bytes that were written so far, where the sink can tell them.
+    /// The bytes that were written so far, if the sink can report them.
     ghost written: { Self → Option (List ℕ) };
 
-    /// Appends the bytes. After a fault a front of them was appended, perhaps none or all.
+    /// Appends the bytes. After a fault a prefix of them was appended, perhaps none or all.
     fn write_all(&mut self, bytes: &[u8]) -> Result<(), Failed>
         ensures written { Writes (written self.old) (written self.new) result bytes.now }
 
-        // The count of faults never falls, and a fault is told only where it rose.
+        // The count of faults never falls, and a fault is returned only if it rose.
         ensures counted { write_faults self.old ≤ write_faults self.new }
         ensures failed { IsErr result → Rose (write_faults self.old) (write_faults self.new) };
 }

@@ -8,9 +8,9 @@ use std::fmt;
 pub enum Status {
     /// All was done.
     Done,
-    /// The words of the command line are none of the program's.
+    /// The words of the command line are not the program's.
     Usage,
-    /// The line of this number, counted from 1, is none of the script's forms.
+    /// The line of this number, counted from 1, is not a valid command.
     BadLine { line: u32 },
     /// The input could not be read.
     ReadFault,
@@ -46,10 +46,10 @@ impl fmt::Display for Status {
         match self {
             Status::Done => write!(f, "done"),
             Status::Usage => write!(f, "usage: prestel play 1 < SCRIPT"),
-            Status::BadLine { line } => write!(f, "line {line} is none of the script's forms"),
+            Status::BadLine { line } => write!(f, "line {line}: not a valid command"),
             Status::ReadFault => write!(f, "the input could not be read"),
             Status::WriteFault => write!(f, "the output could not be written"),
-            Status::Memory => write!(f, "memory ran out"),
+            Status::Memory => write!(f, "out of memory"),
             Status::TooLong => write!(f, "the script is longer than 1048576 bytes"),
         }
     }

@@ -1,12 +1,11 @@
 ghost use Rattle.std.specs.Prelude.{◌≤◌, ⊤, Option, None};
-ghost use Rattle.std.proofs.Common.{inl};
+ghost use Rattle.std.proofs.Common.{inl, arith};
 ghost use Rattle.pv_outside.specs.Counts.{Rose};
 ghost use Rattle.pv_outside.specs.declared.failed.TheConstants.{COUNT_END};
 
-use crate::{Disk, Failed};
+use crate::{Disk, Failed, Reports};
 
-/// A disk that tells nothing of itself, as a file does: the trait asks nothing more of it than that it
-/// counts its faults.
+/// A disk that reports nothing, as a file does: the trait asks no more of it than to count its faults.
 #[derive(Drop)]
 struct Silent {
     faults: u64,
@@ -21,9 +20,7 @@ impl Silent {
     }
 }
 
-impl Disk for Silent {
-    type Failure = Failed;
-
+impl Reports for Silent {
     ghost reads = { λ _. None };
 
     ghost may_leave = { λ _ _. ⊤ };
@@ -37,12 +34,18 @@ impl Disk for Silent {
     ghost budget = { λ _. None };
 
     ghost faults = { λ d. d.faults };
+}
+
+impl Disk for Silent {
+    type Failure = Failed;
 
     ghost reads_is_left = { λ _. tt };
 
     ghost now_counts = { λ _ _ _ _ _. tt };
 
     ghost only_now = { λ _ _ _. inl tt };
+
+    ghost now_is_known = { λ _ _. omega arith };
 
     ghost any_if_forgotten = { λ _ _ _ _. tt };
 
@@ -64,7 +67,7 @@ impl Disk for Silent {
 }
 
 #[test]
-fn a_disk_need_tell_nothing(rt: HostRuntime) {
+fn a_disk_need_not_report_anything(rt: HostRuntime) {
     let mut disk = Silent { faults: 0 };
     assert_eq!(rt; disk.len(), Ok(7));
     assert_eq!(rt; disk.read(9, &mut [0]), Err(Failed));

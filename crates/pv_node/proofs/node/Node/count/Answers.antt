@@ -1,5 +1,5 @@
 use Rattle.std.proofs.Common.{◌≤◌, subst, arith}
-use Rattle.pv_node.proofs.Standing.{count_within}
+use Rattle.pv_journal.proofs.CallerLemmas.{count_within}
 use Rattle.pv_node.proofs.node.Node.count.Goals as goal
 
 pub returns-clause-within : goal.returns-clause-within

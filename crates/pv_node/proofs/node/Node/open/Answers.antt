@@ -1,9 +1,12 @@
-use Rattle.std.proofs.Common.{sym, subst, rules}
-use Rattle.pv_journal.specs.Journal.{Remains}
-use Rattle.pv_node.specs.Opening.{IsOpenDiskFault}
+use Rattle.std.proofs.Common.{◌+◌, sym, subst, arith, rules}
+use Rattle.pv_journal.specs.Journal.{ReadsOnly}
+use Rattle.pv_node.specs.Opening.{IsOpenDiskFault, ReadingFails}
 use Rattle.pv_node.proofs.Rooms.{meets_none}
-use Rattle.pv_journal.proofs.CallerLemmas.{remains_then}
+use Rattle.pv_journal.proofs.CallerLemmas.{reads_none, reads_most, reads_then}
+use Rattle.pv_journal.proofs.Moments.{only_none, only_remains}
 use Rattle.pv_node.proofs.Reading.{disk_fault}
+use Rattle.pv_node.proofs.node.Node.open.Given.{Over}
+use Rattle.pv_node.proofs.node.Node.open.Goals.{After-replay}
 use Rattle.pv_node.proofs.node.Node.open.Goals as goal
 
 pub replay-requires-clause-reading : goal.replay-requires-clause-reading
@@ -14,18 +17,35 @@ replay-requires-clause-reading g c κs within = record {
   stood = c.in-Ok.ensures.nothing;
 }
 
-pub returns-in-Err-clause-passes : goal.returns-in-Err-clause-passes
-returns-in-Err-clause-passes g c = λ room endless is.
-    c.in-Err.ensures.passes room endless (disk_fault g.R.Rules g.D.Disk c.in-Err.fault (subst IsOpenDiskFault c.told_by_node.ensures.value is))
+-- what the start and the replay took
+reads_both : (g : Over) (c : After-replay g)
+    → ReadsOnly g.D.Reports (3 + (c.replay.new.journal.count + 1)) (ReadingFails c.replay.result) c.args.disk c.replay.new.journal.disk
+reads_both g c = reads_then g.D.Reports c.in-Ok-start.ensures.reads_only c.replay.ensures.reads_only
+
+pub returns-in-Err-clause-handed_back : goal.returns-in-Err-clause-handed_back
+returns-in-Err-clause-handed_back g c =
+    reads_most g.D.Reports (omega arith) (λ is. disk_fault g.R.Rules g.D.Reports c.in-Err.fault (subst IsOpenDiskFault c.of_node.ensures.value is)) c.in-Err.ensures.handed_back
 
 pub returns-in-Err-replay-clause-handed_back : goal.returns-in-Err-replay-clause-handed_back
 returns-in-Err-replay-clause-handed_back g c =
-    let same = remains_then g.D.Disk _ _ _ c.in-Ok-start.ensures.same c.replay.ensures.same in
-    subst (λ disk. Remains g.D.Disk c.args.disk disk) (sym c.into_disk.ensures) same
+    let both = reads_most g.D.Reports {most = c.args.limits.records + 4} {Fails = IsOpenDiskFault c.in-Err-replay.fault} (omega (arith, c.replay.ensures.within, c.replay.ensures.limit, c.in-Ok-start.ensures.limit)) (search rules) (reads_both g (goal.at.returns-in-Err-replay-clause-handed_back g c).After-replay) in
+    subst (λ disk. ReadsOnly g.D.Reports (c.args.limits.records + 4) (IsOpenDiskFault c.in-Err-replay.fault) c.args.disk disk) (sym c.into_disk.ensures) both
 
-pub returns-in-Err-replay-clause-passes : goal.returns-in-Err-replay-clause-passes
-returns-in-Err-replay-clause-passes g c = λ room endless is.
-    c.in-Err-replay.ensures.passes room (c.in-Ok-start.ensures.same.endless room endless) is
+pub returns-in_default-clause-moments_refused : goal.returns-in_default-clause-moments_refused
+returns-in_default-clause-moments_refused g c = only_none g.D.Reports g.met.D.Disk.only_now g.met.D.Disk.now_is_known _ _ (λ told image left. left)
 
-pub returns-clause-same : goal.returns-clause-same
-returns-clause-same g c = remains_then g.D.Disk _ _ _ c.in-Ok-start.ensures.same c.replay.ensures.same
+pub returns-in-Err-clause-moments_refused : goal.returns-in-Err-clause-moments_refused
+returns-in-Err-clause-moments_refused g c = c.in-Err.ensures.moments_refused
+
+pub returns-in-Err-replay-clause-moments_refused : goal.returns-in-Err-replay-clause-moments_refused
+returns-in-Err-replay-clause-moments_refused g c =
+    only_remains g.D.Reports (only_none g.D.Reports g.met.D.Disk.only_now g.met.D.Disk.now_is_known _ _ (λ told image left. left)) (returns-in-Err-replay-clause-handed_back g c).same
+
+pub returns-clause-reads_only : goal.returns-clause-reads_only
+returns-clause-reads_only g c = reads_most g.D.Reports (omega arith) (λ never. absurd never) (reads_both g (goal.at.returns-clause-reads_only g c).After-replay)
+
+pub returns-in_default-clause-handed_back : goal.returns-in_default-clause-handed_back
+returns-in_default-clause-handed_back g c = reads_none g.D.Reports _ (λ fails. fails)
+
+pub returns-clause-moments : goal.returns-clause-moments
+returns-clause-moments g c = only_remains g.D.Reports (only_none g.D.Reports g.met.D.Disk.only_now g.met.D.Disk.now_is_known _ _ (λ told image left. left)) (returns-clause-reads_only g c).same
