@@ -79,13 +79,12 @@ fn notation_is_appended_to_a_text(rt: HostRuntime) -> Result<(), Fail> {
 #[test]
 fn bytes_are_read_one_by_one(rt: HostRuntime) -> Result<(), Fail> {
     let mut text: &[u8] = b"A\\Ff\\00~";
-    let mut bytes = Vec::new(rt.alloc());
-    while let Some((byte, rest)) = first_byte(text) {
-        bytes.push(byte).ok().ok_or("memory")?;
+    for wanted in [b'A', 0xff, 0, b'~'] {
+        let (byte, rest) = first_byte(text).ok_or("a byte")?;
+        assert_eq!(rt; byte, wanted);
         text = rest;
     }
-    assert_eq!(rt; bytes.as_slice(), [b'A', 0xff, 0, b'~'].as_slice());
-    assert_eq!(rt; text, b"".as_slice());
+    assert_eq!(rt; first_byte(text), None);
     for wrong in [b"\\f", b"\\\\", b"\x7f0", b"\x1f0"] {
         assert_eq!(rt; first_byte(wrong), None, "at {wrong:?}");
     }
