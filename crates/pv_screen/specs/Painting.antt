@@ -14,9 +14,9 @@ cell_bytes cell = if nat_lt cell SPACE then ESCAPE ∷ (cell + ATTRIBUTES) ∷ [
 abbrev pub cells_bytes : List ℕ → List ℕ
 cells_bytes cells = flat_map cell_bytes cells
 
--- a cell that is its own byte
-abbrev pub is_plain : ℕ → Bool
-is_plain cell = nat_le SPACE cell
+-- a cell that is not an attribute
+abbrev pub is_ordinary : ℕ → Bool
+is_ordinary cell = nat_le SPACE cell
 
 -- a row up to its last cell that is not a space
 abbrev pub shown_cells : List ℕ → List ℕ

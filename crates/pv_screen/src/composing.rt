@@ -30,8 +30,10 @@ pub fn compose(frame: &Frame, name: FrameName) -> Grid
 
     // Row 1 begins with the title, has the name from its column on, and ends with the price.
     ensures title { take TITLE_CELLS (slice_index_or result 0 []) ≡ frame.now.title }
-    ensures name { take (length (name_text name)) (drop NAME_COLUMN (slice_index_or result 0 [])) ≡ name_text name }
-    ensures price { drop (COLUMNS - length (price_text frame.now.price)) (slice_index_or result 0 []) ≡ price_text frame.now.price }
+    ensures name { take (length (name_text name)) (drop NAME_COLUMN (slice_index_or result 0 []))
+        ≡ name_text name }
+    ensures price { drop (COLUMNS - length (price_text frame.now.price)) (slice_index_or result 0 [])
+        ≡ price_text frame.now.price }
 
     // Rows 2 to 23, one after another, are the body, and row 24 is blank.
     ensures body { concat (slice_range result 1 (ROWS - 1)) ≡ frame.now.body }

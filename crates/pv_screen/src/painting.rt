@@ -1,10 +1,10 @@
-ghost use Rattle.std.specs.Prelude.{◌≡◌, ℕ, ◌+◌, ◌-◌, ◌*◌, ◌≤◌, List, ◌++◌, All, IsFalse, length, take, drop, slice_set};
+ghost use Rattle.std.specs.Prelude.{◌≡◌, ℕ, ◌+◌, ◌-◌, ◌*◌, ◌<◌, ◌≤◌, List, ◌++◌, All, IsTrue, IsFalse, length, take, drop, slice_set, slice_index};
 ghost use Rattle.std.specs.List.{flat_map, list_all};
 ghost use Rattle.pv_cells.specs.Row.{IsCell};
 ghost use Rattle.pv_fields.specs.Out.{Appends, room_of};
 ghost use Rattle.pv_screen.specs.Grid.{IsGrid, IsRow};
 ghost use Rattle.pv_screen.specs.Terminal.{Display, IsReady, terminal_after};
-ghost use Rattle.pv_screen.specs.Painting.{painting_of, message_text, cell_bytes, cells_bytes, is_plain, shown_cells, line_bytes};
+ghost use Rattle.pv_screen.specs.Painting.{painting_of, message_text, cells_bytes, is_ordinary, shown_cells, line_bytes};
 
 use crate::codes::{ATTRIBUTES, CLEAR, DOWN, ESCAPE, HOME, RETURN, SPACE, UP};
 use crate::grid::{COLUMNS, Grid, ROWS};
@@ -99,23 +99,7 @@ fn put_row(row: &[u8; COLUMNS], out: &mut Out)
     requires { 2 * length (shown_cells row.now) ≤ room_of out.old }
     ensures { Appends out.old out.new (cells_bytes (shown_cells row.now)) }
 {
-    let cells = shown_cells(row);
-    if is_plain(row) {
-        out.put_run(cells);
-    } else {
-        put_cells(cells, out);
-    }
-}
-
-/// Whether a row has no attribute.
-fn is_plain(row: &[u8; COLUMNS]) -> bool
-    ensures { result ≡ list_all is_plain row.now }
-{
-    let mut plain = true;
-    for cell in row {
-        plain &= *cell >= SPACE;
-    }
-    plain
+    put_cells(shown_cells(row), out);
 }
 
 /// A row without the spaces at its end.
@@ -132,24 +116,47 @@ fn shown_cells(row: &[u8; COLUMNS]) -> &[u8]
     &row[..count]
 }
 
-/// Appends cells.
+/// Appends cells: each run without an attribute at once.
 fn put_cells(cells: &[u8], out: &mut Out)
     requires { 2 * length cells.now ≤ room_of out.old }
     ensures { Appends out.old out.new (cells_bytes cells.now) }
 {
-    for cell in cells {
-        put_cell(*cell, out);
+    let mut at = 0;
+    while at < cells.len() {
+        let end = next_attribute(cells, at);
+        out.put_run(&cells[at..end]);
+        if end < cells.len() {
+            out.put_run(&[ESCAPE, cells[end] + ATTRIBUTES]);
+        }
+        at = end + 1;
     }
 }
 
-/// Appends a cell.
-fn put_cell(cell: u8, out: &mut Out)
-    requires { 2 ≤ room_of out.old }
-    ensures { Appends out.old out.new (cell_bytes cell) }
+/// The index of the first attribute from an index on, or the number of cells.
+fn next_attribute(cells: &[u8], from: usize) -> usize
+    requires { from ≤ length cells.now }
+    ensures from { from ≤ result }
+    ensures to { result ≤ length cells.now }
+    ensures passed { (k : ℕ) → from ≤ k → k < result → IsTrue (is_ordinary (slice_index cells.now k)) }
+    ensures found { result < length cells.now → IsFalse (is_ordinary (slice_index cells.now result)) }
 {
-    if cell < SPACE {
-        out.put_run(&[ESCAPE, cell + ATTRIBUTES]);
-    } else {
-        out.put_u8(cell);
+    let mut at = from;
+    while at + 8 <= cells.len() && are_ordinary(&cells[at..at + 8]) {
+        at += 8;
     }
+    while at < cells.len() && cells[at] >= SPACE {
+        at += 1;
+    }
+    at
+}
+
+/// Whether no cell is an attribute.
+fn are_ordinary(cells: &[u8]) -> bool
+    ensures { result ≡ list_all is_ordinary cells.now }
+{
+    let mut ordinary = true;
+    for cell in cells {
+        ordinary &= *cell >= SPACE;
+    }
+    ordinary
 }

@@ -1,8 +1,11 @@
-use Rattle.std.proofs.Common.{take}
+use Rattle.std.proofs.Common.{◌-◌, take, length}
 use Rattle.pv_fields.specs.Out.{Appends}
 use Rattle.pv_screen.specs.Painting.{cells_bytes}
 use Rattle.pv_screen.proofs.painting.put_cells.Given as goal
 
 -- the cells so far are appended
-abbrev pub invariant-loop-cell : goal.invariant-loop-cell
-invariant-loop-cell l = Appends l.initial.out l.out (cells_bytes (take l.cell-index l.cells))
+abbrev pub invariant-loop-at : goal.invariant-loop-at
+invariant-loop-at l = Appends l.initial.out l.out (cells_bytes (take l.at l.cells))
+
+abbrev pub decreases-loop-at : goal.decreases-loop-at
+decreases-loop-at l = length l.cells - l.at
