@@ -46,7 +46,7 @@ module _ (d : Display) (is : IsDisplay d) where
   IsDisplay-home : IsDisplay (home d)
   IsDisplay-home = search rules
 
-  -- whether the terminal waits for a byte behind an escape does not matter
+  -- whether the terminal waits for the byte after an escape does not matter
   IsDisplay-waits : (waiting : Bool) → IsDisplay (record d { waiting = waiting })
   IsDisplay-waits waiting = record { cells = is.cells; row_from = is.row_from; row_to = is.row_to; column = is.column }
 
@@ -66,14 +66,14 @@ module _ (d : Display) (is : IsDisplay d) where
   IsDisplay-clear : IsDisplay (clear d)
   IsDisplay-clear = record { cells = IsGrid-blank; row_from = search rules; row_to = search rules; column = search rules }
 
--- a cell that is written, and the move behind it, keep the grid and the cursor on it
+-- a cell that is written, and the move after it, keep the grid and the cursor on it
 IsDisplay-written : (d : Display) (cell : ℕ) → IsDisplay d → IsCell cell → IsDisplay (after_cell d cell)
 IsDisplay-written d cell is fits =
     let cells = IsGrid-with_cell d.cells d.row d.column cell is.cells is.row_from is.row_to fits in
     IsDisplay-forward (record d { cells = with_cell d.cells d.row d.column cell })
     (record { cells = cells; row_from = is.row_from; row_to = is.row_to; column = is.column })
 
--- so does every byte that does not stand behind an escape
+-- so does every byte that does not follow an escape
 pub IsDisplay-first : (d : Display) (byte : ℕ) → IsDisplay d → IsDisplay (after_first d byte)
 IsDisplay-first d byte is =
     let code = λ (n : ℕ) (x y : Display) (left : IsDisplay x) (right : IsDisplay y). cond_both (eqb byte n) x y IsDisplay (λ _. left)

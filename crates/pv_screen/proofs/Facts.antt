@@ -9,7 +9,7 @@ use Rattle.pv_screen.specs.Composing.{heading, composed_grid}
 use Rattle.pv_screen.specs.Terminal.{new_display, terminal_after}
 use Rattle.pv_screen.specs.Painting.{line_bytes, painting_of, message_text}
 
--- so many line ends
+-- n line ends
 abbrev line_ends : ℕ → List ℕ
 line_ends zero = []
 line_ends (suc n) = 13 ∷ 10 ∷ line_ends n
@@ -18,7 +18,7 @@ line_ends (suc n) = 13 ∷ 10 ∷ line_ends n
 pub full_row : line_bytes (replicate 39 65 ++ 3 ∷ []) ≡ replicate 39 65 ++ codes "\u{1b}C"
 full_row = refl
 
--- an attribute is shown, and the spaces behind it are not
+-- an attribute is shown, and the spaces after it are not
 pub short_row : line_bytes (65 ∷ 3 ∷ replicate 38 32) ≡ codes "A\u{1b}C\r\n"
 short_row = refl
 
@@ -26,7 +26,7 @@ short_row = refl
 pub indented_row : line_bytes (32 ∷ 66 ∷ replicate 38 32) ≡ codes " B\r\n"
 indented_row = refl
 
--- a blank screen is cleared, and has no line end behind row 24
+-- a blank screen is cleared, and has no line end after row 24
 pub blank_screen : painting_of (replicate 24 (replicate 40 32)) ≡ 12 ∷ line_ends 23
 blank_screen = refl
 
@@ -52,7 +52,7 @@ down_from_the_last_row = refl
 pub back_from_the_first_column : terminal_after new_display (codes "\u{8}") ≡ record new_display { row = 24; column = 39 }
 back_from_the_first_column = refl
 
--- behind the last column of a row is the first of the row below
+-- after the last column of a row comes the first of the row below
 pub forward_from_the_last_column : terminal_after new_display (replicate 40 9) ≡ record new_display { row = 2; column = 0 }
 forward_from_the_last_column = refl
 
@@ -79,7 +79,7 @@ pub dear_heading : heading (record frames.blank_frame { price = 99 }) (record { 
 unfolding digits
 dear_heading = refl
 
--- the longest title and the longest name have one space between them, and a price fits behind them
+-- the longest title and the longest name have one space between them, and a price fits after them
 pub longest_heading : heading (record frames.blank_frame { title = replicate 24 84; price = 5 })
     (record { page = 999999999; letter = 122 }) ≡ replicate 24 84 ++ codes " 999999999z   5p"
 unfolding digits

@@ -17,12 +17,12 @@ use Rattle.pv_screen.proofs.Grids.{IsRow-blank}
 
 -- ---- bodies
 
--- cells cut into so many rows are so many rows
+-- cells cut into n rows are n rows
 pub length-first_chunks : (width count : ℕ) (cells : List ℕ) → length (first_chunks width count cells) ≡ count
 length-first_chunks width zero cells = refl
 length-first_chunks width (suc count) cells = ap suc (length-first_chunks width count (drop width cells))
 
--- where the cells just fill the rows, the rows one behind the other are the cells
+-- if the cells just fill the rows, the rows one after the other are the cells
 concat-first_chunks : (width count : ℕ) (cells : List ℕ) → length cells ≡ count * width → concat (first_chunks width count cells) ≡ cells
 concat-first_chunks width zero cells all = sym (nil_from_length cells (omega arith))
 concat-first_chunks width (suc count) cells all =

@@ -21,7 +21,7 @@ use Rattle.pv_screen.proofs.Bytes.{line_end_short, line_end_full, length-shown-l
 abbrev at : List (List ℕ) → ℕ → ℕ → Display
 at cells row column = record { cells = cells; row = row; column = column; waiting = false }
 
--- the cursor behind the cells of a row: behind the last one it is on the row below
+-- the cursor after the cells of a row: after the last one it is on the row below
 abbrev behind : List (List ℕ) → ℕ → ℕ → Display
 behind cells row column = cond (eqb column 40) (at cells (row_below row) 0) (at cells row column)
 
@@ -29,7 +29,7 @@ behind cells row column = cond (eqb column 40) (at cells (row_below row) 0) (at 
 ready : (d : Display) → IsFalse d.waiting → d ≡ at d.cells d.row d.column
 ready d is = ap (λ (w : Bool). let e : Display = record { cells = d.cells; row = d.row; column = d.column; waiting = w } in e) is
 
--- inside the row it stands right behind them
+-- inside the row it is right after them
 behind_inside : (cells : List (List ℕ)) (row column : ℕ) → column < 40 → behind cells row column ≡ at cells row column
 behind_inside cells row column inside =
     elim (eqb_tells column 40) [
@@ -37,7 +37,7 @@ behind_inside cells row column inside =
       | inr (test, differs) ↦ cond-false (eqb column 40) (at cells (row_below row) 0) (at cells row column) test
     ]
 
--- behind the last column it is at the start of the row below
+-- after the last column it is at the start of the row below
 behind_end : (cells : List (List ℕ)) (row column : ℕ) → column ≡ 40 → behind cells row column ≡ at cells (row_below row) 0
 behind_end cells row column end = ap (behind cells row) end
 
@@ -82,7 +82,7 @@ module _ (base : List (List ℕ)) (row : ℕ) (within : row - 1 < length base) w
       ap (λ l. set (set base (row - 1) cells) (row - 1) (set l column cell)) (get_or-set_same base (row - 1) cells [] within)
       ∙ set-set base (row - 1) cells (set cells column cell)
 
-  -- a cell that is written in a row stands there, and the cursor behind it
+  -- a cell that is written in a row is there, and the cursor after it
   written_put : (cells : List ℕ) (column cell : ℕ)
       → after_cell (at (set base (row - 1) cells) row column) cell ≡ behind (set base (row - 1) (set cells column cell)) row (column + 1)
   written_put cells column cell =
@@ -137,9 +137,9 @@ blank_row = replicate 40 32
 abbrev is_space : ℕ → Bool
 is_space cell = eqb cell 32
 
--- the cells behind those that are shown are spaces
-spaces_behind : (row : List ℕ) → drop (length row - suffix_len is_space row) row ≡ replicate (suffix_len is_space row) 32
-spaces_behind row =
+-- the cells after those that are shown are spaces
+spaces_after : (row : List ℕ) → drop (length row - suffix_len is_space row) row ≡ replicate (suffix_len is_space row) 32
+spaces_after row =
     let count = suffix_len is_space row in
     let some = suffix_len-le-length is_space row in
     let spaces : List ℕ = replicate count 32 in
@@ -164,7 +164,7 @@ shown_over_spaces row width =
     let long : length (shown_cells row) ≡ end = length-take-le end row (omega arith) in
     let left : 40 - (0 + length (shown_cells row)) ≡ count = omega arith in
     let rest : drop (0 + length (shown_cells row)) blank_row ≡ drop end row =
-    drop-replicate (0 + length (shown_cells row)) 40 32 ∙ ap (λ n. replicate n 32) left ∙ sym (spaces_behind row)
+    drop-replicate (0 + length (shown_cells row)) 40 32 ∙ ap (λ n. replicate n 32) left ∙ sym (spaces_after row)
     in
     let whole : shown_cells row ++ drop end row ≡ row = take-append-drop end row in
     ◌∙◌ {b = shown_cells row ++ drop end row} (ap (λ l. shown_cells row ++ l) rest) whole
@@ -241,7 +241,7 @@ lines_shown (line ∷ lines) above rest are room =
     ∙ ap (λ l. at l (length next + length lines + 1) 0) (append_assoc above (line ∷ []) (lines ++ rest))
     ∙ ap (λ n. at (above ++ (line ∷ (lines ++ rest))) n 0) down
 
--- the cells are the same wherever the cursor is behind a row
+-- the cells are the same wherever the cursor is after a row
 cells-behind : (rows : List (List ℕ)) (row column : ℕ) → (behind rows row column).cells ≡ rows
 cells-behind rows row column =
     let P : Display → Type 0 = λ d. d.cells ≡ rows in

@@ -7,11 +7,7 @@ use Rattle.std.proofs.Math.Seq.{take-append-add}
 use Rattle.std.proofs.lemmas.List.Concat.{flat_map-cons, flat_map-append}
 use Rattle.std.proofs.lemmas.List.Elements.{All-head, All-tail}
 use Rattle.std.proofs.lemmas.List.Sums.{suffix_len-take_yes, AllPass-from_list_all}
-use Rattle.pv_screen.specs.Painting.{is_ordinary, cell_bytes, cells_bytes}
-
--- whether a cell is a space
-abbrev pub is_space : ℕ → Bool
-is_space cell = eqb cell 32
+use Rattle.pv_screen.specs.Painting.{is_ordinary, is_space, cell_bytes, cells_bytes}
 
 -- spaces before an end count towards those at the end
 pub skip : (row : List ℕ) (n count : ℕ) → n ≤ count → count ≤ length row → ((k : ℕ) → count ≤ k + n → k < count → get_or row k 0 ≡ 32)
@@ -25,17 +21,6 @@ skip row (suc n) count few within each =
     let same : count - 1 - n ≡ count - suc n = omega arith in
     omega (arith, last, more, ap (λ k. suffix_len is_space (take k row)) same)
 
--- each cell of a part that is spaces is a space
-pub space_at : (row : List ℕ) (n count k : ℕ) → take n (drop (count - n) row) ≡ replicate n 32 → n ≤ count → count ≤ k + n → k < count
-    → get_or row k 0 ≡ 32
-space_at row n count k is few from to =
-    let place : count - n + (k + n - count) ≡ k = omega arith in
-    ap (λ k. get_or row k 0) (sym place)
-    ∙ sym (get_or-drop (count - n) row (k + n - count) 0)
-    ∙ sym (get_or-take n (drop (count - n) row) (k + n - count) 0 (omega arith))
-    ∙ ap (λ l. get_or l (k + n - count) 0) is
-    ∙ get_or-replicate n (k + n - count) 32 0 (omega arith)
-
 -- cells without an attribute are their own bytes
 plain_bytes : (cells : List ℕ) → All (λ cell. is_ordinary cell ≡ true) cells → cells_bytes cells ≡ cells
 plain_bytes [] plain = refl
@@ -46,17 +31,17 @@ plain_bytes (cell ∷ cells) plain =
     ∙ ap (λ bytes. bytes ++ cells_bytes cells) one
     ∙ ap (λ bytes. cell ∷ bytes) (plain_bytes cells (All-tail (λ cell. is_ordinary cell ≡ true) cell cells plain))
 
--- each cell of a part without attributes is none
-pub part_passes : (cells : List ℕ) (at n k : ℕ) → list_all is_ordinary (take n (drop at cells)) ≡ true → at ≤ k → k < at + n
-    → k < length cells → is_ordinary (get_or cells k 0) ≡ true
-part_passes cells at n k pass from to within =
+-- each cell of a part that passes a test passes it
+pub part_passes : (test : ℕ → Bool) (cells : List ℕ) (at n k : ℕ) → list_all test (take n (drop at cells)) ≡ true → at ≤ k
+    → k < at + n → k < length cells → test (get_or cells k 0) ≡ true
+part_passes test cells at n k pass from to within =
     let part = take n (drop at cells) in
     let j = k - at in
     let place : at + j ≡ k = omega arith in
     let inside : j < length part = omega (arith, length-take n (drop at cells), length-drop at cells) in
     let same : get_or part j 0 ≡ get_or cells k 0 = get_or-take n (drop at cells) j 0 (omega arith) ∙ get_or-drop at cells j 0
     ∙ ap (λ k. get_or cells k 0) place in
-    ap is_ordinary (sym same) ∙ AllPass-from_list_all is_ordinary part pass j 0 inside
+    ap test (sym same) ∙ AllPass-from_list_all test part pass j 0 inside
 
 -- a run of such cells
 pub cells_bytes_run : (cells : List ℕ) (at end : ℕ) → at ≤ end → end ≤ length cells

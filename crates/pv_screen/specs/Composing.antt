@@ -9,19 +9,19 @@ use Rattle.pv_screen.specs.declared.codes.TheConstants.{SPACE}
 use Rattle.pv_screen.specs.declared.composing.TheConstants.{NAME_COLUMN, PRICE_COLUMN}
 use Rattle.pv_screen.specs.declared.grid.TheConstants.{COLUMNS}
 
--- so many spaces
+-- n spaces
 abbrev pub spaces : ℕ → List ℕ
 spaces count = replicate count SPACE
 
--- a text at the left of so many cells, with spaces behind it
+-- a text at the left of n cells, with spaces after it
 abbrev pub at_left : ℕ → List ℕ → List ℕ
 at_left width text = padded_list SPACE width text
 
--- a text at the right of so many cells, with spaces before it
+-- a text at the right of n cells, with spaces before it
 abbrev pub at_right : ℕ → List ℕ → List ℕ
 at_right width text = spaces (width - length text) ++ text
 
--- a price is shown in decimal with a p behind it, and nothing is shown where there is none
+-- a price is shown in decimal with a p after it, and nothing is shown if there is none
 abbrev pub price_text : ℕ → List ℕ
 price_text price = if price == 0 then [] else decimal price ++ codes "p"
 

@@ -18,9 +18,13 @@ cells_bytes cells = flat_map cell_bytes cells
 abbrev pub is_ordinary : ℕ → Bool
 is_ordinary cell = nat_le SPACE cell
 
+-- a cell is a space
+abbrev pub is_space : ℕ → Bool
+is_space cell = cell == SPACE
+
 -- a row up to its last cell that is not a space
 abbrev pub shown_cells : List ℕ → List ℕ
-shown_cells row = take (length row - suffix_len (λ cell. cell == SPACE) row) row
+shown_cells row = take (length row - suffix_len is_space row) row
 
 -- the bytes of a row, of which spaces at the end are not sent
 abbrev pub row_bytes : List ℕ → List ℕ

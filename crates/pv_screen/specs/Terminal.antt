@@ -18,7 +18,7 @@ pub record IsDisplay (display : Display) : Type 0 where
   pub row_to : display.row ≤ ROWS
   pub column : display.column < COLUMNS
 
--- the cells are a grid, and the next byte does not stand behind an escape
+-- the cells are a grid, and the next byte does not follow an escape
 pub record IsReady (display : Display) : Type 0 where
   pub cells : IsGrid display.cells
   pub first : IsFalse display.waiting
@@ -51,7 +51,7 @@ row_start display = record display { column = 0 }
 abbrev pub home : Display → Display
 home display = record display { row = 1; column = 0 }
 
--- the cursor one column on: behind the last column is the first of the row below
+-- the cursor one column on: after the last column comes the first of the row below
 abbrev pub forward : Display → Display
 forward display =
     if display.column == COLUMNS - 1 then row_start (down display) else record display { column = display.column + 1 }
@@ -75,7 +75,7 @@ abbrev pub after_cell : Display → ℕ → Display
 after_cell display cell =
     forward (record display { cells = with_cell display.cells display.row display.column cell })
 
--- what a byte does that does not stand behind an escape
+-- what a byte does that does not follow an escape
 abbrev pub after_first : Display → ℕ → Display
 after_first display byte =
     if nat_le SPACE byte && nat_le byte LAST_CELL then after_cell display byte
@@ -89,12 +89,12 @@ after_first display byte =
     else (if byte == HOME then home display
     else display))))))))
 
--- what a byte does behind an escape: 0x40 to 0x5F writes an attribute, and any other does nothing
+-- what a byte does after an escape: 0x40 to 0x5F writes an attribute, and any other does nothing
 abbrev pub after_second : Display → ℕ → Display
 after_second display byte =
     if nat_le ATTRIBUTES byte && nat_le byte LAST_ATTRIBUTE then after_cell display (byte - ATTRIBUTES) else display
 
--- what a byte does; the byte behind an escape is not read in any other way
+-- what a byte does; the byte after an escape is not read in any other way
 abbrev pub after_byte : Display → ℕ → Display
 after_byte display byte =
     if display.waiting then after_second (record display { waiting = false }) byte else after_first display byte

@@ -4,7 +4,7 @@ ghost use Rattle.pv_cells.specs.Row.{IsCell};
 ghost use Rattle.pv_fields.specs.Out.{Appends, room_of};
 ghost use Rattle.pv_screen.specs.Grid.{IsGrid, IsRow};
 ghost use Rattle.pv_screen.specs.Terminal.{Display, IsReady, terminal_after};
-ghost use Rattle.pv_screen.specs.Painting.{painting_of, message_text, cells_bytes, is_ordinary, shown_cells, line_bytes};
+ghost use Rattle.pv_screen.specs.Painting.{painting_of, message_text, cells_bytes, is_ordinary, is_space, shown_cells, line_bytes};
 
 use crate::codes::{ATTRIBUTES, CLEAR, DOWN, ESCAPE, HOME, RETURN, SPACE, UP};
 use crate::grid::{COLUMNS, Grid, ROWS};
@@ -107,13 +107,24 @@ fn shown_cells(row: &[u8; COLUMNS]) -> &[u8]
     ensures { result.now ≡ shown_cells row.now }
 {
     let mut count = COLUMNS;
-    while count >= 8 && row[count - 8..count] == [SPACE; 8] {
+    while count >= 8 && are_spaces(&row[count - 8..count]) {
         count -= 8;
     }
     while count > 0 && row[count - 1] == SPACE {
         count -= 1;
     }
     &row[..count]
+}
+
+/// Whether all cells are spaces. Without a branch in the loop, eight cells are compared at once.
+fn are_spaces(cells: &[u8]) -> bool
+    ensures { result ≡ list_all is_space cells.now }
+{
+    let mut spaces = true;
+    for cell in cells {
+        spaces &= *cell == SPACE;
+    }
+    spaces
 }
 
 /// Appends cells: each run without an attribute at once.

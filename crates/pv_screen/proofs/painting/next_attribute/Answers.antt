@@ -13,7 +13,7 @@ loop-at-preserved c = record {
       elim (cases_lt k c.loop-at.at) [
         | inl before ↦ c.loop-at.invariant.passed k from before
         | inr here ↦
-            part_passes c.args.cells.now c.loop-at.at _ k (sym c.are_ordinary.ensures
+            part_passes is_ordinary c.args.cells.now c.loop-at.at _ k (sym c.are_ordinary.ensures
             ∙ c.if-are_ordinary.true) here (omega arith) (omega (arith, c.loop-at-test.true))
       ];
 }

@@ -1,9 +1,9 @@
-use Rattle.std.proofs.Common.{◌≡◌, ◌-◌, take, drop, replicate, eqb, ap, ◌+◌, lit≤, sym, arith, ◌∙◌}
+use Rattle.std.proofs.Common.{◌≡◌, ◌+◌, ◌-◌, ap, lit≤, sym, arith, ◌∙◌}
 use Rattle.std.specs.List.{suffix_len}
-use Rattle.std.proofs.lemmas.Bool.{eqb-true, eq-eqb}
+use Rattle.std.proofs.lemmas.Bool.{eqb-true}
 use Rattle.std.proofs.lemmas.List.{take_all}
-use Rattle.std.proofs.lemmas.Slice.Eq.{slice_eq-Decides}
-use Rattle.pv_screen.proofs.Spaces.{is_space, skip, space_at}
+use Rattle.pv_screen.specs.Painting.{is_space}
+use Rattle.pv_screen.proofs.Spaces.{part_passes, skip}
 use Rattle.pv_screen.proofs.painting.shown_cells.Goals as goal
 
 pub loop-count-init : goal.loop-count-init
@@ -16,12 +16,8 @@ pub loop-count-preserved : goal.loop-count-preserved
 loop-count-preserved c =
     let row = c.args.row.now in
     let count = c.loop-count.count in
-    let eight : count - (count - 8) ≡ 8 = omega (arith, c.loop-count-test.true) in
-    let cells = take (count - (count - 8)) (drop (count - 8) row) in
-    let same : cells ≡ replicate 8 32 =
-    (slice_eq-Decides {E = eqb} (λ a b. (eqb-true a b, eq-eqb a b)) cells (replicate 8 32) c.eq.result c.eq.ensures).0 c.if-eq.true in
-    let spaces : take 8 (drop (count - 8) row) ≡ replicate 8 32 = ap (λ n. take n (drop (count - 8) row)) (sym eight) ∙ same in
+    let spaces = sym c.are_spaces.ensures ∙ c.if-are_spaces.true in
     let passed =
     skip row 8 count c.loop-count-test.true (omega (arith, c.told-row, c.loop-count.invariant.within))
-    (λ k from to. space_at row 8 count k spaces c.loop-count-test.true from to) in
+    (λ k from to. eqb-true _ 32 (part_passes is_space row (count - 8) _ k spaces (omega arith) (omega arith) (omega (arith, c.told-row, c.loop-count.invariant.within)))) in
     record { within = omega (arith, c.loop-count.invariant.within); passed = omega (arith, c.loop-count.invariant.passed, passed) }

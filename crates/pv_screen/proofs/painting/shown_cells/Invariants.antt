@@ -1,6 +1,6 @@
 use Rattle.std.proofs.Common.{◌≡◌, ◌+◌, ◌≤◌, take}
 use Rattle.std.specs.List.{suffix_len}
-use Rattle.pv_screen.proofs.Spaces.{is_space}
+use Rattle.pv_screen.specs.Painting.{is_space}
 use Rattle.pv_screen.proofs.painting.shown_cells.Given as goal
 
 -- the cells that are passed are spaces
