@@ -15,7 +15,8 @@ const EMPTY: [u8; EMPTY_SIZE] = [b'P', b'V', b'J', b'O', b'U', b'R', b'N', b'1',
 /// then the disk need not be a journal, and `format` is to be called again.
 pub fn format<D: Disk>(disk: &mut D) -> Result<(), D::Failure>
     ensures empty { OnOk result (EachImage D.Reports disk.new (λ image. Spells image [])) }
-    ensures written { OnOk result (D.reads disk.new ≡ option_map (text_after_write 0 (MARK ++ 0 ∷ [])) (D.reads disk.old)) }
+    ensures written { OnOk result (D.reads disk.new
+        ≡ option_map (text_after_write 0 (MARK ++ 0 ∷ [])) (D.reads disk.old)) }
     ensures durable { OnOk result (IsDurable D.Reports disk.new) }
     ensures synced { OnOk result (IsSynced D.Reports disk.new) }
     ensures all_three { OnOk result (IsLaterBy 3 (D.clock disk.old) (D.clock disk.new)) }

@@ -57,7 +57,8 @@ impl<D: Disk> Model for Journal<D> {
 
     ghost view = { λ j. record { disk = j.disk; limit = j.limit; count = j.count; gate = j.gate; phase = j.phase } };
 
-    ghost invariant = { λ j. IsPlaced D.reads (record { disk = j.disk; limit = j.limit; count = j.count; gate = j.gate; phase = j.phase }) };
+    ghost invariant = { λ j. IsPlaced D.reads
+        (record { disk = j.disk; limit = j.limit; count = j.count; gate = j.gate; phase = j.phase }) };
 }
 
 impl<D: Disk> Journal<D> {
@@ -94,7 +95,8 @@ impl<D: Disk> Journal<D> {
     pub fn next(&mut self, into: &mut [u8; MAX_BODY]) -> Result<Option<usize>, OpenFault<D>>
         // Each body joins those that were read, and after the last one these are all.
         ensures found { IfOk result (λ answer. IfSome answer (λ n. (bodies : List (List ℕ))
-            → IsReading D.Reports self.old bodies → IsReading D.Reports self.new (bodies ++ take n into.new ∷ []))) }
+            → IsReading D.Reports self.old bodies
+            → IsReading D.Reports self.new (bodies ++ take n into.new ∷ []))) }
         ensures goes_on { IfOk result (λ answer. IfSome answer (λ n. IsStillReading self.new)) }
         ensures ended { result ≡ Ok None → (bodies : List (List ℕ))
             → IsReading D.Reports self.old bodies → Holds D.Reports self.new bodies }
@@ -119,7 +121,8 @@ impl<D: Disk> Journal<D> {
         // Each answer has its cause, and on a disk that reports its bytes these show which it is.
         ensures answer { IsNext self.old result }
         ensures shown { (bodies : List (List ℕ)) → IsReading D.Reports self.old bodies
-            → IfSome (D.reads self.old.disk) (λ text. NextShows text (length (text_of bodies)) into.new result) }
+            → IfSome (D.reads self.old.disk)
+            (λ text. NextShows text (length (text_of bodies)) into.new result) }
         ensures spelled { (bodies more : List (List ℕ)) → IsReading D.Reports self.old bodies
             → DiskSpells D.Reports self.old.disk (bodies ++ more) → NextSpells more into.new result }
     {
@@ -164,7 +167,8 @@ impl<D: Disk> Journal<D> {
         // It is without it if fewer than two calls of the disk were left.
         ensures moments { (bodies : List (List ℕ)) → Holds D.Reports self.old bodies
             → LeavesOnly D.Reports self.old.disk self.new.disk (SpellsEither bodies (body.now ∷ [])) }
-        ensures few { (bodies : List (List ℕ)) (n : ℕ) → Holds D.Reports self.old bodies → HasLeft n (D.budget self.old.disk) → n < 2
+        ensures few { (bodies : List (List ℕ)) (n : ℕ) → Holds D.Reports self.old bodies
+            → HasLeft n (D.budget self.old.disk) → n < 2
             → LeavesOnly D.Reports self.old.disk self.new.disk (λ image. Spells image bodies) }
 
         // What it takes of the disk. With four calls and room for all bodies the disk does not fail.
@@ -197,7 +201,8 @@ impl<D: Disk> Journal<D> {
         // The body that was in hand joins the list, or does not.
         ensures at_rest { IfOk result (λ answer. IfSome answer (λ stored. IsAtRest self.new)) }
         ensures stored { result ≡ Ok (Some true) → (bodies : List (List ℕ)) (body : List ℕ)
-            → HoldsInHand D.Reports self.old bodies (body ∷ []) → Holds D.Reports self.new (bodies ++ body ∷ []) }
+            → HoldsInHand D.Reports self.old bodies (body ∷ [])
+            → Holds D.Reports self.new (bodies ++ body ∷ []) }
         ensures one_more { result ≡ Ok (Some true) → self.new.count ≡ self.old.count + 1 }
         ensures dropped { result ≡ Ok (Some false) → (bodies : List (List ℕ)) (body : List ℕ)
             → HoldsInHand D.Reports self.old bodies (body ∷ []) → Holds D.Reports self.new bodies }
@@ -218,7 +223,8 @@ impl<D: Disk> Journal<D> {
         ensures limit { self.new.limit ≡ self.old.limit }
 
         // What it takes of the disk, and what a crash at any moment of it leaves.
-        ensures both_calls { OnOk result ((IsNoneInHand self.old → ⊥) → HasMade D.Reports 2 self.old.disk self.new.disk) }
+        ensures both_calls { OnOk result ((IsNoneInHand self.old → ⊥)
+            → HasMade D.Reports 2 self.old.disk self.new.disk) }
         ensures moments { (bodies hand : List (List ℕ)) → HoldsInHand D.Reports self.old bodies hand
             → LeavesOnly D.Reports self.old.disk self.new.disk (SpellsEither bodies hand) }
         ensures reads_only { ReadsOnly D.Reports 2 (IsErr result) self.old.disk self.new.disk }
@@ -261,8 +267,10 @@ impl<D: Fused> Journal<D> {
         ensures same { self.new ≡ record self.old { disk = self.new.disk } }
 
         // It holds what it held.
-        ensures reading { (bodies : List (List ℕ)) → IsReading D.Reports self.old bodies → IsReading D.Reports self.new bodies }
-        ensures holds { (bodies : List (List ℕ)) → Holds D.Reports self.old bodies → Holds D.Reports self.new bodies }
+        ensures reading { (bodies : List (List ℕ)) → IsReading D.Reports self.old bodies
+            → IsReading D.Reports self.new bodies }
+        ensures holds { (bodies : List (List ℕ)) → Holds D.Reports self.old bodies
+            → Holds D.Reports self.new bodies }
         ensures in_hand { (bodies hand : List (List ℕ))
             → HoldsInHand D.Reports self.old bodies hand → HoldsInHand D.Reports self.new bodies hand }
     {

@@ -12,7 +12,8 @@ use pv_outside::Disk;
 pub(crate) fn length_after_mark<D: Disk>(disk: &mut D) -> Result<u64, OpenFault<D>>
     ensures reads_only { ReadsOnly D.Reports 3 (ReadFailsOnDisk result) disk.old disk.new }
     ensures length { IfOk result (λ end. MARK_SIZE ≤ end) }
-    ensures marked { IfOk result (λ end. IfSome (D.reads disk.old) (λ text. (length text ≡ end) × (text ≡ MARK ++ drop MARK_SIZE text))) }
+    ensures marked { IfOk result (λ end. IfSome (D.reads disk.old) (λ text. (length text ≡ end)
+        × (text ≡ MARK ++ drop MARK_SIZE text))) }
     ensures durable { OnOk result (IsDurable D.Reports disk.new) }
     ensures synced { OnOk result (IsSynced D.Reports disk.new) }
 
@@ -67,7 +68,8 @@ pub(crate) fn read_block<D: Disk>(
 
     ensures reads_only { ReadsOnly D.Reports 1 (IsErr result) disk.old disk.new }
     ensures held { IfOk result (λ held. (held ≤ MAX_BLOCK) × (gate + held ≤ end)) }
-    ensures bytes { IfOk result (λ held. IfSome (D.reads disk.old) (λ text. take held into.new ≡ take MAX_BLOCK (drop gate text))) }
+    ensures bytes { IfOk result (λ held. IfSome (D.reads disk.old) (λ text. take held into.new
+        ≡ take MAX_BLOCK (drop gate text))) }
     ensures durable { IsDurable D.Reports disk.old → IsDurable D.Reports disk.new }
     ensures synced { IsSynced D.Reports disk.old → IsSynced D.Reports disk.new }
 {

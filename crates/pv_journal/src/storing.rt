@@ -22,23 +22,30 @@ pub(crate) fn store<D: Disk>(
 
     // Say each image spelled a list whose gate this is. Then a crash at any moment of the call leaves one that
     // spells it without the body or with it. After an Ok each spells it with the body.
-    ensures moments { (bodies : List (List ℕ)) → gate ≡ length (text_of bodies) → EachImage D.Reports disk.old (λ image. Spells image bodies)
+    ensures moments { (bodies : List (List ℕ)) → gate ≡ length (text_of bodies)
+        → EachImage D.Reports disk.old (λ image. Spells image bodies)
         → LeavesOnly D.Reports disk.old disk.new (SpellsEither bodies (body.now ∷ [])) }
-    ensures stored { OnOk result ((bodies : List (List ℕ)) → gate ≡ length (text_of bodies) → EachImage D.Reports disk.old (λ image. Spells image bodies)
+    ensures stored { OnOk result ((bodies : List (List ℕ)) → gate ≡ length (text_of bodies)
+        → EachImage D.Reports disk.old (λ image. Spells image bodies)
         → EachImage D.Reports disk.new (λ image. Spells image (bodies ++ body.now ∷ []))) }
 
     // Until two calls of the disk have succeeded, it leaves one that spells the list without it.
-    ensures early { (bodies : List (List ℕ)) → gate ≡ length (text_of bodies) → EachImage D.Reports disk.old (λ image. Spells image bodies)
-        → HasMade D.Reports 2 disk.old disk.new ⊎ LeavesOnly D.Reports disk.old disk.new (λ image. Spells image bodies) }
+    ensures early { (bodies : List (List ℕ)) → gate ≡ length (text_of bodies)
+        → EachImage D.Reports disk.old (λ image. Spells image bodies)
+        → HasMade D.Reports 2 disk.old disk.new
+        ⊎ LeavesOnly D.Reports disk.old disk.new (λ image. Spells image bodies) }
 
     // After an Ok its block and a closed gate were written, and no other byte.
-    ensures written { OnOk result (D.reads disk.new ≡ option_map (text_after_write gate (block body.now ++ 0 ∷ [])) (D.reads disk.old)) }
-    ensures next_gate { OnOk result (IfSome (D.reads disk.new) (HasClosedGate (gate + length body.now + HEAD_SIZE))) }
+    ensures written { OnOk result (D.reads disk.new
+        ≡ option_map (text_after_write gate (block body.now ++ 0 ∷ [])) (D.reads disk.old)) }
+    ensures next_gate { OnOk result
+        (IfSome (D.reads disk.new) (HasClosedGate (gate + length body.now + HEAD_SIZE))) }
     ensures same_gate { OnErr result (IfSome (D.reads disk.new) (MayHaveBody gate (length body.now))) }
 
     // What it takes of the disk.
     ensures synced { OnOk result (IsSynced D.Reports disk.new) }
-    ensures passes { HasCalls 4 (gate + length body.now + HEAD_SIZE + 1) (D.budget disk.old) → IsSynced D.Reports disk.old → IsOk result }
+    ensures passes { HasCalls 4 (gate + length body.now + HEAD_SIZE + 1) (D.budget disk.old)
+        → IsSynced D.Reports disk.old → IsOk result }
     ensures all_four { OnOk result (HasMade D.Reports 4 disk.old disk.new) }
     ensures spends { Spends D.Reports 4 (IsErr result) disk.old disk.new }
 {

@@ -25,7 +25,8 @@ pub(crate) fn catch_up(copy: &mut Vec<u8>, text: &[u8], pending: &[Range])
     requires shorter { vec_len copy.old ≤ length text.now }
     requires room { length text.now ≤ vec_capacity copy.old }
     requires within { IsEachWithin pending.now (length text.now) }
-    requires same { (place : ℕ) → place < vec_len copy.old → is_pending pending.now place ≡ false → slice_index copy.old.items place ≡ slice_index text.now place }
+    requires same { (place : ℕ) → place < vec_len copy.old → is_pending pending.now place ≡ false
+        → slice_index copy.old.items place ≡ slice_index text.now place }
 
     // Afterwards they are equal.
     ensures same { copy.new.items ≡ text.now }
@@ -40,7 +41,8 @@ pub(crate) fn catch_up(copy: &mut Vec<u8>, text: &[u8], pending: &[Range])
 fn copy_ranges(copy: &mut [u8], text: &[u8], pending: &[Range])
     requires long { length copy.old ≡ length text.now }
     requires within { IsEachWithin pending.now (length text.now) }
-    requires same { (place : ℕ) → place < length text.now → is_pending pending.now place ≡ false → slice_index copy.old place ≡ slice_index text.now place }
+    requires same { (place : ℕ) → place < length text.now → is_pending pending.now place ≡ false
+        → slice_index copy.old place ≡ slice_index text.now place }
     ensures { copy.new ≡ text.now }
 {
     for range in pending {
@@ -52,7 +54,8 @@ fn copy_ranges(copy: &mut [u8], text: &[u8], pending: &[Range])
 fn copy_range(copy: &mut [u8], text: &[u8], range: Range)
     requires long { length copy.old ≡ length text.now }
     requires within { range.at + range.size ≤ length text.now }
-    ensures { (place : ℕ) → place < length copy.new → slice_index copy.new place ≡ (if is_within range place then slice_index text.now place else slice_index copy.old place) }
+    ensures { (place : ℕ) → place < length copy.new → slice_index copy.new place
+        ≡ (if is_within range place then slice_index text.now place else slice_index copy.old place) }
 {
     let end = range.at + range.size;
     copy[range.at..end].copy_from_slice(&text[range.at..end]);
@@ -61,7 +64,8 @@ fn copy_range(copy: &mut [u8], text: &[u8], range: Range)
 /// Puts the pattern of an image over a range.
 fn paint(text: &mut [u8], image: u8, range: Range)
     requires { range.at + range.size ≤ length text.old }
-    ensures { (place : ℕ) → place < length text.new → slice_index text.new place ≡ (if is_within range place then pattern image place else slice_index text.old place) }
+    ensures { (place : ℕ) → place < length text.new → slice_index text.new place
+        ≡ (if is_within range place then pattern image place else slice_index text.old place) }
 {
     for place in range.at..range.at + range.size {
         text[place] = ((31 * image as usize + 17 * (place % 256)) % 256) as u8;
@@ -71,7 +75,8 @@ fn paint(text: &mut [u8], image: u8, range: Range)
 /// Puts the pattern of an image over each range.
 fn paint_all(text: &mut [u8], image: u8, pending: &[Range])
     requires { IsEachWithin pending.now (length text.old) }
-    ensures { (place : ℕ) → place < length text.new → slice_index text.new place ≡ (if is_pending pending.now place then pattern image place else slice_index text.old place) }
+    ensures { (place : ℕ) → place < length text.new → slice_index text.new place
+        ≡ (if is_pending pending.now place then pattern image place else slice_index text.old place) }
 {
     for range in pending {
         paint(text, image, *range);

@@ -33,7 +33,8 @@ impl Model for Step {
 
     ghost view = { λ s. record { range = s.range; replaced = s.replaced.items; pending = s.pending.items; end = s.end } };
 
-    ghost invariant = { λ s. (KEPT_BYTES ≤ vec_capacity s.replaced) × (MAX_UNSYNCED ≤ vec_capacity s.pending) };
+    ghost invariant = { λ s. (KEPT_BYTES ≤ vec_capacity s.replaced)
+        × (MAX_UNSYNCED ≤ vec_capacity s.pending) };
 }
 
 impl Step {

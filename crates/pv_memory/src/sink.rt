@@ -32,7 +32,8 @@ impl MemSink {
     /// A sink with room for `room` bytes, taken at once, of which the calls of these numbers fail, counted
     /// from 0.
     pub fn new(alloc: Global, room: usize, fails: &[u64]) -> Result<MemSink, AllocError>
-        ensures { IfOk result (λ s. s ≡ record { bytes = []; room = room; plan = record { call = 0; failing = fails.now; faults = 0 } }) }
+        ensures { IfOk result (λ s. s
+            ≡ record { bytes = []; room = room; plan = record { call = 0; failing = fails.now; faults = 0 } }) }
     {
         Ok(MemSink {
             bytes: Vec::with_capacity(alloc, room)?,

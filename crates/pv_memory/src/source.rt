@@ -33,7 +33,8 @@ impl Model for MemSource {
 impl MemSource {
     /// A source of these bytes, of which the calls of these numbers fail.
     pub fn new(alloc: Global, bytes: &[u8], fails: &[u64]) -> Result<MemSource, AllocError>
-        ensures { IfOk result (λ s. s ≡ record { read = []; left = bytes.now; ended = false; plan = record { call = 0; failing = fails.now; faults = 0 } }) }
+        ensures { IfOk result (λ s. s
+            ≡ record { read = []; left = bytes.now; ended = false; plan = record { call = 0; failing = fails.now; faults = 0 } }) }
     {
         Ok(MemSource {
             bytes: Vec::from_slice(alloc, bytes)?,
@@ -92,7 +93,8 @@ fn copy_from(bytes: &[u8], at: usize, into: &mut [u8]) -> usize
 
     // The rest of the slice, and what is read and left of the bytes afterwards.
     ensures rest { drop result into.new ≡ drop result into.old }
-    ensures read { take (at + result) bytes.now ≡ take at bytes.now ++ take (length into.old) (drop at bytes.now) }
+    ensures read { take (at + result) bytes.now
+        ≡ take at bytes.now ++ take (length into.old) (drop at bytes.now) }
     ensures left { drop (at + result) bytes.now ≡ drop (length into.old) (drop at bytes.now) }
     ensures fits { at + result ≤ length bytes.now }
 {

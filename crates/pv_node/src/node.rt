@@ -44,7 +44,8 @@ impl<R: Rules, D: Disk> Model for Node<R, D> {
 
     ghost view = { λ n. record { journal = n.journal; state = n.state; hand = n.hand } };
 
-    ghost invariant = { λ n. IsNode R.Rules (record { journal = n.journal; state = n.state; hand = n.hand }) };
+    ghost invariant = { λ n. IsNode R.Rules
+        (record { journal = n.journal; state = n.state; hand = n.hand }) };
 }
 
 /// Puts the spelling of a record into the beginning, and returns how many bytes it has.
@@ -64,24 +65,32 @@ impl<R: Rules, D: Disk> Node<R, D> {
     /// refused is handed back. This call alone takes memory.
     pub fn open(alloc: Global, disk: D, limits: Limits) -> Result<Node<R, D>, (NodeFault<D>, D)>
         // The node stands for the records that the disk stands for, and has none in hand.
-        ensures opened { IfOk result (λ node. (records : List R.Rec) × StandsFor ⟦<R as Rules>⟧ D.Reports node records) }
-        ensures found { IfOk result (λ node. (records : List R.Rec) → DiskStands ⟦<R as Rules>⟧ D.Reports disk records → StandsFor ⟦<R as Rules>⟧ D.Reports node records) }
+        ensures opened { IfOk result (λ node. (records : List R.Rec)
+            × StandsFor ⟦<R as Rules>⟧ D.Reports node records) }
+        ensures found { IfOk result (λ node. (records : List R.Rec)
+            → DiskStands ⟦<R as Rules>⟧ D.Reports disk records
+            → StandsFor ⟦<R as Rules>⟧ D.Reports node records) }
         ensures none_in_hand { IfOk result (λ node. node.hand ≡ None) }
         ensures limits { IfOk result (λ node. R.limits_of node.state ≡ limits) }
 
         // It makes three calls of the disk and one for each gate, and a crash leaves what it might have left before.
-        ensures reads_only { IfOk result (λ node. ReadsOnly D.Reports (node.journal.count + 4) ⊥ disk node.journal.disk) }
-        ensures moments { IfOk result (λ node. LeavesOnly D.Reports disk node.journal.disk (D.may_leave disk)) }
+        ensures reads_only { IfOk result
+            (λ node. ReadsOnly D.Reports (node.journal.count + 4) ⊥ disk node.journal.disk) }
+        ensures moments { IfOk result
+            (λ node. LeavesOnly D.Reports disk node.journal.disk (D.may_leave disk)) }
 
         // On a disk that stands for records within the limits, each of which has room, only an allocation or the
         // disk can fail.
-        ensures opens { IfErr result (λ e. (records : List R.Rec) → DiskStands ⟦<R as Rules>⟧ D.Reports disk records
+        ensures opens { IfErr result (λ e. (records : List R.Rec)
+            → DiskStands ⟦<R as Rules>⟧ D.Reports disk records
             → Meets ⟦<R as Rules>⟧ limits records → IsOutside e.0) }
 
         // Each fault has its cause, and on a disk that reports its bytes these show which it is.
         ensures refused { IfErr result (λ e. IsOpenFault limits e.0) }
-        ensures shown { IfErr result (λ e. IfSome (D.reads disk) (λ text. FaultShows ⟦<R as Rules>⟧ limits text e.0)) }
-        ensures handed_back { IfErr result (λ e. ReadsOnly D.Reports (limits.records + 4) (IsOpenDiskFault e.0) disk e.1) }
+        ensures shown { IfErr result
+            (λ e. IfSome (D.reads disk) (λ text. FaultShows ⟦<R as Rules>⟧ limits text e.0)) }
+        ensures handed_back { IfErr result
+            (λ e. ReadsOnly D.Reports (limits.records + 4) (IsOpenDiskFault e.0) disk e.1) }
         ensures moments_refused { IfErr result (λ e. LeavesOnly D.Reports disk e.1 (D.may_leave disk)) }
     {
         let Ok(mut state) = R::open(alloc, limits) else {
@@ -110,22 +119,27 @@ impl<R: Rules, D: Disk> Node<R, D> {
         requires { R.is_request request.now }
 
         ensures asked { Asks ⟦<R as Rules>⟧ D.Reports request.now self.old self.new result }
-        ensures answers { self.old.hand ≡ None → CarriesOut ⟦<R as Rules>⟧ D.Reports (R.judgement self.old.state request.now) self.old self.new result }
+        ensures answers { self.old.hand ≡ None
+            → CarriesOut ⟦<R as Rules>⟧ D.Reports
+            (R.judgement self.old.state request.now) self.old self.new result }
         ensures none_in_hand { OnOk result (self.new.hand ≡ None) }
         ensures limits { R.limits_of self.new.state ≡ R.limits_of self.old.state }
 
         // What a crash at any moment of it leaves; and with fewer than two calls of the disk left, it leaves what it
         // might have left before.
         ensures moments { (records : List R.Rec) → StandsFor ⟦<R as Rules>⟧ D.Reports self.old records
-            → LeavesOnly D.Reports self.old.journal.disk self.new.journal.disk (AskLeaves ⟦<R as Rules>⟧ D.Reports request.now self.old records) }
+            → LeavesOnly D.Reports self.old.journal.disk self.new.journal.disk
+            (AskLeaves ⟦<R as Rules>⟧ D.Reports request.now self.old records) }
         ensures few { (records : List R.Rec) (n : ℕ) → StandsFor ⟦<R as Rules>⟧ D.Reports self.old records
             → HasLeft n (D.budget self.old.journal.disk) → n < 2
-            → LeavesOnly D.Reports self.old.journal.disk self.new.journal.disk (StandsEither ⟦<R as Rules>⟧ records self.old.hand) }
+            → LeavesOnly D.Reports self.old.journal.disk self.new.journal.disk
+            (StandsEither ⟦<R as Rules>⟧ records self.old.hand) }
 
         // What it takes of the disk. One with room for all records, whose calls have no end, does not fail.
         ensures spends { SpendsOnAsk ⟦<R as Rules>⟧ D.Reports 6 self.old self.new result }
         ensures never_fails { (records : List R.Rec) → StandsFor ⟦<R as Rules>⟧ D.Reports self.old records
-            → IsEndless (longest (R.limits_of self.old.state).records) (D.budget self.old.journal.disk) → FailsOnDisk result → ⊥ }
+            → IsEndless (longest (R.limits_of self.old.state).records) (D.budget self.old.journal.disk)
+            → FailsOnDisk result → ⊥ }
     {
         match self.settle() {
             Ok(_) => {
@@ -146,7 +160,8 @@ impl<R: Rules, D: Disk> Node<R, D> {
 
         ensures carried_out { CarriesOut ⟦<R as Rules>⟧ D.Reports decision self.old self.new result }
         ensures moments { (records : List R.Rec) → StandsFor ⟦<R as Rules>⟧ D.Reports self.old records
-            → LeavesOnly D.Reports self.old.journal.disk self.new.journal.disk (StandsEither ⟦<R as Rules>⟧ records (to_store decision)) }
+            → LeavesOnly D.Reports self.old.journal.disk self.new.journal.disk
+            (StandsEither ⟦<R as Rules>⟧ records (to_store decision)) }
         ensures none_in_hand { OnOk result (self.new.hand ≡ None) }
         ensures limits { R.limits_of self.new.state ≡ R.limits_of self.old.state }
         ensures spends { SpendsOnAsk ⟦<R as Rules>⟧ D.Reports 4 self.old self.new result }
@@ -174,7 +189,8 @@ impl<R: Rules, D: Disk> Node<R, D> {
         ensures stored { OnOk result (HasStored ⟦<R as Rules>⟧ D.Reports self.old self.new rec.now) }
         ensures refused { IfErr result (IsRefused ⟦<R as Rules>⟧ D.Reports self.old self.new rec.now) }
         ensures moments { (records : List R.Rec) → StandsFor ⟦<R as Rules>⟧ D.Reports self.old records
-            → LeavesOnly D.Reports self.old.journal.disk self.new.journal.disk (StandsEither ⟦<R as Rules>⟧ records (Some rec.now)) }
+            → LeavesOnly D.Reports self.old.journal.disk self.new.journal.disk
+            (StandsEither ⟦<R as Rules>⟧ records (Some rec.now)) }
         ensures limits { R.limits_of self.new.state ≡ R.limits_of self.old.state }
         ensures spends { SpendsOnAsk ⟦<R as Rules>⟧ D.Reports 4 self.old self.new result }
     {
@@ -201,9 +217,12 @@ impl<R: Rules, D: Disk> Node<R, D> {
 
         // What a crash at any moment of it leaves, and what it takes of the disk.
         ensures moments { (records : List R.Rec) → StandsFor ⟦<R as Rules>⟧ D.Reports self.old records
-            → LeavesOnly D.Reports self.old.journal.disk self.new.journal.disk (StandsEither ⟦<R as Rules>⟧ records self.old.hand) }
-        ensures both_calls { OnOk result (self.old.hand ≢ None → HasMade D.Reports 2 self.old.journal.disk self.new.journal.disk) }
-        ensures reads_only { ReadsOnly D.Reports 2 (IsErr result) self.old.journal.disk self.new.journal.disk }
+            → LeavesOnly D.Reports self.old.journal.disk self.new.journal.disk
+            (StandsEither ⟦<R as Rules>⟧ records self.old.hand) }
+        ensures both_calls { OnOk result (self.old.hand ≢ None
+            → HasMade D.Reports 2 self.old.journal.disk self.new.journal.disk) }
+        ensures reads_only { ReadsOnly D.Reports 2
+            (IsErr result) self.old.journal.disk self.new.journal.disk }
     {
         let Some(rec) = self.hand else {
             return Ok(None);
@@ -230,7 +249,8 @@ impl<R: Rules, D: Disk> Node<R, D> {
     /// How many records there are, without one in hand.
     pub fn count(&self) -> u64
         ensures count { result ≡ self.now.journal.count }
-        ensures records { (records : List R.Rec) → StandsFor ⟦<R as Rules>⟧ D.Reports self.now records → result ≡ length records }
+        ensures records { (records : List R.Rec) → StandsFor ⟦<R as Rules>⟧ D.Reports self.now records
+            → result ≡ length records }
         ensures within { result ≤ (R.limits_of self.now.state).records }
     {
         self.journal.count()
@@ -239,8 +259,10 @@ impl<R: Rules, D: Disk> Node<R, D> {
     /// The disk.
     pub fn into_disk(self) -> D
         ensures disk { result ≡ self.journal.disk }
-        ensures images { (records : List R.Rec) → StandsFor ⟦<R as Rules>⟧ D.Reports self records → EachImage D.Reports result (StandsEither ⟦<R as Rules>⟧ records self.hand) }
-        ensures meets { (records : List R.Rec) → StandsFor ⟦<R as Rules>⟧ D.Reports self records → MeetsBoth ⟦<R as Rules>⟧ (R.limits_of self.state) records self.hand }
+        ensures images { (records : List R.Rec) → StandsFor ⟦<R as Rules>⟧ D.Reports self records
+            → EachImage D.Reports result (StandsEither ⟦<R as Rules>⟧ records self.hand) }
+        ensures meets { (records : List R.Rec) → StandsFor ⟦<R as Rules>⟧ D.Reports self records
+            → MeetsBoth ⟦<R as Rules>⟧ (R.limits_of self.state) records self.hand }
     {
         self.journal.into_disk()
     }
@@ -250,10 +272,13 @@ impl<R: Rules, D: Fused> Node<R, D> {
     /// Lets this many further calls of the disk pass, and then none. Nothing else changes.
     pub fn fuse(&mut self, calls: u32)
         ensures disk { IsFused D.Reports calls self.old.journal.disk self.new.journal.disk }
-        ensures has { (room : ℕ) → HasCalls 0 room (D.budget self.old.journal.disk) → HasCalls calls room (D.budget self.new.journal.disk) }
-        ensures left { (room : ℕ) → HasCalls 0 room (D.budget self.old.journal.disk) → HasLeft calls (D.budget self.new.journal.disk) }
+        ensures has { (room : ℕ) → HasCalls 0 room (D.budget self.old.journal.disk)
+            → HasCalls calls room (D.budget self.new.journal.disk) }
+        ensures left { (room : ℕ) → HasCalls 0 room (D.budget self.old.journal.disk)
+            → HasLeft calls (D.budget self.new.journal.disk) }
         ensures same { self.new ≡ record self.old { journal = record self.old.journal { disk = self.new.journal.disk } } }
-        ensures records { (records : List R.Rec) → StandsFor ⟦<R as Rules>⟧ D.Reports self.old records → StandsFor ⟦<R as Rules>⟧ D.Reports self.new records }
+        ensures records { (records : List R.Rec) → StandsFor ⟦<R as Rules>⟧ D.Reports self.old records
+            → StandsFor ⟦<R as Rules>⟧ D.Reports self.new records }
     {
         self.journal.fuse(calls);
     }

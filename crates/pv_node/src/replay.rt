@@ -49,32 +49,40 @@ fn take_next<R: Rules, D: Disk>(
     body: &mut [u8; MAX_BODY],
 ) -> Result<bool, NodeFault<D>>
     requires limit { journal.old.limit ≡ (R.limits_of state.old).records }
-    requires so_far { (records : List R.Rec) × HasRead ⟦<R as Rules>⟧ D.Reports journal.old state.old records }
+    requires so_far { (records : List R.Rec)
+        × HasRead ⟦<R as Rules>⟧ D.Reports journal.old state.old records }
 
     // The next record joins those that were read, and after the last one these are all.
-    ensures took { result ≡ Ok true → (records : List R.Rec) → HasRead ⟦<R as Rules>⟧ D.Reports journal.old state.old records
+    ensures took { result ≡ Ok true → (records : List R.Rec)
+        → HasRead ⟦<R as Rules>⟧ D.Reports journal.old state.old records
         → (rec : R.Rec) × HasRead ⟦<R as Rules>⟧ D.Reports journal.new state.new (records ++ rec ∷ [])
         × ComesNext ⟦<R as Rules>⟧ D.Reports journal.old.disk records rec }
-    ensures ended { result ≡ Ok false → (records : List R.Rec) → HasRead ⟦<R as Rules>⟧ D.Reports journal.old state.old records
-        → HasAll ⟦<R as Rules>⟧ D.Reports journal.new state.new records × AreAll ⟦<R as Rules>⟧ D.Reports journal.old.disk records }
+    ensures ended { result ≡ Ok false → (records : List R.Rec)
+        → HasRead ⟦<R as Rules>⟧ D.Reports journal.old state.old records
+        → HasAll ⟦<R as Rules>⟧ D.Reports journal.new state.new records
+        × AreAll ⟦<R as Rules>⟧ D.Reports journal.old.disk records }
     ensures at_rest { result ≡ Ok false → IsAtRest journal.new }
     ensures reads_only { ReadsOnly D.Reports 1 (ReadingFails result) journal.old.disk journal.new.disk }
 
     // The limits stay, and what is counted is within them.
-    ensures counts { result ≡ Ok true → (journal.old.count < journal.old.limit) × (journal.new.count ≡ journal.old.count + 1) }
+    ensures counts { result ≡ Ok true → (journal.old.count < journal.old.limit)
+        × (journal.new.count ≡ journal.old.count + 1) }
     ensures goes_up { journal.old.count ≤ journal.new.count }
     ensures within { journal.new.count ≤ journal.new.limit }
     ensures limits { R.limits_of state.new ≡ R.limits_of state.old }
     ensures limit { journal.new.limit ≡ journal.old.limit }
 
     // On a disk that stands for records that have room, only an allocation or the disk can fail.
-    ensures opens { IfErr result (λ fault. (records more : List R.Rec) → HasRead ⟦<R as Rules>⟧ D.Reports journal.old state.old records
+    ensures opens { IfErr result (λ fault. (records more : List R.Rec)
+        → HasRead ⟦<R as Rules>⟧ D.Reports journal.old state.old records
         → DiskStands ⟦<R as Rules>⟧ D.Reports journal.old.disk (records ++ more)
         → Meets ⟦<R as Rules>⟧ (R.limits_of state.old) (records ++ more) → IsOutside fault) }
     ensures no_memory { IfErr result IsNotMemory }
     ensures known { IfErr result (IsOpenFault (R.limits_of state.old)) }
-    ensures shown { IfErr result (λ fault. (records : List R.Rec) → HasRead ⟦<R as Rules>⟧ D.Reports journal.old state.old records
-        → IfSome (D.reads journal.old.disk) (λ text. StopShows ⟦<R as Rules>⟧ (R.limits_of state.old) text records state.old fault)) }
+    ensures shown { IfErr result (λ fault. (records : List R.Rec)
+        → HasRead ⟦<R as Rules>⟧ D.Reports journal.old state.old records
+        → IfSome (D.reads journal.old.disk)
+        (λ text. StopShows ⟦<R as Rules>⟧ (R.limits_of state.old) text records state.old fault)) }
 {
     let number = journal.count();
     match journal.next(body) {
@@ -99,10 +107,12 @@ pub(crate) fn replay<R: Rules, D: Disk>(
     requires limit { journal.old.limit ≡ (R.limits_of state.old).records }
     requires reading { HasRead ⟦<R as Rules>⟧ D.Reports journal.old state.old [] }
 
-    ensures read { OnOk result ((records : List R.Rec) × HasAll ⟦<R as Rules>⟧ D.Reports journal.new state.new records) }
+    ensures read { OnOk result ((records : List R.Rec)
+        × HasAll ⟦<R as Rules>⟧ D.Reports journal.new state.new records) }
     ensures at_rest { OnOk result (IsAtRest journal.new) }
     ensures counted { OnOk result (journal.new.count ≡ R.count_of state.new) }
-    ensures reads_only { ReadsOnly D.Reports (journal.new.count + 1) (ReadingFails result) journal.old.disk journal.new.disk }
+    ensures reads_only { ReadsOnly D.Reports (journal.new.count + 1)
+        (ReadingFails result) journal.old.disk journal.new.disk }
 
     // The limits stay, and what is counted is within them.
     ensures within { journal.new.count ≤ journal.new.limit }
@@ -110,13 +120,16 @@ pub(crate) fn replay<R: Rules, D: Disk>(
     ensures limit { journal.new.limit ≡ journal.old.limit }
 
     // On a disk that stands for records, these are the ones, and only an allocation or the disk can fail.
-    ensures found { OnOk result ((records : List R.Rec) → DiskStands ⟦<R as Rules>⟧ D.Reports journal.old.disk records
+    ensures found { OnOk result ((records : List R.Rec)
+        → DiskStands ⟦<R as Rules>⟧ D.Reports journal.old.disk records
         → HasAll ⟦<R as Rules>⟧ D.Reports journal.new state.new records) }
-    ensures opens { IfErr result (λ fault. (records : List R.Rec) → DiskStands ⟦<R as Rules>⟧ D.Reports journal.old.disk records
+    ensures opens { IfErr result (λ fault. (records : List R.Rec)
+        → DiskStands ⟦<R as Rules>⟧ D.Reports journal.old.disk records
         → Meets ⟦<R as Rules>⟧ (R.limits_of state.old) records → IsOutside fault) }
     ensures no_memory { IfErr result IsNotMemory }
     ensures known { IfErr result (IsOpenFault (R.limits_of state.old)) }
-    ensures shown { IfErr result (λ fault. IfSome (D.reads journal.old.disk) (λ text. FaultShows ⟦<R as Rules>⟧ (R.limits_of state.old) text fault)) }
+    ensures shown { IfErr result
+        (λ fault. IfSome (D.reads journal.old.disk) (λ text. FaultShows ⟦<R as Rules>⟧ (R.limits_of state.old) text fault)) }
 {
     while take_next::<R, D>(state, journal, body)? {}
     Ok(())

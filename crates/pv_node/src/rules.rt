@@ -110,7 +110,8 @@ pub trait Rules {
 
     /// States of the same limits that stand for one list have room for the same records.
     ghost same_room: { (one other : Self.State) (records : List Self.Rec) (rec : Self.Rec)
-        → stands one records → stands other records → limits_of one ≡ limits_of other → fits one rec → fits other rec };
+        → stands one records → stands other records → limits_of one ≡ limits_of other → fits one rec
+        → fits other rec };
 
     /// They also judge alike.
     ghost same_judgement: { (one other : Self.State) (records : List Self.Rec) (request : Self.Request)
@@ -118,11 +119,14 @@ pub trait Rules {
         → judgement one request ≡ judgement other request };
 
     /// A state has taken in as many records as it stands for.
-    ghost counted: { (state : Self.State) (records : List Self.Rec) → stands state records → count_of state ≡ length records };
+    ghost counted: { (state : Self.State) (records : List Self.Rec) → stands state records → count_of state
+        ≡ length records };
 
     /// And one more with each.
-    ghost counts_on: { (state : Self.State) (rec : Self.Rec) (place : ℕ) → count_of (after state rec place) ≡ count_of state + 1 };
+    ghost counts_on: { (state : Self.State) (rec : Self.Rec) (place : ℕ) → count_of (after state rec place)
+        ≡ count_of state + 1 };
 
     /// The limits of a state stay.
-    ghost limits_stay: { (state : Self.State) (rec : Self.Rec) (place : ℕ) → limits_of (after state rec place) ≡ limits_of state };
+    ghost limits_stay: { (state : Self.State) (rec : Self.Rec) (place : ℕ) → limits_of (after state rec place)
+        ≡ limits_of state };
 }
