@@ -38,11 +38,32 @@ impl Model for Line {
 
     ghost Value = { Charge };
 
-    ghost view = { λ l. record { serial = l.serial; number = l.number; account = l.account; name = l.name; price = l.price; moment = l.moment } };
+    ghost view = { λ l. record {
+      serial = l.serial;
+      number = l.number;
+      account = l.account;
+      name = l.name;
+      price = l.price;
+      moment = l.moment;
+    } };
 
-    ghost invariant = { λ l. IsCharge (record { serial = l.serial; number = l.number; account = l.account; name = l.name; price = l.price; moment = l.moment }) };
+    ghost invariant = { λ l. IsCharge (record {
+      serial = l.serial;
+      number = l.number;
+      account = l.account;
+      name = l.name;
+      price = l.price;
+      moment = l.moment;
+    }) };
 
-    ghost inverse = { λ c. record { serial = c.serial; number = c.number; account = c.account; name = c.name; price = c.price; moment = c.moment } };
+    ghost inverse = { λ c. record {
+      serial = c.serial;
+      number = c.number;
+      account = c.account;
+      name = c.name;
+      price = c.price;
+      moment = c.moment;
+    } };
 }
 
 impl Line {

@@ -27,7 +27,8 @@ impl Model for Terminal {
 
     ghost view = { λ t. record { cells = t.grid; row = t.row; column = t.column; waiting = t.waiting } };
 
-    ghost invariant = { λ t. IsDisplay (record { cells = t.grid; row = t.row; column = t.column; waiting = t.waiting }) };
+    ghost invariant = { λ t. IsDisplay
+        (record { cells = t.grid; row = t.row; column = t.column; waiting = t.waiting }) };
 
     ghost inverse = { λ d. record { grid = d.cells; row = d.row; column = d.column; waiting = d.waiting } };
 }

@@ -52,9 +52,11 @@ pub fn three<'a, A: Reader<'a>, B: Reader<'a>, C: Reader<'a>>(
     third: &C,
     tail: &'a [u8],
 ) -> Option<(A::Value, B::Value, C::Value)>
-    ensures found { IfSome result (AreThree (A.Writes first.now) (B.Writes second.now) (C.Writes third.now) tail.now) }
+    ensures found { IfSome result
+        (AreThree (A.Writes first.now) (B.Writes second.now) (C.Writes third.now) tail.now) }
     ensures only { (parts : A.Value × B.Value × C.Value)
-        → AreThree (A.Writes first.now) (B.Writes second.now) (C.Writes third.now) tail.now parts → result ≡ Some parts }
+        → AreThree (A.Writes first.now) (B.Writes second.now) (C.Writes third.now) tail.now parts
+        → result ≡ Some parts }
 {
     let (word, later) = next_word(tail)?;
     let a = first.read(word)?;

@@ -4,7 +4,8 @@ ghost use Rattle.pv_words.specs.Split.{IsSplit, IsNext};
 /// A line's first word, and its tail: nothing, or a space and all that follows it.
 pub fn split_word(line: &[u8]) -> (&[u8], &[u8])
     ensures found { IsSplit line.now result.0.now result.1.now }
-    ensures only { (word tail : List ℕ) → IsSplit line.now word tail → (result.0.now ≡ word) × (result.1.now ≡ tail) }
+    ensures only { (word tail : List ℕ) → IsSplit line.now word tail
+        → (result.0.now ≡ word) × (result.1.now ≡ tail) }
 {
     split_of(line)
 }
