@@ -29,7 +29,7 @@ pub spelling-of_a_line : charge_bytes some_line
 unfolding charge_bytes
 spelling-of_a_line = refl
 
--- every line has as many bytes as the constant says
+-- it has as many bytes as the constant says
 pub length-of_a_line : length (charge_bytes some_line) ≡ LINE_BYTES
 unfolding charge_bytes
 length-of_a_line = refl

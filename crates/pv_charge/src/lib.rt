@@ -1,6 +1,6 @@
 //! Charge lines and bills.
 //!
-//! - [`Line`] is one priced frame that a caller was shown: which call, for which account, which frame,
+//! - [`Line`] is one priced frame that a caller asked for: which call, for which account, which frame,
 //!   at what price and when. A line has one spelling in bytes.
 //! - [`Bill`] adds up the lines of an account.
 //!
@@ -10,7 +10,7 @@
 //! let mut bytes = In::new(stored);
 //! let mut bill = Bill::new();
 //! while let Some(line) = Line::decode(&mut bytes) {
-//!     bill.add(&line);
+//!     bill.add(&line); // its sums are far below their limits
 //! }
 //! ```
 //!

@@ -16,7 +16,7 @@ pub const LAST_MOMENT: u32 = 4_102_444_799;
 /// How many bytes a line's spelling has.
 pub const LINE_BYTES: usize = 31;
 
-/// A charge line: one priced frame that a caller was shown.
+/// A charge line: one priced frame that a caller asked for. It is stored before the frame is shown.
 #[derive(Clone, Copy, Debug, PartialEq, Eq)]
 pub struct Line {
     /// The call, by its number at its centre.
@@ -25,11 +25,11 @@ pub struct Line {
     pub number: u32,
     /// Who pays.
     pub account: AccountNo,
-    /// The frame that was shown.
+    /// The frame.
     pub name: FrameName,
     /// The price in pence, at most [`MAX_PRICE`].
     pub price: u16,
-    /// When it was shown, in seconds since 1970, at most [`LAST_MOMENT`].
+    /// When he asked for it, in seconds since 1970, at most [`LAST_MOMENT`].
     pub moment: u32,
 }
 

@@ -1,11 +1,16 @@
 -- Worked examples of what stands on a disk, computed from the definitions.
 use Rattle.std.proofs.Common.{◌≡◌, inl, [], ◌∷◌, ◌++◌, replicate, codes, refl}
 use Rattle.pv_journal.specs.declared.block.TheConstants.{MAX_BODY}
+use Rattle.pv_journal.specs.Log.{longest}
 use Rattle.pv_journal.specs.Text.{text_of, first_eight, bytes_after_gate, IsBroken}
 
 -- a body has at most 2,048 bytes
 pub longest_body : MAX_BODY ≡ 2048
 longest_body = refl
+
+-- a journal of one body has at most nine bytes, and 2,051 for the body with its gate and length
+pub longest-one : longest 1 ≡ 2060
+longest-one = refl
 
 -- a journal without bodies
 pub no_bodies : text_of [] ++ 0 ∷ [] ≡ codes "PVJOURN1" ++ 0 ∷ []

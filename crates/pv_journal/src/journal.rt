@@ -11,7 +11,7 @@
 //!   in hand    -> in hand     settle    a call of the disk failed
 //!   in hand    -> at rest     settle    whether the body in hand is stored
 //! ```
-ghost use Rattle.std.specs.Prelude.{◌≡◌, ◌↔◌, ℕ, ◌+◌, List, [], ◌∷◌, ◌++◌, length, take, Option, Some, None, Ok, true, false, ◌<◌, ◌≤◌, IfOk, IfErr, IfSome, OnOk, OnErr, IsErr};
+ghost use Rattle.std.specs.Prelude.{◌≡◌, ◌⊎◌, ◌↔◌, ℕ, ◌+◌, List, [], ◌∷◌, ◌++◌, length, take, Option, Some, None, Ok, true, false, ◌<◌, ◌≤◌, IfOk, IfErr, IfSome, OnOk, OnErr, IsErr};
 ghost use Rattle.pv_outside.specs.Disk.{HasCalls};
 ghost use Rattle.pv_outside.specs.Calls.{IsFused};
 ghost use Rattle.pv_journal.specs.Text.{IsBody, text_of, Spells, SpellsEither};
@@ -153,7 +153,7 @@ impl<D: Disk> Journal<D> {
     }
 
     /// Appends a body of 1 to 2,048 bytes and returns its place, from 0. After a failure of the disk the
-    /// body is in hand. It makes at most four calls of the disk.
+    /// body is in hand. At most four calls of the disk succeed in it.
     pub fn append(&mut self, body: &[u8]) -> Result<u64, AppendFault<D>>
         requires at_rest { IsAtRest self.old }
         requires size { IsBody body.now }
@@ -164,9 +164,12 @@ impl<D: Disk> Journal<D> {
         ensures limit { self.new.limit ≡ self.old.limit }
 
         // A crash at any moment of the call leaves an image that spells the list without the body or with it.
-        // It is without it if fewer than two calls of the disk were left.
+        // It is without it until two calls of the disk have succeeded, so also if fewer than two were left.
         ensures moments { (bodies : List (List ℕ)) → Holds D.Reports self.old bodies
             → LeavesOnly D.Reports self.old.disk self.new.disk (SpellsEither bodies (body.now ∷ [])) }
+        ensures early { (bodies : List (List ℕ)) → Holds D.Reports self.old bodies
+            → HasMade D.Reports 2 self.old.disk self.new.disk
+            ⊎ LeavesOnly D.Reports self.old.disk self.new.disk (λ image. Spells image bodies) }
         ensures few { (bodies : List (List ℕ)) (n : ℕ) → Holds D.Reports self.old bodies
             → HasLeft n (D.budget self.old.disk) → n < 2
             → LeavesOnly D.Reports self.old.disk self.new.disk (λ image. Spells image bodies) }

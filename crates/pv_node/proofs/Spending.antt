@@ -6,7 +6,7 @@ use Rattle.pv_outside.specs.declared.reports.Reports as reports
 use Rattle.pv_outside.specs.declared.limits.Limits.{Limits}
 use Rattle.pv_journal.specs.Journal.{HasLeft, LeavesOnly, HasMade, ReadsOnly}
 use Rattle.pv_journal.specs.Log.{longest}
-use Rattle.pv_journal.proofs.CallerLemmas.{spends_then}
+use Rattle.pv_journal.proofs.CallerLemmas.{spends_then, too_few}
 use Rattle.pv_node.specs.declared.rules.Rules as rules
 use Rattle.pv_node.specs.declared.fault.AskFault.{AskFault}
 use Rattle.pv_node.specs.Parts.{Parts}
@@ -32,7 +32,7 @@ module _ {S State Request Rec Reply D : Type 0} (r : rules.Ghosts S State Reques
   spends_settled old settled new stored result is reads spends = record {
     spends = spends_then d reads.spends spends.spends;
     passes = λ none. (at_rest none).passes none;
-    few = λ none. (at_rest none).few none;
+    early = λ none. (at_rest none).early none;
   }
     where
       at_rest : old.hand ≡ None → SpendsOnAsk r d 4 old new result
@@ -58,7 +58,8 @@ module _ {S State Request Rec Reply D : Type 0} (r : rules.Ghosts S State Reques
   few_calls old settled new stored result is both spends records n stands has few = elim (none_or old.hand) [
     | inl none ↦
         let at_rest = subst (λ (node : Parts D State Rec). SpendsOnAsk r d 4 node new result) (settled_same r d old settled stored is none) spends in
-        subst (λ (hand : Option Rec). LeavesOnly d old.journal.disk new.journal.disk (StandsEither r records hand)) (sym none) (at_rest.few none records n stands has few)
+        subst (λ (hand : Option Rec). LeavesOnly d old.journal.disk new.journal.disk (StandsEither r records hand)) (sym none)
+        (too_few d n has few (at_rest.early none records stands))
     | inr some ↦ let left = (both some).left n has in absurd (omega (arith, few, left.2))
   ]
 

@@ -2,7 +2,7 @@
 use Rattle.std.specs.Prelude.{◌≡◌, ◌≢◌, ◌⊎◌, ℕ, ◌<◌, List, [], ◌∷◌, ◌++◌, Option, Some, None, Result, Ok, Err}
 use Rattle.pv_outside.specs.Disk.{HasCalls}
 use Rattle.pv_outside.specs.declared.reports.Reports as reports
-use Rattle.pv_journal.specs.Journal.{HasLeft, LeavesOnly, HasMade, Spends}
+use Rattle.pv_journal.specs.Journal.{LeavesOnly, HasMade, Spends}
 use Rattle.pv_journal.specs.Log.{longest}
 use Rattle.pv_node.specs.declared.rules.Rules as rules
 use Rattle.pv_node.specs.declared.decision.Decision.{Decision}
@@ -124,6 +124,7 @@ module _ {S State Request Rec Reply D : Type 0} (r : rules.Ghosts S State Reques
     -- no call fails while four are left, and there is room for all records
     pub passes : old.hand ≡ None → (records : List Rec) → StandsFor r g old records
         → HasCalls 4 (longest (r.limits_of old.state).records) (g.budget old.journal.disk) → FailsOnDisk result → ⊥
-    -- with fewer than two calls left, a crash at any moment leaves the records that there were
-    pub few : old.hand ≡ None → (records : List Rec) (n : ℕ) → StandsFor r g old records → HasLeft n (g.budget old.journal.disk) → n < 2
-        → LeavesOnly g old.journal.disk new.journal.disk (λ image. Stands r image records)
+    -- until two calls have succeeded, a crash at any moment leaves the records that there were
+    pub early : old.hand ≡ None → (records : List Rec) → StandsFor r g old records
+        → HasMade g 2 old.journal.disk new.journal.disk
+        ⊎ LeavesOnly g old.journal.disk new.journal.disk (λ image. Stands r image records)

@@ -1,14 +1,15 @@
-use Rattle.std.proofs.Common.{ℕ, ◌+◌, ◌<◌, length, [], ◌∷◌, ◌++◌, refl, sym, ◌∙◌, ap, subst, arith, rules}
+use Rattle.std.proofs.Common.{◌⊎◌, inr, ℕ, ◌+◌, ◌<◌, length, [], ◌∷◌, ◌++◌, refl, sym, ◌∙◌, ap, subst, arith, rules}
 use Rattle.std.proofs.lemmas.List.Elements.{All-push}
 use Rattle.std.specs.Option.{option_map}
 use Rattle.pv_outside.specs.Disk.{text_after_write}
 use Rattle.pv_journal.specs.Log.{Log}
 use Rattle.pv_journal.specs.declared.journal.Phase.TheVariants.{Resting, InHand}
 use Rattle.pv_journal.specs.Appending.{IsAppended, IsTakenInHand}
-use Rattle.pv_journal.specs.Journal.{HasLeft, LeavesOnly, Holds, Spends}
+use Rattle.pv_journal.specs.Journal.{HasLeft, HasMade, LeavesOnly, Holds, Spends}
 use Rattle.pv_journal.specs.Text.{IsBody, block, Spells}
 use Rattle.pv_journal.proofs.Counted.{counted_more}
 use Rattle.pv_journal.proofs.CallerLemmas.{count_within, spends_most, too_few}
+use Rattle.pv_journal.proofs.Moments.{only_none}
 use Rattle.pv_journal.proofs.journal.Journal.append.Goals as goal
 
 pub returns-clause-appended : goal.returns-clause-appended
@@ -58,6 +59,23 @@ returns-in-Err-clause-spends g c =
 pub returns-clause-spends : goal.returns-clause-spends
 returns-clause-spends g c =
     subst (λ v. Spends g.D.Reports 4 _ v.disk c.store.new.disk) c.self.view_is (spends_most g.D.Reports (omega arith) (search rules) c.store.ensures.spends)
+
+-- a full journal leaves the disk as it is
+pub returns-then-place-self-clause-early : goal.returns-then-place-self-clause-early
+returns-then-place-self-clause-early g c = λ bodies held.
+    inr (only_none g.D.Reports g.met.D.Disk.only_now g.met.D.Disk.now_is_known _ _ held.images)
+
+pub returns-in-Err-clause-early : goal.returns-in-Err-clause-early
+returns-in-Err-clause-early g c = λ bodies held_now.
+    let held = subst (λ v. Holds g.D.Reports v bodies) (sym c.self.view_is) held_now in
+    subst (λ v. HasMade g.D.Reports 2 v.disk c.store.new.disk ⊎ LeavesOnly g.D.Reports v.disk c.store.new.disk (λ image. Spells image bodies))
+    c.self.view_is (c.store.ensures.early bodies held.counted.gate held.images)
+
+pub returns-clause-early : goal.returns-clause-early
+returns-clause-early g c = λ bodies held_now.
+    let held = subst (λ v. Holds g.D.Reports v bodies) (sym c.self.view_is) held_now in
+    subst (λ v. HasMade g.D.Reports 2 v.disk c.store.new.disk ⊎ LeavesOnly g.D.Reports v.disk c.store.new.disk (λ image. Spells image bodies))
+    c.self.view_is (c.store.ensures.early bodies held.counted.gate held.images)
 
 pub returns-in-Err-clause-few : goal.returns-in-Err-clause-few
 returns-in-Err-clause-few g c = λ bodies n held_now has few.

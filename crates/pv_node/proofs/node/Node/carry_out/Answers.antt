@@ -1,4 +1,4 @@
-use Rattle.std.proofs.Common.{Option, subst}
+use Rattle.std.proofs.Common.{Option, inr, subst}
 use Rattle.pv_journal.specs.Journal.{EachImage}
 use Rattle.pv_journal.proofs.CallerLemmas.{spends_none}
 use Rattle.pv_journal.proofs.Moments.{only_none}
@@ -9,6 +9,6 @@ pub returns-in-Answer-clause-spends : goal.returns-in-Answer-clause-spends
 returns-in-Answer-clause-spends g c = record {
   spends = spends_none g.D.Reports _ (λ fails. fails);
   passes = λ none records stands has fails. fails;
-  few = λ none records n stands has few. only_none g.D.Reports g.met.D.Disk.only_now g.met.D.Disk.now_is_known _ _
-      (subst (λ (hand : Option g.row.R-Rec.Denot). EachImage g.D.Reports c.args.self.now.journal.disk (StandsEither g.R.Rules records hand)) none stands.images);
+  early = λ none records stands. inr (only_none g.D.Reports g.met.D.Disk.only_now g.met.D.Disk.now_is_known _ _
+      (subst (λ (hand : Option g.row.R-Rec.Denot). EachImage g.D.Reports c.args.self.now.journal.disk (StandsEither g.R.Rules records hand)) none stands.images));
 }

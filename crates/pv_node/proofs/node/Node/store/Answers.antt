@@ -1,4 +1,4 @@
-use Rattle.std.proofs.Common.{◌≡◌, ℕ, ◌<◌, List, [], ◌∷◌, ◌++◌, map, Option, None, Some, Result, Ok, Err, refl, sym, ◌∙◌, ap, subst, arith, rules}
+use Rattle.std.proofs.Common.{◌≡◌, ℕ, ◌<◌, List, [], ◌∷◌, ◌++◌, map, Option, None, Some, Result, Ok, Err, inl, inr, refl, sym, ◌∙◌, ap, subst, arith, rules}
 use Rattle.pv_outside.specs.Disk.{HasCalls}
 use Rattle.pv_journal.specs.Journal.{LeavesOnly, HasMade, Holds, HoldsInHand}
 use Rattle.pv_journal.specs.Log.{longest}
@@ -33,8 +33,11 @@ spent g c state hand result fails passes =
       spends = spends_most g.D.Reports (omega arith) fails c.append.ensures.spends;
       passes = λ _ records stands has. passes (map g.R.Rules.spelling records) (holds_at_rest g.R.Rules g.D.Reports (seen g c) records stands none)
           (subst (λ (n : ℕ). HasCalls 4 (longest n) (g.D.Reports.budget c.self.inside.journal.disk)) (sym c.self.invariant.limit) has);
-      few = λ _ records n stands has few. only_stand g.R.Rules g.D.Reports records stands.each
-          (c.append.ensures.few (map g.R.Rules.spelling records) n (holds_at_rest g.R.Rules g.D.Reports (seen g c) records stands none) has few);
+      early = λ _ records stands.
+          elim (c.append.ensures.early (map g.R.Rules.spelling records) (holds_at_rest g.R.Rules g.D.Reports (seen g c) records stands none)) [
+            | inl made ↦ inl made
+            | inr leaves ↦ inr (only_stand g.R.Rules g.D.Reports records stands.each leaves)
+          ];
     } in spends)
 
 -- what a crash at some moment of the append leaves, stands for the records, with the new one or without it
