@@ -32,7 +32,7 @@ abbrev pub ReadsLine : ℕ → List ℕ → Command → Type 0
 ReadsLine centres line Nothing = (line ≡ []) ⊎ ((comment : List ℕ) × (line ≡ COMMENT ∷ comment))
 ReadsLine centres line (Do event) = Asks centres line event
 
--- the line has none of the forms
+-- the line is not a valid command
 abbrev pub HasNoForm : ℕ → List ℕ → Type 0
 HasNoForm centres line = (command : Command) → ReadsLine centres line command → ⊥
 

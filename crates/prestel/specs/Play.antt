@@ -50,7 +50,7 @@ pub record IsPlayed (centres : ℕ) (first : World) (text : List ℕ) (network :
   pub stands : StandsFor network (world_after_all first transcript.runs)
   pub one_list : OneList (world_after_all first transcript.runs)
 
--- the line of this number is the first of the text that has none of the forms: those before it were run, and what was
+-- the line of this number is the first of the text that is not a valid command: those before it were run, and what was
 -- written is their answers
 pub record StopsAtBadLine (centres : ℕ) (first : World) (text : List ℕ) (number : ℕ) (written_before written_now : Option (List ℕ)) : Type 0 where
   pub run : List (List ℕ)
@@ -87,7 +87,7 @@ pub record IsReadWhole (text : List ℕ) (left : Option (List ℕ)) (ended : Boo
   pub all : IsAllLeft left text
 
 -- What a play made of the text that it read, by the status that it ended with. Done says that the whole text was run. A bad
--- line is the first that has none of the forms. A fault of the output leaves a prefix of the answers. If memory ran out, the
+-- line is the first that is not a valid command. A fault of the output leaves a prefix of the answers. If memory ran out, the
 -- first lines were run. A text is too long exactly if it has one byte more than a script may have.
 abbrev pub IsPlayOf : ℕ → World → List ℕ → Option State → Option (List ℕ) → Bool → Option (List ℕ) → Option (List ℕ) → Status → Type 0
 IsPlayOf centres first text network left ended before now Done =

@@ -11,12 +11,12 @@ const HELP: &str = "usage: prestel play 1 < SCRIPT
 
 Runs the script on standard input on a viewdata network of one retrieval
 centre, and writes an answer to each event. The 1 is the number of centres;
-no other number is accepted yet.
+only 1 is supported so far.
 
 Exit status:
   0  everything was done
-  2  the words are none of those above
-  3  a line of the script has none of its forms
+  2  bad command line
+  3  a line of the script is not a valid command
   4  standard input could not be read
   5  standard output could not be written
   6  out of memory

@@ -39,7 +39,7 @@ pub enum AnswerEnd {
 /// Why the lines of a script were not all run.
 #[derive(Clone, Copy, Debug, PartialEq, Eq)]
 pub enum RunEnd {
-    /// The line of this number, from 1, has none of the forms.
+    /// The line of this number, from 1, is not a valid command.
     BadLine { line: u32 },
     /// An answer was not written.
     Unanswered(AnswerEnd),

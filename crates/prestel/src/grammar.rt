@@ -20,7 +20,7 @@ pub enum Command {
     Do(Event),
 }
 
-/// What a line asks for in a play of this many centres. `None` exactly when the line has none of the script's forms.
+/// What a line asks for in a play of this many centres. `None` exactly when it is not a valid command.
 pub fn parse(line: &[u8], centres: u8) -> Option<Command>
     ensures found { IfSome result (ReadsLine centres line.now) }
     ensures only { (command : Command) → ReadsLine centres line.now command → result ≡ Some command }

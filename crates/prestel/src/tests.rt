@@ -137,7 +137,7 @@ fn lines_at_the_edge_of_a_form(rt: HostRuntime) -> Result<(), Fail> {
     Ok(())
 }
 
-/// Lines that are none of the forms.
+/// Lines that are no valid commands.
 const NO_FORMS: [&[u8]; 36] = [
     b"seed 1a 01234567890123456789012345678901234567890",
     b"seed 1a \\1f\\1f\\1f\\1f\\1f\\1f\\1f\\1f\\1f\\1f\\1f\\1f\\1f\\1f\\1f\\1f\\1f\\1f\\1f\\1f\\1f\\1f\\1f\\1f\\1f\\1f\\1f\\1f\\1f\\1f\\1f\\1f\\1f\\1f\\1f\\1f\\1f\\1f\\1f\\1f\\1f",
