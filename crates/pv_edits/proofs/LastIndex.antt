@@ -1,7 +1,7 @@
 -- The last record that passes a test is found by a search from the end.
-use Rattle.std.proofs.Common.{◌≡◌, ℕ, zero, suc, ◌<◌, Bool, true, false, List, [], ◌∷◌, length, get_or, Option, Some, None, refl, sym, ap, arith}
+use Rattle.std.proofs.Common.{◌≡◌, ℕ, zero, suc, ◌<◌, Bool, true, false, List, [], ◌∷◌, length, get_or, Some, None, refl, arith}
 use Rattle.pv_edits.specs.declared.record.Record.{Record}
-use Rattle.pv_edits.specs.Edits.{last_index, later_or_first}
+use Rattle.pv_edits.specs.Edits.{last_index}
 
 module _ (test : Record → Bool) where
   -- no record passes

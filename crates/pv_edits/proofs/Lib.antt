@@ -1,3 +1,4 @@
 pub mod CallerLemmas
+mod Counting
 mod OneSpelling
 mod LastIndex

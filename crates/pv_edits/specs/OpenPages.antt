@@ -4,7 +4,6 @@ use Rattle.std.specs.List.{list_any}
 use Rattle.pv_fields.specs.Reading.{◌>>=◌}
 use Rattle.pv_page.specs.Names.{Name}
 use Rattle.pv_frame.specs.Content.{Content}
-use Rattle.pv_account.specs.Profile.{Profile}
 use Rattle.pv_edits.specs.declared.record.Record.{Record}
 use Rattle.pv_edits.specs.Edits.{frame_at, account_at}
 

@@ -14,6 +14,7 @@
 mod base;
 mod down;
 mod law;
+mod owner;
 mod parts;
 mod record;
 mod room;
@@ -24,6 +25,7 @@ mod wish;
 pub use base::Base;
 pub use down::{BLANK_TAG, DownRecord};
 pub use law::no_record_begins_another;
+pub use owner::Lot;
 pub use record::Record;
 pub use room::{MAX_ACCOUNTS, MAX_LEASES};
 pub use subject::Subject;
