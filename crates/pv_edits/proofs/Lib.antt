@@ -1,4 +1,5 @@
 pub mod CallerLemmas
 mod Counting
-mod OneSpelling
+mod Facts
 mod LastIndex
+mod OneSpelling

@@ -12,7 +12,7 @@ use Rattle.pv_post.specs.Spelling.{IsItem, item_tag, item_body, item_bytes, item
 use Rattle.pv_post.specs.declared.item.Item.{Item}
 use Rattle.pv_post.specs.declared.item.Item.TheVariants.{Charge, Reply, Mail}
 use Rattle.pv_post.specs.declared.fields.TheConstants.{MAX_FIELDS}
-use Rattle.pv_post.specs.declared.filled.TheConstants.{FIELD_BYTES}
+use Rattle.pv_post.specs.declared.filled.TheConstants.{FILLED_BYTES}
 use Rattle.pv_post.specs.declared.mail.TheConstants.{TEXT_CELLS}
 use Rattle.pv_post.proofs.Filling.{IsBytes-filled, IsBytes-text}
 
@@ -20,7 +20,7 @@ use Rattle.pv_post.proofs.Filling.{IsBytes-filled, IsBytes-text}
 Reads-filled : Reads IsFilled filled_bytes filled_at
 unfolding filled_at
 Reads-filled =
-    let reads = Reads-passing (list_all is_field_byte) (Reads-text 0 FIELD_BYTES (lit< tt)) in
+    let reads = Reads-passing (list_all is_field_byte) (Reads-text 0 FILLED_BYTES (lit< tt)) in
     record {
       found = λ bytes text rest fits e. let f = reads.found bytes text rest fits e in (record { fits = f.0.0.1.1; bytes = f.0.1 }, f.1);
       again = λ text rest ends has. reads.again text rest ends ((IsBytes-filled text has.bytes, (omega arith, has.fits)), has.bytes);
