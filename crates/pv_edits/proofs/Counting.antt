@@ -19,7 +19,8 @@ count_from-push start after records edit =
     ap (count_from start after) (reverse-append records (edit ∷ []))
     ∙ ap (λ before. after before (count_from start after (reverse records)) edit) (reverse-reverse records)
 
-pub frame_count-push : (records : List Record) (edit : Record) → frame_count (records ++ edit ∷ []) ≡ frames_after records (frame_count records) edit
+pub frame_count-push : (records : List Record) (edit : Record)
+    → frame_count (records ++ edit ∷ []) ≡ frames_after records (frame_count records) edit
 unfolding frame_count
 frame_count-push records edit = count_from-push 0 frames_after records edit
 
@@ -28,6 +29,7 @@ pub account_count-push : (records : List Record) (edit : Record)
 unfolding account_count
 account_count-push records edit = count_from-push 1 accounts_after records edit
 
-pub lease_count-push : (records : List Record) (edit : Record) → lease_count (records ++ edit ∷ []) ≡ leases_after records (lease_count records) edit
+pub lease_count-push : (records : List Record) (edit : Record)
+    → lease_count (records ++ edit ∷ []) ≡ leases_after records (lease_count records) edit
 unfolding lease_count
 lease_count-push records edit = count_from-push 0 leases_after records edit

@@ -5,7 +5,8 @@ use Rattle.pv_edits.specs.Edits.{last_index}
 
 module _ (test : Record → Bool) where
   -- no record passes
-  pub last_index-none : (records : List Record) → ((k : ℕ) (d : Record) → k < length records → test (get_or records k d) ≡ false) → last_index test records ≡ None
+  pub last_index-none : (records : List Record) → ((k : ℕ) (d : Record) → k < length records → test (get_or records k d) ≡ false)
+      → last_index test records ≡ None
   last_index-none [] fails = refl
   last_index-none (x ∷ xs) fails = rw (last_index-none xs (λ k d within. fails (suc k) d (omega arith)), fails 0 x (omega arith)) refl
 

@@ -59,8 +59,10 @@ impl Base {
 
     /// Adds a record, with its place in the edit list. There is room for it.
     pub fn absorb(&mut self, rec: &Record, place: u64)
-        requires fits { (records : List Record) (places : List ℕ) → IsBaseOf self.old records places → length records < self.old.limits.records }
-        requires room { (records : List Record) (places : List ℕ) → IsBaseOf self.old records places → IsTrue (has_room self.old.limits records rec.now) }
+        requires fits { (records : List Record) (places : List ℕ) → IsBaseOf self.old records places →
+            length records < self.old.limits.records }
+        requires room { (records : List Record) (places : List ℕ) → IsBaseOf self.old records places →
+            IsTrue (has_room self.old.limits records rec.now) }
         ensures absorbed { (records : List Record) (places : List ℕ) → IsBaseOf self.old records places →
             IsBaseOf self.new (records ++ rec.now ∷ []) (places ++ place ∷ []) }
         ensures limits { self.new.limits ≡ self.old.limits }

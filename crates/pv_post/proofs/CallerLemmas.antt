@@ -54,11 +54,28 @@ Reads-message : Reads IsMessage message_bytes message_at
 unfolding message_at message_bytes
 Reads-message =
     Reads-map _
-    (Reads-account & Reads-account & Reads-at_most LAST_MOMENT (lit< tt) Reads-four & Reads-passing (list_all is_text_cell) (Reads-run TEXT_CELLS))
+    (Reads-account & Reads-account & Reads-at_most LAST_MOMENT (lit< tt) Reads-four & Reads-passing (list_all is_text_cell)
+    (Reads-run TEXT_CELLS))
     (record {
       has = λ x h. record { sender = h.0; to = h.1.0; moment = h.1.1.0; size = h.1.1.1.0.0; text = h.1.1.1.1 };
       spell = λ x. refl;
-      part = λ m h. ((m.sender, (m.to, (m.moment, m.text))), (h.sender, (h.to, (h.moment, ((h.size, IsBytes-text m.text h.text), h.text)))), refl);
+      part = λ m h. (
+        (m.sender, (m.to, (m.moment, m.text))),
+        (
+          h.sender,
+          (
+            h.to,
+            (
+              h.moment,
+              (
+                (h.size, IsBytes-text m.text h.text),
+                h.text,
+              ),
+            ),
+          ),
+        ),
+        refl,
+      );
     })
 
 -- what is found after each tag

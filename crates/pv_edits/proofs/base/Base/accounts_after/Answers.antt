@@ -9,7 +9,8 @@ pub overflow_add-result : goal.overflow_add-result
 overflow_add-result c =
     let records = c.args.self.now.records.items in
     let few : account_count records < MAX_ACCOUNTS =
-    below (has_editor records c.in-Account.editor) _ (account_count records) MAX_ACCOUNTS (rw (c.in-Account.is, ← c.account.view_is) at c.requires) (sym c.has_account.ensures ∙ c.if-has_account.false) in
+    below (has_editor records c.in-Account.editor) _ (account_count records) MAX_ACCOUNTS (rw (c.in-Account.is, ← c.account.view_is)
+    at c.requires) (sym c.has_account.ensures ∙ c.if-has_account.false) in
     omega (arith, few, c.args.self.now.accounts_counted)
 
 pub returns-then-has_account : goal.returns-then-has_account

@@ -8,7 +8,12 @@ pub returns-else-has_editor : goal.returns-else-has_editor
 returns-else-has_editor c = rw (c.in-Put.is, sym c.has_editor.ensures ∙ c.if-has_editor.false) c.if-has_editor.false
 
 pub returns-then-has_editor-2 : goal.returns-then-has_editor-2
-returns-then-has_editor-2 c = rw (c.in-Account.is, ← c.account.view_is, sym c.has_editor-in-Account.ensures ∙ c.if-has_editor-2.true) c.account_fits.ensures
+returns-then-has_editor-2 c = rw (
+  c.in-Account.is,
+  ← c.account.view_is,
+  sym c.has_editor-in-Account.ensures ∙
+      c.if-has_editor-2.true,
+) c.account_fits.ensures
 
 pub returns-else-has_editor-2 : goal.returns-else-has_editor-2
 returns-else-has_editor-2 c = rw (c.in-Account.is, sym c.has_editor-in-Account.ensures ∙ c.if-has_editor-2.false) c.if-has_editor-2.false

@@ -8,7 +8,8 @@ pub overflow_add-result : goal.overflow_add-result
 overflow_add-result c =
     let records = c.args.self.now.records.items in
     let few : frame_count records < c.args.self.now.limits.frames =
-    below (has_editor records c.in-Put.editor) _ (frame_count records) c.args.self.now.limits.frames (rw c.in-Put.is at c.requires) (sym c.has_frame.ensures ∙ c.if-has_frame.false) in
+    below (has_editor records c.in-Put.editor) _ (frame_count records) c.args.self.now.limits.frames (rw c.in-Put.is at c.requires)
+    (sym c.has_frame.ensures ∙ c.if-has_frame.false) in
     omega (arith, few, c.args.self.now.frames_counted)
 
 pub returns-then-has_frame : goal.returns-then-has_frame

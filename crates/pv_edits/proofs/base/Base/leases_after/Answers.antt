@@ -9,7 +9,8 @@ pub overflow_add-result : goal.overflow_add-result
 overflow_add-result c =
     let records = c.args.self.now.records.items in
     let few : lease_count records < MAX_LEASES =
-    below (has_editor records c.in-Lease.editor) _ (lease_count records) MAX_LEASES (rw c.in-Lease.is at c.requires) (sym c.has_lease.ensures ∙ c.if-has_lease.false) in
+    below (has_editor records c.in-Lease.editor) _ (lease_count records) MAX_LEASES (rw c.in-Lease.is at c.requires) (sym
+    c.has_lease.ensures ∙ c.if-has_lease.false) in
     omega (arith, few, c.args.self.now.leases_counted)
 
 pub returns-then-has_lease : goal.returns-then-has_lease
