@@ -59,7 +59,8 @@ Ascends last [] = Unit {0}
 Ascends last (x ∷ xs) = (last ≤ x) × Ascends x xs
 
 -- the same by index
-ascends : (last : ℕ) (numbers : List ℕ) → ((i : ℕ) → i < length numbers → get_or (last ∷ numbers) i 0 ≤ get_or numbers i 0) → Ascends last numbers
+ascends : (last : ℕ) (numbers : List ℕ) → ((i : ℕ) → i < length numbers → get_or (last ∷ numbers) i 0 ≤ get_or numbers i 0)
+    → Ascends last numbers
 ascends last [] each = tt
 ascends last (x ∷ xs) each = (each 0 (omega arith), ascends x xs (λ i within. each (suc i) (omega arith)))
 

@@ -1,5 +1,6 @@
-ghost use Rattle.std.specs.Prelude.{◌≡◌, ◌<◌, ◌≤◌, ◌↔◌, ◌⊎◌, [], length, take, flat_map, Contains, IsNone, IfOk, IfSome, IsTrue};
+ghost use Rattle.std.specs.Prelude.{◌≡◌, ◌==◌, ◌<◌, ◌≤◌, ◌↔◌, ◌⊎◌, [], length, take, flat_map, Contains, IsNone, IfOk, IfSome, IsTrue};
 ghost use Rattle.std.specs.Int.{w16, to_be_bytes};
+ghost use Rattle.std.specs.List.{list_any};
 ghost use Rattle.std.specs.List.Sorted.{IsPermutation, IsNonDecreasing};
 ghost use Rattle.pv_fields.specs.Out.{Puts};
 ghost use Rattle.pv_fields.specs.Padded.{IsPadded};
@@ -77,7 +78,8 @@ impl<const N: usize> Groups<N> {
 
     /// Whether this group is one of them.
     pub fn has(&self, group: u16) -> bool
-        ensures { IsTrue result ↔ Contains self.now group }
+        ensures found { IsTrue result ↔ Contains self.now group }
+        ensures value { result ≡ list_any (λ other. other == group) self.now }
     {
         self.as_slice().contains(&group)
     }

@@ -59,7 +59,8 @@ finds (suc (suc (suc (suc (suc zero))))) = finds_case Taken 5 (at_end Reads-take
 finds (suc (suc (suc (suc (suc (suc other)))))) = finds_none (suc (suc (suc (suc (suc (suc other))))))
 
 -- each record is found after its tag
-again : (edit : Record) (rest : List ℕ) → rest ≡ [] → IsRecord edit → record_after (record_tag edit) (record_body edit ++ rest) ≡ Some (edit, rest)
+again : (edit : Record) (rest : List ℕ) → rest ≡ [] → IsRecord edit
+    → record_after (record_tag edit) (record_body edit ++ rest) ≡ Some (edit, rest)
 unfolding put_at drop_at account_edit_at lease_at put_bytes drop_bytes account_edit_bytes lease_bytes
 again (Put editor q name frame) rest ends has =
     case_again (λ x. Put x.0 x.1.0 x.1.1.0 x.1.1.1) (Reads-account & Reads-four & Reads-name & Reads-frame)

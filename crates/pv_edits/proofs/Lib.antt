@@ -1,2 +1,5 @@
 pub mod CallerLemmas
+mod Counting
+mod Facts
+mod LastIndex
 mod OneSpelling

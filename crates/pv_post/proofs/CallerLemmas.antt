@@ -12,7 +12,7 @@ use Rattle.pv_post.specs.Spelling.{IsItem, item_tag, item_body, item_bytes, item
 use Rattle.pv_post.specs.declared.item.Item.{Item}
 use Rattle.pv_post.specs.declared.item.Item.TheVariants.{Charge, Reply, Mail}
 use Rattle.pv_post.specs.declared.fields.TheConstants.{MAX_FIELDS}
-use Rattle.pv_post.specs.declared.filled.TheConstants.{FIELD_BYTES}
+use Rattle.pv_post.specs.declared.filled.TheConstants.{FILLED_BYTES}
 use Rattle.pv_post.specs.declared.mail.TheConstants.{TEXT_CELLS}
 use Rattle.pv_post.proofs.Filling.{IsBytes-filled, IsBytes-text}
 
@@ -20,7 +20,7 @@ use Rattle.pv_post.proofs.Filling.{IsBytes-filled, IsBytes-text}
 Reads-filled : Reads IsFilled filled_bytes filled_at
 unfolding filled_at
 Reads-filled =
-    let reads = Reads-passing (list_all is_field_byte) (Reads-text 0 FIELD_BYTES (lit< tt)) in
+    let reads = Reads-passing (list_all is_field_byte) (Reads-text 0 FILLED_BYTES (lit< tt)) in
     record {
       found = λ bytes text rest fits e. let f = reads.found bytes text rest fits e in (record { fits = f.0.0.1.1; bytes = f.0.1 }, f.1);
       again = λ text rest ends has. reads.again text rest ends ((IsBytes-filled text has.bytes, (omega arith, has.fits)), has.bytes);
@@ -54,11 +54,28 @@ Reads-message : Reads IsMessage message_bytes message_at
 unfolding message_at message_bytes
 Reads-message =
     Reads-map _
-    (Reads-account & Reads-account & Reads-at_most LAST_MOMENT (lit< tt) Reads-four & Reads-passing (list_all is_text_cell) (Reads-run TEXT_CELLS))
+    (Reads-account & Reads-account & Reads-at_most LAST_MOMENT (lit< tt) Reads-four & Reads-passing (list_all is_text_cell)
+    (Reads-run TEXT_CELLS))
     (record {
       has = λ x h. record { sender = h.0; to = h.1.0; moment = h.1.1.0; size = h.1.1.1.0.0; text = h.1.1.1.1 };
       spell = λ x. refl;
-      part = λ m h. ((m.sender, (m.to, (m.moment, m.text))), (h.sender, (h.to, (h.moment, ((h.size, IsBytes-text m.text h.text), h.text)))), refl);
+      part = λ m h. (
+        (m.sender, (m.to, (m.moment, m.text))),
+        (
+          h.sender,
+          (
+            h.to,
+            (
+              h.moment,
+              (
+                (h.size, IsBytes-text m.text h.text),
+                h.text,
+              ),
+            ),
+          ),
+        ),
+        refl,
+      );
     })
 
 -- what is found after each tag

@@ -1,19 +1,19 @@
 -- Worked examples, computed from the definitions: each constant at the last value that fits, and the next.
-use Rattle.std.proofs.Common.{◌≡◌, ℕ, suc, ◌+◌, true, false, List, ◌∷◌, [], ◌++◌, length, replicate, refl}
+use Rattle.std.proofs.Common.{◌≡◌, true, false, ◌∷◌, [], ◌++◌, replicate, refl}
 use Rattle.std.specs.Prelude.{codes, Some, None}
 use Rattle.pv_fields.specs.Reading.{times}
 use Rattle.pv_post.specs.Item.{is_text_cell, is_field_byte, filled_at, fields_bytes, fields_at, Response, response_bytes, Message, message_bytes}
 use Rattle.pv_post.specs.Spelling.{item_bytes}
 use Rattle.pv_post.specs.declared.item.Item.TheVariants.{Reply, Mail}
 use Rattle.pv_post.specs.declared.fields.TheConstants.{MAX_FIELDS}
-use Rattle.pv_post.specs.declared.filled.TheConstants.{FIELD_BYTES}
+use Rattle.pv_post.specs.declared.filled.TheConstants.{FILLED_BYTES}
 use Rattle.pv_post.specs.declared.mail.TheConstants.{TEXT_CELLS}
 
 -- a frame has at most eight fields of forty bytes, and a letter six rows of forty cells
 pub fields-of_a_frame : MAX_FIELDS ≡ 8
 fields-of_a_frame = refl
 
-pub bytes-of_a_field : FIELD_BYTES ≡ 40
+pub bytes-of_a_field : FILLED_BYTES ≡ 40
 bytes-of_a_field = refl
 
 pub cells-of_a_letter : TEXT_CELLS ≡ 240

@@ -1,5 +1,5 @@
 -- What is known of the bytes of filled fields.
-use Rattle.std.proofs.Common.{◌≡◌, inl, inr, ℕ, ◌<◌, ◌≤◌, List, ◌++◌, Bool, true, leb, length, get_or, take, drop, replicate, refl, sym, ◌∙◌, arith}
+use Rattle.std.proofs.Common.{◌≡◌, inl, inr, ℕ, ◌<◌, ◌≤◌, List, ◌++◌, Bool, true, leb, length, get_or, drop, replicate, refl, sym, ◌∙◌, arith}
 use Rattle.std.specs.List.{list_all}
 use Rattle.std.proofs.lemmas.Bool.{and_parts, cases_lt, false≢true, leb-true, true_from_ne_false}
 use Rattle.std.proofs.lemmas.List.{take_at, drop-replicate, get_or_past}
@@ -8,7 +8,7 @@ use Rattle.pv_fields.specs.Padded.{IsPadded}
 use Rattle.pv_fields.specs.Reading.{IsBytes}
 use Rattle.pv_fields.proofs.CallerLemmas.{IsPadded-padded_list}
 use Rattle.pv_post.specs.Item.{is_text_cell, is_field_byte, IsFilled, IsFilledInside}
-use Rattle.pv_post.specs.declared.filled.TheConstants.{FIELD_BYTES}
+use Rattle.pv_post.specs.declared.filled.TheConstants.{FILLED_BYTES}
 use Rattle.pv_post.specs.declared.mail.TheConstants.{FIRST_CELL, LAST_CELL}
 
 -- what can be shown is a byte
@@ -43,8 +43,8 @@ IsPadded-written filler size items fits = rw (drop-replicate (length items) size
 
 -- a text that was written over zeros is a filled field inside
 pub IsFilledInside-written : (text : List ℕ) → IsFilled text
-    → IsFilledInside (length text) (text ++ drop (length text) (replicate FIELD_BYTES 0))
+    → IsFilledInside (length text) (text ++ drop (length text) (replicate FILLED_BYTES 0))
 IsFilledInside-written text filled = record {
-  padded = IsPadded-written 0 FIELD_BYTES text filled.fits;
-  filled = rw (take_at text (drop (length text) (replicate FIELD_BYTES 0)) (length text) refl) filled;
+  padded = IsPadded-written 0 FILLED_BYTES text filled.fits;
+  filled = rw (take_at text (drop (length text) (replicate FILLED_BYTES 0)) (length text) refl) filled;
 }

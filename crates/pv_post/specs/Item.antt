@@ -1,5 +1,5 @@
 -- What callers key into frames and letters, its spelling in bytes, and what is read as such.
-use Rattle.std.specs.Prelude.{◌≡◌, ℕ, ◌≤◌, Bool, true, false, not, ◌&&◌, ◌||◌, ◌==◌, nat_le, List, [], ◌∷◌, ◌++◌, length, take, flat_map}
+use Rattle.std.specs.Prelude.{◌≡◌, ℕ, ◌≤◌, Bool, true, not, ◌&&◌, ◌||◌, ◌==◌, nat_le, List, [], ◌∷◌, ◌++◌, length, take, flat_map}
 use Rattle.std.specs.Int.{w32, to_be_bytes}
 use Rattle.std.specs.List.{All, list_all}
 use Rattle.pv_fields.specs.Padded.{IsPadded}
@@ -8,7 +8,7 @@ use Rattle.pv_page.specs.Names.{Name, IsAccount, IsName}
 use Rattle.pv_page.specs.Spelling.{account_bytes, account_at, name_bytes, name_at}
 use Rattle.pv_charge.specs.declared.line.TheConstants.{LAST_MOMENT}
 use Rattle.pv_post.specs.declared.fields.TheConstants.{MAX_FIELDS}
-use Rattle.pv_post.specs.declared.filled.TheConstants.{FIELD_BYTES}
+use Rattle.pv_post.specs.declared.filled.TheConstants.{FILLED_BYTES}
 use Rattle.pv_post.specs.declared.mail.TheConstants.{FIRST_CELL, LAST_CELL, TEXT_CELLS}
 
 -- ---- a filled field
@@ -23,12 +23,12 @@ is_field_byte byte = is_text_cell byte && not (byte == 42 || byte == 35 || byte 
 
 -- at most 40 bytes that some field takes
 pub record IsFilled (text : List ℕ) : Type 0 where
-  pub fits : length text ≤ FIELD_BYTES
+  pub fits : length text ≤ FILLED_BYTES
   pub bytes : list_all is_field_byte text ≡ true
 
 -- the first `count` bytes are of a filled field, and the others are 0
 pub record IsFilledInside (count : ℕ) (bytes : List ℕ) : Type 0 where
-  pub padded : IsPadded 0 FIELD_BYTES count bytes
+  pub padded : IsPadded 0 FILLED_BYTES count bytes
   pub filled : IsFilled (take count bytes)
 
 -- how a filled field is spelled: its length, and its bytes
@@ -37,7 +37,7 @@ filled_bytes text = length text ∷ text
 
 -- the filled field that bytes begin with
 unfoldable pub filled_at : Parser (List ℕ)
-filled_at = passing (list_all is_field_byte) (text_at 0 FIELD_BYTES)
+filled_at = passing (list_all is_field_byte) (text_at 0 FILLED_BYTES)
 
 -- ---- the fields of a frame
 

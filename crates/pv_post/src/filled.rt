@@ -9,20 +9,20 @@ use pv_fields::{In, NoRoom, NoSpelling, Out, Short};
 use std::marker::Model;
 
 /// How many bytes a field takes at most.
-pub const FIELD_BYTES: usize = 40;
+pub const FILLED_BYTES: usize = 40;
 
-/// What was keyed into a field of a frame: at most [`FIELD_BYTES`] bytes that some field takes.
+/// What was keyed into a field of a frame: at most [`FILLED_BYTES`] bytes that some field takes.
 #[derive(Clone, Copy, Debug, PartialEq, Eq)]
 pub struct Filled {
     length: u8,
-    bytes: [u8; FIELD_BYTES],
+    bytes: [u8; FILLED_BYTES],
 }
 
 impl Model for Filled {
     ghost use Rattle.std.specs.Prelude.{ℕ, List, length as length_of, take};
     ghost use Rattle.pv_fields.specs.Padded.{padded_list};
     ghost use Rattle.pv_fields.proofs.CallerLemmas.{length-items, padded_list-take};
-    ghost use Rattle.pv_post.specs.declared.filled.TheConstants.{FIELD_BYTES};
+    ghost use Rattle.pv_post.specs.declared.filled.TheConstants.{FILLED_BYTES};
     ghost use Rattle.pv_post.specs.Item.{IsFilledInside};
 
     ghost Value = { List ℕ };
@@ -31,11 +31,11 @@ impl Model for Filled {
 
     ghost invariant = { λ f. IsFilledInside f.length f.bytes };
 
-    ghost inverse = { λ text. record { length = length_of text; bytes = padded_list 0 FIELD_BYTES text } };
+    ghost inverse = { λ text. record { length = length_of text; bytes = padded_list 0 FILLED_BYTES text } };
 
     ghost inverse_ok = { λ f inside i. record {
-      length = length-items 0 FIELD_BYTES f.length f.bytes inside.padded i;
-      bytes = padded_list-take 0 FIELD_BYTES f.length f.bytes inside.padded i;
+      length = length-items 0 FILLED_BYTES f.length f.bytes inside.padded i;
+      bytes = padded_list-take 0 FILLED_BYTES f.length f.bytes inside.padded i;
     } };
 }
 
@@ -46,20 +46,20 @@ impl Filled {
     {
         Filled {
             length: 0,
-            bytes: [0; FIELD_BYTES],
+            bytes: [0; FILLED_BYTES],
         }
     }
 
-    /// A field that was filled by this text. `None` exactly when the text has more than [`FIELD_BYTES`]
+    /// A field that was filled by this text. `None` exactly when the text has more than [`FILLED_BYTES`]
     /// bytes, or one that no field takes.
     pub fn of_text(text: &[u8]) -> Option<Filled>
         ensures found { IsSome result ↔ IsFilled text.now }
         ensures value { IfSome result (λ filled. filled ≡ text.now) }
     {
-        if text.len() > FIELD_BYTES || !are_field_bytes(text) {
+        if text.len() > FILLED_BYTES || !are_field_bytes(text) {
             return None;
         }
-        let mut bytes = [0; FIELD_BYTES];
+        let mut bytes = [0; FILLED_BYTES];
         bytes[..text.len()].copy_from_slice(text);
         Some(Filled {
             length: text.len() as u8,
@@ -101,8 +101,8 @@ impl Filled {
         ensures gives { Gives same result (filled_at from.old) from.new }
         ensures filled { IfOk result IsFilled }
     {
-        let length = from.u8_within(0, FIELD_BYTES as u8)?;
-        let mut bytes = [0; FIELD_BYTES];
+        let length = from.u8_within(0, FILLED_BYTES as u8)?;
+        let mut bytes = [0; FILLED_BYTES];
         let text = &mut bytes[..usize::from(length)];
         from.run(text)?;
         if are_field_bytes(text) {

@@ -27,7 +27,7 @@ mod mail;
 mod reply;
 
 pub use fields::{Fields, MAX_FIELDS};
-pub use filled::{FIELD_BYTES, Filled};
+pub use filled::{FILLED_BYTES, Filled};
 pub use item::Item;
 pub use law::no_item_begins_another;
 pub use mail::{FIRST_CELL, LAST_CELL, Mail, TEXT_CELLS};

@@ -9,7 +9,12 @@ returns-clause-sorted g c =
     let sorted = c.sort_unstable.new.self in
     let count = length c.args.list.now in
     let same : take count (sorted ++ drop count (replicate g.row.N 0)) ≡ sorted =
-    take_at sorted (drop count (replicate g.row.N 0)) count (omega (arith, c.sort_unstable.ensures.len, ap length c.copy_from_slice.ensures.after)) in
+    take_at sorted (drop count (replicate g.row.N 0)) count (omega (
+      arith,
+      c.sort_unstable.ensures.len,
+      ap length
+          c.copy_from_slice.ensures.after,
+    )) in
     rw same (IsNonDecreasingBy-from_sort (λ x. x) sorted c.sort_unstable.ensures.sorted)
 
 -- the others hold 0
@@ -29,5 +34,6 @@ returns-clause-padded g c =
         c.requires,
       );
       fits = c.requires;
-      rest = drop_at sorted (drop count (replicate g.row.N 0)) count (omega (arith, c.sort_unstable.ensures.len)) ∙ drop-replicate count g.row.N 0;
+      rest = drop_at sorted (drop count (replicate g.row.N 0)) count (omega (arith, c.sort_unstable.ensures.len)) ∙ drop-replicate
+          count g.row.N 0;
     }

@@ -22,7 +22,12 @@ loop-i-preserved g c =
     let number = c.in_ok-numbers.field-0 in
     let padded = c.loop-i.invariant.padded in
     record {
-      padded = IsPadded-set 0 g.row.N i c.loop-i.numbers padded number (omega (arith, c.requires, c.loop-i-test.true, c.from-i-end.ensures));
+      padded = IsPadded-set 0 g.row.N i c.loop-i.numbers padded number (omega (
+        arith,
+        c.requires,
+        c.loop-i-test.true,
+        c.from-i-end.ensures,
+      ));
       read = rw (take-set 0 g.row.N i c.loop-i.numbers padded number (omega (arith, c.requires, c.loop-i-test.true, c.from-i-end.ensures)))
           (times_more (number_at w16) (take i c.loop-i.numbers) c.args.count i c.loop-i.bytes number c.u16.new.self
           (times (number_at w16) c.args.count c.args.bytes.now) (omega (arith, c.loop-i-test.true, c.from-i-end.ensures))

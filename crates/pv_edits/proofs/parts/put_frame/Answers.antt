@@ -16,4 +16,5 @@ pub returns : goal.returns
 unfolding put_bytes
 returns c =
     rw (← c.frame.ensures.value) (
-    puts_then _ _ _ c.in_ok-put_editor.ensures (puts_then _ _ _ c.in_ok-put.ensures (puts_from _ _ _ c.encode.result c.encode.ensures.ok c.encode.ensures.refused.0)))
+    puts_then _ _ _ c.in_ok-put_editor.ensures (puts_then _ _ _ c.in_ok-put.ensures (puts_from _ _ _ c.encode.result
+    c.encode.ensures.ok c.encode.ensures.refused.0)))

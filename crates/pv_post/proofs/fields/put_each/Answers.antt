@@ -14,5 +14,6 @@ returns-in_err-put c =
 -- one field more is appended
 pub loop-filled-preserved : goal.loop-filled-preserved
 loop-filled-preserved c =
-    appends_more filled_bytes c.args.fields.now c.loop-filled.filled-index c.filled-item.result c.args.out.now c.loop-filled.out c.put.new.out
+    appends_more filled_bytes c.args.fields.now c.loop-filled.filled-index c.filled-item.result c.args.out.now c.loop-filled.out
+    c.put.new.out
     c.loop-filled-test.true c.filled-item.is c.loop-filled.invariant c.in_ok-put.ensures

@@ -11,7 +11,15 @@ invariant_of-result g c =
       padded = padded;
       groups = record {
         numbers = AllByRecursion-take _ (length c.args.list.now) c.in_order-numbers.result (search rules);
-        fits = omega (arith, length-take-le (length c.args.list.now) c.in_order-numbers.result (omega (arith, padded.len, padded.fits)), padded.fits);
+        fits = omega (
+          arith,
+          length-take-le (length c.args.list.now) c.in_order-numbers.result (omega (
+            arith,
+            padded.len,
+            padded.fits,
+          )),
+          padded.fits,
+        );
         rises = sym c.rise.ensures ∙ c.if-rise.true;
       };
     }

@@ -12,7 +12,11 @@ invariant_of-result g c =
       padded = padded;
       groups = record {
         numbers = AllByRecursion-take _ c.in_ok-count.count c.in_ok-numbers.numbers (search rules);
-        fits = omega (arith, length-take-le c.in_ok-count.count c.in_ok-numbers.numbers (omega (arith, padded.len, padded.fits)), padded.fits);
+        fits = omega (
+          arith,
+          length-take-le c.in_ok-count.count c.in_ok-numbers.numbers (omega (arith, padded.len, padded.fits)),
+          padded.fits,
+        );
         rises = ap (λ n. rises 0 (take n c.in_ok-numbers.numbers)) (sym c.from.ensures) ∙ sym c.rise.ensures ∙ c.if-rise.true;
       };
     }

@@ -32,6 +32,7 @@ returns-in-Some-clause-found c = c.in-Some.ensures.found
 pub returns-in-None-clause-missing : goal.returns-in-None-clause-missing
 returns-in-None-clause-missing c none down is same =
     let other : c.args.bytes.now ≡ BLANK_TAG ∷ [] → ⊥ = λ is.
-    let yes = (slice_eq-Decides Decides-eqb c.args.bytes.now c.as_slice.result.now c.eq.result c.eq.ensures).1 (is ∙ sym c.as_slice.ensures) in
+    let yes = (slice_eq-Decides Decides-eqb c.args.bytes.now c.as_slice.result.now c.eq.result c.eq.ensures).1 (is ∙ sym
+    c.as_slice.ensures) in
     absurd (false≢true (sym c.if-eq.false ∙ yes)) in
     nothing c.args.bytes.now (c.in-None.ensures.missing refl) other down is same

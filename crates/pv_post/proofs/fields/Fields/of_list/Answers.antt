@@ -1,4 +1,3 @@
-use Rattle.std.proofs.Common.{arith}
 use Rattle.pv_post.proofs.fields.Fields.of_list.Goals as goal
 
 pub invariant_of-result : goal.invariant_of-result

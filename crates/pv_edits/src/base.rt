@@ -1,0 +1,354 @@
+ghost use Rattle.std.specs.Prelude.{◌≡◌, ℕ, ◌+◌, ◌<◌, ◌≤◌, ◌↔◌, List, [], ◌∷◌, ◌++◌, ◌||◌, nat_lt, length, is_some, option_copied, option_map, IfOk, IfSome, IsTrue};
+ghost use Rattle.std.specs.Vec.{vec_capacity};
+ghost use Rattle.pv_edits.specs.declared.record.Record.{Record};
+ghost use Rattle.pv_edits.specs.OpenPages.{is_open};
+ghost use Rattle.pv_edits.specs.Room.{frame_count, frames_after, account_count, accounts_after, lease_count, leases_after, has_editor, has_room};
+ghost use Rattle.pv_edits.specs.Edits.{is_about, leases, last_index, frame_at, frame_in, account_at, account_in, last_of, number_in, operator_profile};
+
+use crate::owner::lot_of;
+use crate::record::Record;
+use crate::room::{MAX_ACCOUNTS, MAX_LEASES};
+use crate::subject::{Subject, is_about};
+use pv_account::{Account, Groups, digest};
+use pv_frame::Frame;
+use pv_outside::Limits;
+use pv_page::{AccountNo, FrameName, PageNo};
+use std::alloc::{AllocError, Global};
+
+/// The frames, the accounts, the leases and the editors' numbers of a list of records. All room is
+/// reserved when it is opened.
+#[derive(Drop)]
+pub struct Base {
+    records: Vec<Record>,
+    places: Vec<u64>,
+    operator: Account,
+    limits: Limits,
+    frames: u32,
+    accounts: u32,
+    leased: u32,
+    ghost paired: { length places.items ≡ length records.items },
+    ghost reserved: { (limits.records ≤ vec_capacity records) × (limits.records ≤ vec_capacity places) },
+    ghost opening: { operator ≡ operator_profile },
+    ghost frames_counted: { frames ≡ frame_count records.items },
+    ghost accounts_counted: { accounts ≡ account_count records.items },
+    ghost leases_counted: { leased ≡ lease_count records.items },
+}
+
+impl Base {
+    ghost use Rattle.pv_edits.specs.Owner.{owner_of};
+    ghost use Rattle.pv_edits.specs.OpenPages.{open_frame_at};
+    ghost use Rattle.pv_edits.specs.Standing.{IsBaseOf};
+
+    /// The base of no records. It has the operator and nothing else. Room for `limits.records` records
+    /// is reserved.
+    pub fn open(alloc: Global, limits: Limits) -> Result<Base, AllocError>
+        ensures empty { IfOk result (λ base. IsBaseOf base [] []) }
+        ensures limits { IfOk result (λ base. base.limits ≡ limits) }
+    {
+        let room = limits.records as usize;
+        Ok(Base {
+            records: Vec::with_capacity(alloc, room)?,
+            places: Vec::with_capacity(alloc, room)?,
+            operator: operator(),
+            limits,
+            frames: 0,
+            accounts: 1,
+            leased: 0,
+        })
+    }
+
+    /// Adds a record, with its place in the edit list. There is room for it.
+    pub fn absorb(&mut self, rec: &Record, place: u64)
+        requires fits { (records : List Record) (places : List ℕ) → IsBaseOf self.old records places →
+            length records < self.old.limits.records }
+        requires room { (records : List Record) (places : List ℕ) → IsBaseOf self.old records places →
+            IsTrue (has_room self.old.limits records rec.now) }
+        ensures absorbed { (records : List Record) (places : List ℕ) → IsBaseOf self.old records places →
+            IsBaseOf self.new (records ++ rec.now ∷ []) (places ++ place ∷ []) }
+        ensures limits { self.new.limits ≡ self.old.limits }
+    {
+        let frames = self.frames_after(rec);
+        let accounts = self.accounts_after(rec);
+        let leased = self.leases_after(rec);
+        self.records.push_reserved(*rec);
+        self.places.push_reserved(place);
+        self.frames = frames;
+        self.accounts = accounts;
+        self.leased = leased;
+    }
+
+    /// The frame of a name. `None` exactly when it has none.
+    pub fn get(&self, name: FrameName) -> Option<&Frame>
+        ensures { (records : List Record) (places : List ℕ) → IsBaseOf self.now records places →
+            option_copied result ≡ frame_at records name }
+    {
+        self.find_frame(name)
+    }
+
+    /// The frame of a name, if it is open to the account: if its group is 0 or one of the account's.
+    /// `None` exactly when there is no such frame.
+    pub fn open_to(&self, account: &Account, name: FrameName) -> Option<&Frame>
+        ensures { (records : List Record) (places : List ℕ) → IsBaseOf self.now records places →
+            option_copied result ≡ open_frame_at records account.now.groups name }
+    {
+        let frame = self.find_frame(name)?;
+        if is_open(account, frame) {
+            Some(frame)
+        } else {
+            None
+        }
+    }
+
+    /// The account of a number. `None` exactly when there is none.
+    pub fn account(&self, number: AccountNo) -> Option<&Account>
+        ensures { (records : List Record) (places : List ℕ) → IsBaseOf self.now records places →
+            option_copied result ≡ account_at records number }
+    {
+        self.find_account(number)
+    }
+
+    /// Whom a page belongs to: the account of the longest leased root whose digits are a prefix of the
+    /// page's, by the last lease of that root, or the operator.
+    pub fn owner(&self, page: PageNo) -> AccountNo
+        ensures { (records : List Record) (places : List ℕ) → IsBaseOf self.now records places →
+            result ≡ owner_of records page }
+    {
+        match lot_of(&self.records, page) {
+            Some(lot) => lot.account,
+            None => self.operator.number,
+        }
+    }
+
+    /// Whether there is room for a record: its editor is an account, if it has one, and what it adds is
+    /// within the limits.
+    pub fn has_room(&self, rec: &Record) -> bool
+        ensures { (records : List Record) (places : List ℕ) → IsBaseOf self.now records places →
+            result ≡ has_room self.now.limits records rec.now }
+    {
+        self.fits(rec)
+    }
+
+    /// An editor's last number, and the place of his last record. `None` exactly when he has none.
+    pub fn last(&self, editor: AccountNo) -> Option<(u32, u64)>
+        ensures { (records : List Record) (places : List ℕ) → IsBaseOf self.now records places →
+            result ≡ last_of records places editor }
+    {
+        let index = self.last_about(Subject::Editor(editor))?;
+        let q = number_in(&self.records[index])?;
+        Some((q, self.places[index]))
+    }
+
+    /// The frame of a name.
+    fn find_frame(&self, name: FrameName) -> Option<&Frame>
+        ensures { option_copied result ≡ frame_at self.now.records.items name }
+    {
+        let index = self.last_about(Subject::Name(name))?;
+        frame_in(&self.records[index])
+    }
+
+    /// The account of a number.
+    fn find_account(&self, number: AccountNo) -> Option<&Account>
+        ensures { option_copied result ≡ account_at self.now.records.items number }
+    {
+        match self.last_about(Subject::Account(number)) {
+            Some(index) => account_in(&self.records[index]),
+            None if number.number() == 0 => Some(&self.operator),
+            None => None,
+        }
+    }
+
+    /// Whether the name has a frame.
+    fn has_frame(&self, name: FrameName) -> bool
+        ensures { result ≡ is_some (frame_at self.now.records.items name) }
+    {
+        self.find_frame(name).is_some()
+    }
+
+    /// Whether there is the account.
+    fn has_account(&self, number: AccountNo) -> bool
+        ensures { result ≡ is_some (account_at self.now.records.items number) }
+    {
+        self.find_account(number).is_some()
+    }
+
+    /// Whether the root is leased.
+    fn has_lease(&self, root: PageNo) -> bool
+        ensures { result ≡ is_some (last_index (leases root) self.now.records.items) }
+    {
+        self.last_about(Subject::Root(root)).is_some()
+    }
+
+    /// Whether the editor is an account.
+    fn has_editor(&self, editor: AccountNo) -> bool
+        ensures { result ≡ has_editor self.now.records.items editor }
+    {
+        self.has_account(editor)
+    }
+
+    /// Whether the name has a frame, or there may be one frame more.
+    fn frame_fits(&self, name: FrameName) -> bool
+        ensures { result ≡ (is_some (frame_at self.now.records.items name)
+            || nat_lt (frame_count self.now.records.items) self.now.limits.frames) }
+    {
+        self.has_frame(name) || self.frames < self.limits.frames
+    }
+
+    /// Whether there is the account, or there may be one more.
+    fn account_fits(&self, number: AccountNo) -> bool
+        ensures { result ≡ (is_some (account_at self.now.records.items number)
+            || nat_lt (account_count self.now.records.items) MAX_ACCOUNTS) }
+    {
+        self.has_account(number) || self.accounts < MAX_ACCOUNTS
+    }
+
+    /// Whether the root is leased, or there may be one leased root more.
+    fn lease_fits(&self, root: PageNo) -> bool
+        ensures { result ≡ (is_some (last_index (leases root) self.now.records.items)
+            || nat_lt (lease_count self.now.records.items) MAX_LEASES) }
+    {
+        self.has_lease(root) || self.leased < MAX_LEASES
+    }
+
+    /// Whether there is room for a record.
+    fn fits(&self, rec: &Record) -> bool
+        ensures { result ≡ has_room self.now.limits self.now.records.items rec.now }
+    {
+        match rec {
+            Record::Put { editor, name, .. } => self.has_editor(*editor) && self.frame_fits(*name),
+            Record::Drop { editor, .. } => self.has_editor(*editor),
+            Record::Account {
+                editor,
+                account,
+                ..
+            } => self.has_editor(*editor) && self.account_fits(account.number),
+            Record::Lease { editor, root, .. } => {
+                self.has_editor(*editor) && self.lease_fits(*root)
+            }
+            Record::Taken(_) => true,
+        }
+    }
+
+    /// How many names have a frame after this record.
+    fn frames_after(&self, rec: &Record) -> u32
+        requires { IsTrue (has_room self.now.limits self.now.records.items rec.now) }
+        ensures { result ≡ frames_after self.now.records.items self.now.frames rec.now }
+    {
+        match rec {
+            Record::Put { name, .. } => {
+                if self.has_frame(*name) {
+                    self.frames
+                } else {
+                    self.frames + 1
+                }
+            }
+            Record::Drop { name, .. } => {
+                if self.has_frame(*name) {
+                    self.frames.saturating_sub(1)
+                } else {
+                    self.frames
+                }
+            }
+            _ => self.frames,
+        }
+    }
+
+    /// How many accounts there are after this record.
+    fn accounts_after(&self, rec: &Record) -> u32
+        requires { IsTrue (has_room self.now.limits self.now.records.items rec.now) }
+        ensures { result ≡ accounts_after self.now.records.items self.now.accounts rec.now }
+    {
+        match rec {
+            Record::Account { account, .. } => {
+                if self.has_account(account.number) {
+                    self.accounts
+                } else {
+                    self.accounts + 1
+                }
+            }
+            _ => self.accounts,
+        }
+    }
+
+    /// How many roots are leased after this record.
+    fn leases_after(&self, rec: &Record) -> u32
+        requires { IsTrue (has_room self.now.limits self.now.records.items rec.now) }
+        ensures { result ≡ leases_after self.now.records.items self.now.leased rec.now }
+    {
+        match rec {
+            Record::Lease { root, .. } => {
+                if self.has_lease(*root) {
+                    self.leased
+                } else {
+                    self.leased + 1
+                }
+            }
+            _ => self.leased,
+        }
+    }
+
+    /// The index of the last record about this.
+    fn last_about(&self, subject: Subject) -> Option<usize>
+        ensures last { result ≡ last_index (is_about subject) self.now.records.items }
+        ensures within { IfSome result (λ index. index < length self.now.records.items) }
+    {
+        let index = self
+            .records
+            .iter()
+            .rposition(|edit| is_about(edit, subject))?;
+        Some(index)
+    }
+}
+
+/// Whether the frame's group is 0 or one of the account's.
+fn is_open(account: &Account, frame: &Frame) -> bool
+    ensures { result ≡ is_open account.now.groups frame.now }
+{
+    frame.group == 0 || account.groups.has(frame.group)
+}
+
+/// The frame that the record gives its name.
+fn frame_in(edit: &Record) -> Option<&Frame>
+    ensures { option_copied result ≡ frame_in edit.now }
+{
+    match edit {
+        Record::Put { frame, .. } => Some(frame.frame()),
+        _ => None,
+    }
+}
+
+/// The account that the record makes.
+fn account_in(edit: &Record) -> Option<&Account>
+    ensures { option_copied result ≡ account_in edit.now }
+{
+    match edit {
+        Record::Account { account, .. } => Some(account),
+        _ => None,
+    }
+}
+
+/// The number of the edit.
+fn number_in(edit: &Record) -> Option<u32>
+    ensures { result ≡ number_in edit.now }
+{
+    match edit {
+        Record::Put { q, .. } => Some(*q),
+        Record::Drop { q, .. } => Some(*q),
+        Record::Account { q, .. } => Some(*q),
+        Record::Lease { q, .. } => Some(*q),
+        Record::Taken(_) => None,
+    }
+}
+
+/// The operator, as he is at first: account 0000000000 with the password `0000`, at centre 0, in no
+/// group.
+fn operator() -> Account
+    ensures { result ≡ operator_profile }
+{
+    let number = AccountNo::of_number(0).unwrap();
+    Account {
+        number,
+        digest: digest(number, b"0000"),
+        home: 0,
+        groups: Groups::none(),
+    }
+}
