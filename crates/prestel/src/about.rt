@@ -36,7 +36,8 @@ impl About {
     /// What the words ask for. `None` if they are not one word that asks for the help or the version.
     pub fn asked(words: &[String]) -> Option<About>
         ensures help { (result ≡ Some About.Help) ↔ (map string_bytes words.now ≡ about_words About.Help) }
-        ensures version { (result ≡ Some About.Version) ↔ (map string_bytes words.now ≡ about_words About.Version) }
+        ensures version { (result ≡ Some About.Version) ↔ (map string_bytes words.now
+            ≡ about_words About.Version) }
     {
         match words {
             [word] => About::of_word(word),

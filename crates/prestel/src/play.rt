@@ -33,7 +33,7 @@ pub struct Played {
 }
 
 /// Reads a whole script, runs it on a network of one centre on which nothing has happened, and writes
-/// the transcript, by one write for each line.
+/// the transcript.
 pub fn play<S: Source, K: Sink>(
     alloc: Global,
     words: &[String],
@@ -53,9 +53,12 @@ pub fn play<S: Source, K: Sink>(
     ensures not_run { IsNotRun result.status → out.new ≡ out.old }
 
     // A fault of the outside comes only if its count rose.
-    ensures read_fault { result.status ≡ Status.ReadFault → Rose (S.read_faults script.old) (S.read_faults script.new) }
-    ensures write_fault { result.status ≡ Status.WriteFault → Rose (K.write_faults out.old) (K.write_faults out.new) }
-    ensures counted { (S.read_faults script.old ≤ S.read_faults script.new) × (K.write_faults out.old ≤ K.write_faults out.new) }
+    ensures read_fault { result.status ≡ Status.ReadFault
+        → Rose (S.read_faults script.old) (S.read_faults script.new) }
+    ensures write_fault { result.status ≡ Status.WriteFault
+        → Rose (K.write_faults out.old) (K.write_faults out.new) }
+    ensures counted { (S.read_faults script.old ≤ S.read_faults script.new)
+        × (K.write_faults out.old ≤ K.write_faults out.new) }
 
     // The network is there exactly when all was done.
     ensures network { IsSome result.network ↔ (result.status ≡ Status.Done) }
@@ -100,7 +103,8 @@ fn are_play_words(words: &[String]) -> bool
 /// Runs a script's text on a new network.
 fn run<K: Sink>(alloc: Global, text: &[u8], out: &mut K) -> Result<Network, RunEnd>
     requires { length text.now ≤ LONGEST_SCRIPT }
-    ensures ok { IfOk result (λ network. IsPlayed CENTRES first_world text.now network (K.written out.old) (K.written out.new)) }
+    ensures ok { IfOk result (λ network. IsPlayed CENTRES first_world text.now network (K.written out.old)
+        (K.written out.new)) }
     ensures err { IfErr result (IsRunEnd CENTRES first_world text.now
         (K.written out.old) (K.written out.new) (K.write_faults out.old) (K.write_faults out.new)) }
     ensures counted { K.write_faults out.old ≤ K.write_faults out.new }
@@ -126,7 +130,8 @@ fn run_lines<K: Sink>(
     requires short { length text.now ≤ LONGEST_SCRIPT }
     requires centres { length network.old.centres ≡ CENTRES }
     requires new { StandsFor network.old first_world }
-    ensures ok { OnOk result (IsPlayed CENTRES first_world text.now network.new (K.written out.old) (K.written out.new)) }
+    ensures ok { OnOk result (IsPlayed CENTRES first_world text.now network.new (K.written out.old)
+        (K.written out.new)) }
     ensures err { IfErr result (IsRunEnd CENTRES first_world text.now
         (K.written out.old) (K.written out.new) (K.write_faults out.old) (K.write_faults out.new)) }
     ensures counted { K.write_faults out.old ≤ K.write_faults out.new }
@@ -152,7 +157,8 @@ fn run_line<K: Sink>(
     out: &mut K,
 ) -> Result<(), RunEnd>
     requires { length network.old.centres ≡ CENTRES }
-    ensures ok { OnOk result (HasRun CENTRES line.now network.old network.new (K.written out.old) (K.written out.new)) }
+    ensures ok { OnOk result (HasRun CENTRES line.now network.old network.new (K.written out.old)
+        (K.written out.new)) }
     ensures err { IfErr result (IsLineEnd CENTRES line.now number network.old
         (K.written out.old) (K.written out.new) (K.write_faults out.old) (K.write_faults out.new)) }
     ensures counted { K.write_faults out.old ≤ K.write_faults out.new }
@@ -176,7 +182,8 @@ fn run_event<K: Sink>(
     out: &mut K,
 ) -> Result<(), AnswerEnd>
     requires { CanHappen network.old event.now }
-    ensures ok { OnOk result (HasAnswered (Do event.now) network.old network.new (K.written out.old) (K.written out.new)) }
+    ensures ok { OnOk result (HasAnswered (Do event.now) network.old network.new (K.written out.old)
+        (K.written out.new)) }
     ensures err { IfErr result (IsAnswerEnd (Do event.now) network.old
         (K.written out.old) (K.written out.new) (K.write_faults out.old) (K.write_faults out.new)) }
     ensures counted { K.write_faults out.old ≤ K.write_faults out.new }

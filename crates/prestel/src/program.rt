@@ -32,16 +32,19 @@ pub fn run_program<S: Source, W: Write + Drop>(
 
     // The words are refused exactly when they are none of those, and then nothing is read.
     ensures usage { (result ≡ Status.Usage)
-        ↔ (map string_bytes words.now ≢ play_words × ((about : About) → map string_bytes words.now ≢ about_words about)) }
+        ↔ (map string_bytes words.now ≢ play_words
+        × ((about : About) → map string_bytes words.now ≢ about_words about)) }
     ensures unread { result ≡ Status.Usage → script.new ≡ script.old }
 
     // Nothing is run, and nothing written, if the words, the reading or the length is at fault.
     ensures not_run { IsNotRun result → out.new ≡ out.old }
 
     // A fault of the outside comes only if its count rose.
-    ensures read_fault { result ≡ Status.ReadFault → Rose (S.read_faults script.old) (S.read_faults script.new) }
+    ensures read_fault { result ≡ Status.ReadFault
+        → Rose (S.read_faults script.old) (S.read_faults script.new) }
     ensures write_fault { result ≡ Status.WriteFault → Rose out.old.faults out.new.faults }
-    ensures counted { (S.read_faults script.old ≤ S.read_faults script.new) × (out.old.faults ≤ out.new.faults) }
+    ensures counted { (S.read_faults script.old ≤ S.read_faults script.new)
+        × (out.old.faults ≤ out.new.faults) }
 {
     match About::asked(words) {
         Some(about) => write_about(about, out),
@@ -85,9 +88,11 @@ fn play_out<S: Source, W: Write + Drop>(
     ensures not_run { IsNotRun result → out.new ≡ out.old }
 
     // A fault of the outside comes only if its count rose.
-    ensures read_fault { result ≡ Status.ReadFault → Rose (S.read_faults script.old) (S.read_faults script.new) }
+    ensures read_fault { result ≡ Status.ReadFault
+        → Rose (S.read_faults script.old) (S.read_faults script.new) }
     ensures write_fault { result ≡ Status.WriteFault → Rose out.old.faults out.new.faults }
-    ensures counted { (S.read_faults script.old ≤ S.read_faults script.new) × (out.old.faults ≤ out.new.faults) }
+    ensures counted { (S.read_faults script.old ≤ S.read_faults script.new)
+        × (out.old.faults ≤ out.new.faults) }
 {
     let status = play(alloc, words, script, out).status;
     match status {

@@ -35,7 +35,8 @@ fn fill<S: Source>(source: &mut S, into: &mut [u8]) -> Result<usize, ReadEnd>
     ensures read { (text : List ℕ)
         × HasRead (S.taken source.old) (S.taken source.new) (S.left source.old) (S.left source.new) text
         × MatchResult result
-        (λ len. (take len into.new ≡ text) × (length text ≡ len) × IsReadWhole text (S.left source.old) (S.ended source.new))
+        (λ len. (take len into.new ≡ text) × (length text ≡ len)
+        × IsReadWhole text (S.left source.old) (S.ended source.new))
         (IsReadEnd text (S.read_faults source.old) (S.read_faults source.new)) }
     ensures counted { S.read_faults source.old ≤ S.read_faults source.new }
 {
@@ -63,7 +64,8 @@ fn read_from<S: Source>(source: &mut S, into: &mut [u8], at: usize) -> Result<us
     ensures only_at_end { IfOk result (λ count. count ≡ 0 → IsAtEnd (S.left source.old)) }
 
     // After a failure nothing was read.
-    ensures unread { IfErr result (λ _. Keeps (S.taken source.old) (S.taken source.new) × Keeps (S.left source.old) (S.left source.new)) }
+    ensures unread { IfErr result (λ _. Keeps (S.taken source.old) (S.taken source.new)
+        × Keeps (S.left source.old) (S.left source.new)) }
     ensures failed { IfErr result (λ _. Rose (S.read_faults source.old) (S.read_faults source.new)) }
     ensures counted { S.read_faults source.old ≤ S.read_faults source.new }
 {

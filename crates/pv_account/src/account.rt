@@ -32,7 +32,8 @@ impl Model for Account {
 
     ghost view = { λ a. record { number = a.number; digest = a.digest; home = a.home; groups = a.groups } };
 
-    ghost invariant = { λ a. IsProfile (record { number = a.number; digest = a.digest; home = a.home; groups = a.groups }) };
+    ghost invariant = { λ a. IsProfile
+        (record { number = a.number; digest = a.digest; home = a.home; groups = a.groups }) };
 
     ghost inverse = { λ p. record { number = p.number; digest = p.digest; home = p.home; groups = p.groups } };
 }
@@ -60,7 +61,8 @@ impl Account {
     /// Takes an account's spelling. `None` exactly when the bytes begin with no account's spelling, and
     /// then nothing is taken.
     pub fn decode(bytes: &mut In) -> Option<Account>
-        ensures found { IfSome result (λ account. IsProfile account × (bytes.old ≡ profile_bytes account ++ bytes.new)) }
+        ensures found { IfSome result (λ account. IsProfile account
+            × (bytes.old ≡ profile_bytes account ++ bytes.new)) }
         ensures missing { IsNone result → Missing IsProfile profile_bytes bytes.old }
         ensures none { IsNone result → bytes.new ≡ bytes.old }
     {

@@ -59,7 +59,8 @@ impl<const N: usize> Groups<N> {
     pub fn of_list(list: &[u16]) -> Option<Groups<N>>
         requires { N < 256 }
         ensures found { IfSome result (λ groups. IsPermutation list.now groups) }
-        ensures none { IsNone result ↔ (N < length list.now) ⊎ (0 < occurrences 0 list.now) ⊎ HasTwoEqual list.now }
+        ensures none { IsNone result ↔ (N < length list.now) ⊎ (0 < occurrences 0 list.now)
+            ⊎ HasTwoEqual list.now }
     {
         let count = list.len();
         if N < count {

@@ -33,7 +33,8 @@ impl DownRecord {
     /// What the bytes spell, all of the bytes. `None` exactly when they spell nothing.
     pub fn decode(bytes: &[u8]) -> Option<DownRecord>
         ensures found { IfSome result (λ down. IsDown down × (bytes.now ≡ down_bytes down)) }
-        ensures missing { IsNone result → (down : DownRecord) → IsDown down → bytes.now ≡ down_bytes down → ⊥ }
+        ensures missing { IsNone result → (down : DownRecord) → IsDown down → bytes.now ≡ down_bytes down
+            → ⊥ }
     {
         if bytes == [BLANK_TAG].as_slice() {
             return Some(DownRecord::Blank);

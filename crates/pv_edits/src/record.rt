@@ -103,7 +103,8 @@ impl Record {
     /// The record that the bytes spell, all of the bytes. `None` exactly when they spell none.
     pub fn decode(bytes: &[u8]) -> Option<Record>
         ensures found { IfSome result (λ edit. IsRecord edit × (bytes.now ≡ record_bytes edit)) }
-        ensures missing { IsNone result → (edit : Record) → IsRecord edit → bytes.now ≡ record_bytes edit → ⊥ }
+        ensures missing { IsNone result → (edit : Record) → IsRecord edit → bytes.now ≡ record_bytes edit
+            → ⊥ }
     {
         match read_all(bytes) {
             Ok(record) => Some(record),

@@ -58,7 +58,8 @@ impl Centre {
 
     /// The last record of a name that the centre has applied.
     pub(crate) fn last_of(&self, name: FrameName) -> Option<&Record>
-        ensures { (limit : ℕ) (edits : List Record) (centre : Spec.Centre) → CentreStands limit edits self.now centre
+        ensures { (limit : ℕ) (edits : List Record) (centre : Spec.Centre)
+            → CentreStands limit edits self.now centre
             → option_copied result ≡ edit_at (take centre.applied edits) name }
     {
         self.held.last_of(name)
@@ -85,8 +86,10 @@ impl Centre {
     /// Takes a record, which is the next one.
     pub(crate) fn take(&mut self, edit: &Record)
         requires { self.old.count < self.old.limit }
-        ensures { (limit : ℕ) (edits : List Record) (centre : Spec.Centre) → CentreStands limit edits self.old centre
-            → slice_get edits centre.applied ≡ Some edit.now → CentreStands limit edits self.new (with_next centre) }
+        ensures { (limit : ℕ) (edits : List Record) (centre : Spec.Centre)
+            → CentreStands limit edits self.old centre
+            → slice_get edits centre.applied ≡ Some edit.now
+            → CentreStands limit edits self.new (with_next centre) }
     {
         self.held.push(*edit);
     }

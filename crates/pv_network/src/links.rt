@@ -66,7 +66,8 @@ impl Links {
         requires room { is_packets_full self.old ≡ false }
         requires next { number + 1 < 2 ^ 64 }
         ensures index { result ≡ length (link_in self.old link).down }
-        ensures packed { self.new ≡ slice_set self.old link (with_packet (link_in self.old link) number edit.now) }
+        ensures packed { self.new
+            ≡ slice_set self.old link (with_packet (link_in self.old link) number edit.now) }
     {
         let index = self.links[link].pack(number, edit);
         self.packets += 1;
@@ -78,7 +79,8 @@ impl Links {
         requires there { link < length self.old }
         requires room { is_packets_full self.old ≡ false }
         ensures index { result ≡ length (link_in self.old link).up }
-        ensures made { self.new ≡ slice_set self.old link (with_acknowledgement (link_in self.old link) count) }
+        ensures made { self.new ≡ slice_set self.old link
+            (with_acknowledgement (link_in self.old link) count) }
     {
         let index = self.links[link].acknowledge(count);
         self.packets += 1;

@@ -62,7 +62,8 @@ impl Network {
         requires { CanHappen self.old event.now }
 
         // Whatever world the network stood for, it stands for the next one, and the outcome is that answer.
-        ensures performs { IfOk result (λ outcome. (kept : Bool) × Performs self.old self.new outcome (λ w. happens w event.now kept)) }
+        ensures performs { IfOk result (λ outcome. (kept : Bool)
+            × Performs self.old self.new outcome (λ w. happens w event.now kept)) }
         ensures centres { length self.new.centres ≡ length self.old.centres }
 
         // A network that is not out of memory succeeds. One that is out of memory stays so.
@@ -81,7 +82,8 @@ impl Network {
     /// Lets an event happen.
     fn happen(&mut self, event: &Event) -> Result<Outcome, AllocError>
         requires { CanHappen self.old event.now }
-        ensures performs { IfOk result (λ outcome. (kept : Bool) × Performs self.old self.new outcome (λ w. happens w event.now kept)) }
+        ensures performs { IfOk result (λ outcome. (kept : Bool)
+            × Performs self.old self.new outcome (λ w. happens w event.now kept)) }
         ensures centres { length self.new.centres ≡ length self.old.centres }
         ensures succeeds { IsOk result }
     {
@@ -98,7 +100,8 @@ impl Network {
     /// The operator puts a row under a name.
     fn seed(&mut self, name: FrameName, row: &[u8; 40]) -> Outcome
         requires { IsRow row.now }
-        ensures performs { Performs self.old self.new result (λ w. step_of_seed w name (frame_of_cells row.now)) }
+        ensures performs { Performs self.old self.new result
+            (λ w. step_of_seed w name (frame_of_cells row.now)) }
         ensures centres { length self.new.centres ≡ length self.old.centres }
     {
         Outcome::Reply(self.update.seed(name, row))

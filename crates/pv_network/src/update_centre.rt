@@ -34,14 +34,16 @@ impl Model for UpdateCentre {
 
     ghost view = { λ u. record { edits = u.edits.edits; frame_limit = u.frame_limit; record_limit = u.edits.room } };
 
-    ghost invariant = { λ u. (u.frames ≡ frame_count u.edits.edits) × (u.last ≡ last_number u.edits.edits OPERATOR)
+    ghost invariant = { λ u. (u.frames ≡ frame_count u.edits.edits)
+        × (u.last ≡ last_number u.edits.edits OPERATOR)
         × (u.last ≤ length u.edits.edits) × (u.edits.room < 2 ^ 32) };
 }
 
 impl UpdateCentre {
     /// An Update Centre that keeps nothing.
     pub(crate) fn open(alloc: Global, limits: Limits) -> Result<UpdateCentre, AllocError>
-        ensures { IfOk result (UdcStands (record { edits = []; frame_limit = limits.frames; record_limit = limits.records })) }
+        ensures { IfOk result (UdcStands
+            (record { edits = []; frame_limit = limits.frames; record_limit = limits.records })) }
     {
         Ok(UpdateCentre {
             edits: EditList::open(alloc, limits.records as usize)?,
@@ -70,11 +72,13 @@ impl UpdateCentre {
     /// Judges a row that the operator puts under a name, stores its record unless it is refused, and returns the reply.
     pub(crate) fn seed(&mut self, name: FrameName, row: &[u8; 40]) -> Text
         requires { IsRow row.now }
-        ensures reply { (u : Spec.Update) → UdcStands u self.old → result ≡ (judgement_of u OPERATOR name (frame_of_row row.now)).reply }
+        ensures reply { (u : Spec.Update) → UdcStands u self.old → result
+            ≡ (judgement_of u OPERATOR name (frame_of_row row.now)).reply }
 
         // Whatever list it stood for, it stands for the list with the record that is stored.
         ensures stored { (u : Spec.Update) → UdcStands u self.old
-            → UdcStands (with_stored u (judgement_of u OPERATOR name (frame_of_row row.now)).stored) self.new }
+            → UdcStands (with_stored u
+            (judgement_of u OPERATOR name (frame_of_row row.now)).stored) self.new }
     {
         let is_new = self.edits.last_of(name).is_none();
         match self.refusal(is_new) {

@@ -38,7 +38,8 @@ impl Model for Mail {
 
     ghost view = { λ m. record { sender = m.sender; to = m.to; moment = m.moment; text = m.text } };
 
-    ghost invariant = { λ m. IsMessage (record { sender = m.sender; to = m.to; moment = m.moment; text = m.text }) };
+    ghost invariant = { λ m. IsMessage
+        (record { sender = m.sender; to = m.to; moment = m.moment; text = m.text }) };
 
     ghost inverse = { λ m. record { sender = m.sender; to = m.to; moment = m.moment; text = m.text } };
 }

@@ -28,7 +28,8 @@ impl Model for Reply {
 
     ghost view = { λ r. record { account = r.account; name = r.name; moment = r.moment; fields = r.fields } };
 
-    ghost invariant = { λ r. IsResponse (record { account = r.account; name = r.name; moment = r.moment; fields = r.fields }) };
+    ghost invariant = { λ r. IsResponse
+        (record { account = r.account; name = r.name; moment = r.moment; fields = r.fields }) };
 
     ghost inverse = { λ r. record { account = r.account; name = r.name; moment = r.moment; fields = r.fields } };
 }
