@@ -8,7 +8,7 @@ use Rattle.prestel.specs.declared.grammar.TheConstants.{COMMENT}
 use Rattle.prestel.specs.declared.word.Word.TheVariants as words
 use Rattle.prestel.specs.Play.{first_world, longest_script}
 use Rattle.prestel.specs.Transcript.{answer_text, answers}
-use Rattle.prestel.specs.Words.{word_named}
+use Rattle.prestel.specs.Words.{word_of_text}
 
 -- ---- scripts
 
@@ -17,7 +17,7 @@ pub comment : COMMENT ∷ [] ≡ codes ";"
 comment = refl
 
 -- a word is one of the script's as it stands, and with a letter more it is none
-pub names_of_words : (word_named (codes "deliver") ≡ Some words.Deliver) × (word_named (codes "views") ≡ None)
+pub names_of_words : (word_of_text (codes "deliver") ≡ Some words.Deliver) × (word_of_text (codes "views") ≡ None)
 names_of_words = (refl, refl)
 
 -- a script may have a mebibyte

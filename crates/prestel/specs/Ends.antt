@@ -36,8 +36,8 @@ IsReadEnd text faults_before faults_now reads.Fault = (length text ≤ longest_s
 IsReadEnd text faults_before faults_now reads.Memory = text ≡ []
 
 -- a command was run: for each world that the network stood for it stands for the next, and the answer was written
-abbrev pub HasAnswered : Command → State → State → Option (List ℕ) → Option (List ℕ) → Type 0
-HasAnswered command old new before now = (kept : Bool)
+abbrev pub GivesAnswer : Command → State → State → Option (List ℕ) → Option (List ℕ) → Type 0
+GivesAnswer command old new before now = (kept : Bool)
     × ((w : World) → StandsFor old w → StandsFor new (world_after w command kept) × Appends before now (answer_to w command kept))
 
 -- a command was begun: for each world that the network stood for a prefix of the answer was written
@@ -52,7 +52,7 @@ IsAnswerEnd command old before now faults_before faults_now answering.Memory = n
 
 -- a line was run: it reads as a command that was run
 abbrev pub HasRun : ℕ → List ℕ → State → State → Option (List ℕ) → Option (List ℕ) → Type 0
-HasRun centres line old new before now = (command : Command) × ReadsLine centres line command × HasAnswered command old new before now
+HasRun centres line old new before now = (command : Command) × ReadsLine centres line command × GivesAnswer command old new before now
 
 -- why a line was not run
 abbrev pub IsLineEnd : ℕ → List ℕ → ℕ → State → Option (List ℕ) → Option (List ℕ) → ℕ → ℕ → RunEnd → Type 0

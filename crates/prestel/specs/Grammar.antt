@@ -12,7 +12,7 @@ use Rattle.prestel.specs.declared.grammar.TheConstants.{COMMENT}
 use Rattle.prestel.specs.declared.word.Word.{Word}
 use Rattle.prestel.specs.declared.word.Word.TheVariants as words
 use Rattle.prestel.specs.Readers.{IsFrameText, IsRowText}
-use Rattle.prestel.specs.Words.{word_named}
+use Rattle.prestel.specs.Words.{word_of_text}
 
 -- a word and the tail after it ask for the event, in a play of this many centres: a row for each form
 abbrev pub AsksAs : ℕ → Word → List ℕ → Event → Type 0
@@ -25,7 +25,7 @@ AsksAs centres words.List tail = GivesAlone events.List tail
 
 -- a line asks for the event, by its first word and its tail
 abbrev pub Asks : ℕ → List ℕ → Event → Type 0
-Asks centres line event = (first tail : List ℕ) × (word : Word) × IsSplit line first tail × (word_named first ≡ Some word) × AsksAs centres word tail event
+Asks centres line event = (first tail : List ℕ) × (word : Word) × IsSplit line first tail × (word_of_text first ≡ Some word) × AsksAs centres word tail event
 
 -- an empty line and a comment ask for nothing
 abbrev pub ReadsLine : ℕ → List ℕ → Command → Type 0

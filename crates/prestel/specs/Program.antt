@@ -12,10 +12,10 @@ use Rattle.prestel.specs.Play.{longest_script, IsReadWhole, IsTranscript, StopsA
 
 -- How it may end that a text of the program is written: the writer itself has the whole of it, and nothing is in the buffer, or
 -- the output failed after a prefix of it.
-abbrev pub IsWritten : {W : Type 0} → (W → Option (List ℕ)) → List ℕ → StandardOutput W → StandardOutput W → Status → Type 0
-IsWritten contents text before now Done = Appends (written_bytes contents before) (flushed_bytes contents now) text × (buffered_bytes now ≡ [])
-IsWritten contents text before now WriteFault = (count : ℕ) × Appends (written_bytes contents before) (written_bytes contents now) (take count text)
-IsWritten contents text before now _ = ⊥
+abbrev pub WritesText : {W : Type 0} → (W → Option (List ℕ)) → List ℕ → StandardOutput W → StandardOutput W → Status → Type 0
+WritesText contents text before now Done = Appends (written_bytes contents before) (flushed_bytes contents now) text × (buffered_bytes now ≡ [])
+WritesText contents text before now WriteFault = (count : ℕ) × Appends (written_bytes contents before) (written_bytes contents now) (take count text)
+WritesText contents text before now _ = ⊥
 
 -- What a run made of the text that it read, by the status that it ended with. Done says that the writer itself has the whole
 -- transcript, and a bad line that it has all answers of the lines before; nothing is in the buffer then. A fault of the output

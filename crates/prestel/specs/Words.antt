@@ -9,8 +9,8 @@ abbrev pub is_text : List ℕ → List ℕ → Bool
 is_text a b = pointwise nat_eq a b
 
 -- the word that a text is
-abbrev pub word_named : List ℕ → Option Word
-word_named text =
+abbrev pub word_of_text : List ℕ → Option Word
+word_of_text text =
     if is_text text (codes "seed") then Some words.Seed else
     if is_text text (codes "send") then Some words.Send else
     if is_text text (codes "deliver") then Some words.Deliver else

@@ -1,8 +1,8 @@
 ghost use Rattle.std.specs.Prelude.{◌≡◌, ◌≢◌, ℕ, ◌+◌, ◌<◌, ◌≤◌, ◌↔◌, List, map, length, None, IfOk, IfErr, OnOk, IsSome, IsTrue, string_bytes};
 ghost use Rattle.pv_outside.specs.Counts.{Rose};
-ghost use Rattle.pv_network.specs.Standing.{StandsFor, CanHappen};
+ghost use Rattle.pv_network.specs.Standing.{StandsFor, IsPossible};
 ghost use Rattle.prestel.specs.declared.grammar.Command.TheVariants.{Do};
-ghost use Rattle.prestel.specs.Ends.{HasAnswered, HasRun, IsAnswerEnd, IsLineEnd, IsRunEnd};
+ghost use Rattle.prestel.specs.Ends.{GivesAnswer, HasRun, IsAnswerEnd, IsLineEnd, IsRunEnd};
 ghost use Rattle.prestel.specs.Play.{play_words, HasRead, IsPlayOf, IsPlayed, IsNotRun, first_world};
 
 use crate::answer::push_answer;
@@ -181,8 +181,8 @@ fn run_event<K: Sink>(
     answer: &mut Vec<u8>,
     out: &mut K,
 ) -> Result<(), AnswerEnd>
-    requires { CanHappen network.old event.now }
-    ensures ok { OnOk result (HasAnswered (Do event.now) network.old network.new (K.written out.old)
+    requires { IsPossible network.old event.now }
+    ensures ok { OnOk result (GivesAnswer (Do event.now) network.old network.new (K.written out.old)
         (K.written out.new)) }
     ensures err { IfErr result (IsAnswerEnd (Do event.now) network.old
         (K.written out.old) (K.written out.new) (K.write_faults out.old) (K.write_faults out.new)) }

@@ -2,7 +2,7 @@ ghost use Rattle.std.specs.Prelude.{◌≡◌, ◌≢◌, ℕ, ◌≤◌, ◌↔
 ghost use Rattle.pv_outside.specs.Counts.{Rose};
 ghost use Rattle.prestel.specs.About.{about_words, about_text};
 ghost use Rattle.prestel.specs.Play.{play_words, first_world, HasRead, IsNotRun};
-ghost use Rattle.prestel.specs.Program.{IsWritten, IsRunOf};
+ghost use Rattle.prestel.specs.Program.{WritesText, IsRunOf};
 ghost use Rattle.prestel.specs.declared.play.TheConstants.{CENTRES};
 ghost use Rattle.prestel.specs.declared.about.About.{About};
 
@@ -23,7 +23,7 @@ pub fn run_program<S: Source, W: Write + Drop>(
 ) -> Status
     // The help and the version are written to the writer itself, and nothing is read then.
     ensures about { (about : About) → map string_bytes words.now ≡ about_words about
-        → IsWritten W.contents (about_text about) out.old out.new result × (script.new ≡ script.old) }
+        → WritesText W.contents (about_text about) out.old out.new result × (script.new ≡ script.old) }
 
     // Otherwise what was read is a text, and what the writer has now is what a run of that text makes of it.
     ensures runs { ((about : About) → map string_bytes words.now ≢ about_words about) → (text : List ℕ)
@@ -54,7 +54,7 @@ pub fn run_program<S: Source, W: Write + Drop>(
 
 /// Writes the help or the version.
 fn write_about<W: Write + Drop>(about: About, out: &mut StandardOutput<W>) -> Status
-    ensures about { IsWritten W.contents (about_text about) out.old out.new result }
+    ensures about { WritesText W.contents (about_text about) out.old out.new result }
     ensures write_fault { result ≡ Status.WriteFault → Rose out.old.faults out.new.faults }
     ensures counted { out.old.faults ≤ out.new.faults }
 {

@@ -1,5 +1,5 @@
 ghost use Rattle.std.specs.Prelude.{◌≡◌};
-ghost use Rattle.prestel.specs.Words.{word_named};
+ghost use Rattle.prestel.specs.Words.{word_of_text};
 
 /// The first word of a line that asks for an event.
 #[derive(Clone, Copy, Debug, PartialEq, Eq)]
@@ -20,7 +20,7 @@ pub enum Word {
 
 /// The word that a text is. `None` exactly when it is none of them.
 pub fn word_of(text: &[u8]) -> Option<Word>
-    ensures { result ≡ word_named text.now }
+    ensures { result ≡ word_of_text text.now }
 {
     if text == b"seed".as_slice() {
         Some(Word::Seed)

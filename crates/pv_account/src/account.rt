@@ -35,7 +35,12 @@ impl Model for Account {
     ghost invariant = { λ a. IsProfile
         (record { number = a.number; digest = a.digest; home = a.home; groups = a.groups }) };
 
-    ghost inverse = { λ p. record { number = p.number; digest = p.digest; home = p.home; groups = p.groups } };
+    ghost inverse = { λ p. record {
+      number = p.number;
+      digest = p.digest;
+      home = p.home;
+      groups = p.groups;
+    } };
 }
 
 impl Account {

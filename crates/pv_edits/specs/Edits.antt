@@ -39,19 +39,19 @@ leases page (Lease editor q root account) = page == root
 leases page (Taken taken) = false
 
 -- the record is an edit of this editor
-abbrev pub is_by : ℕ → Record → Bool
-is_by account (Put editor q name frame) = account == editor
-is_by account (Drop editor q name) = account == editor
-is_by account (Account editor q profile) = account == editor
-is_by account (Lease editor q root lessee) = account == editor
-is_by account (Taken taken) = false
+abbrev pub is_edit_of : ℕ → Record → Bool
+is_edit_of account (Put editor q name frame) = account == editor
+is_edit_of account (Drop editor q name) = account == editor
+is_edit_of account (Account editor q profile) = account == editor
+is_edit_of account (Lease editor q root lessee) = account == editor
+is_edit_of account (Taken taken) = false
 
 -- the record is about this
 abbrev pub is_about : Subject → Record → Bool
 is_about (about.Name name) edit = names name edit
 is_about (about.Account number) edit = makes number edit
 is_about (about.Root page) edit = leases page edit
-is_about (about.Editor account) edit = is_by account edit
+is_about (about.Editor account) edit = is_edit_of account edit
 
 -- ---- the last record about something
 
@@ -119,7 +119,7 @@ account_at records number = account_or_first number (last_record (makes number) 
 -- an editor's last number, and the place of his last record, if these are the places of the records
 abbrev pub last_of : List Record → List ℕ → ℕ → Option (ℕ × ℕ)
 last_of records places editor =
-    last_index (is_by editor) records >>= λ i. slice_get records i >>= λ edit. slice_get places i >>= λ place.
+    last_index (is_edit_of editor) records >>= λ i. slice_get records i >>= λ edit. slice_get places i >>= λ place.
     option_map (λ q. (q, place)) (number_in edit)
 
 -- the item was taken up from this centre

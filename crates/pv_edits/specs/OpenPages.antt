@@ -8,12 +8,12 @@ use Rattle.pv_edits.specs.declared.record.Record.{Record}
 use Rattle.pv_edits.specs.Edits.{frame_at, account_at}
 
 -- the frame is open to all, or to a group that is one of these
-abbrev pub is_open : List ℕ → Content → Bool
-is_open groups frame = frame.group == 0 || list_any (λ group. group == frame.group) groups
+abbrev pub is_open_to : List ℕ → Content → Bool
+is_open_to groups frame = frame.group == 0 || list_any (λ group. group == frame.group) groups
 
 -- the frame of a name, if it is open to these groups
 abbrev pub open_frame_at : List Record → List ℕ → Name → Option Content
-open_frame_at records groups name = frame_at records name >>= λ frame. if is_open groups frame then Some frame else None
+open_frame_at records groups name = frame_at records name >>= λ frame. if is_open_to groups frame then Some frame else None
 
 -- the frame of a name that is open to an account; there is none if there is no such account
 abbrev pub open_pages : List Record → ℕ → Name → Option Content

@@ -1,7 +1,7 @@
 ghost use Rattle.std.specs.Prelude.{◌≡◌, ℕ, ◌+◌, ◌<◌, ◌≤◌, ◌↔◌, List, [], ◌∷◌, ◌++◌, ◌||◌, nat_lt, length, is_some, option_copied, option_map, IfOk, IfSome, IsTrue};
 ghost use Rattle.std.specs.Vec.{vec_capacity};
 ghost use Rattle.pv_edits.specs.declared.record.Record.{Record};
-ghost use Rattle.pv_edits.specs.OpenPages.{is_open};
+ghost use Rattle.pv_edits.specs.OpenPages.{is_open_to};
 ghost use Rattle.pv_edits.specs.Room.{frame_count, frames_after, account_count, accounts_after, lease_count, leases_after, has_editor, has_room};
 ghost use Rattle.pv_edits.specs.Edits.{is_about, leases, last_index, frame_at, frame_in, account_at, account_in, last_of, number_in, operator_profile};
 
@@ -92,7 +92,7 @@ impl Base {
             option_copied result ≡ open_frame_at records account.now.groups name }
     {
         let frame = self.find_frame(name)?;
-        if is_open(account, frame) {
+        if is_open_to(account, frame) {
             Some(frame)
         } else {
             None
@@ -300,8 +300,8 @@ impl Base {
 }
 
 /// Whether the frame's group is 0 or one of the account's.
-fn is_open(account: &Account, frame: &Frame) -> bool
-    ensures { result ≡ is_open account.now.groups frame.now }
+fn is_open_to(account: &Account, frame: &Frame) -> bool
+    ensures { result ≡ is_open_to account.now.groups frame.now }
 {
     frame.group == 0 || account.groups.has(frame.group)
 }

@@ -1,5 +1,5 @@
 ghost use Rattle.std.specs.Prelude.{◌≡◌};
-ghost use Rattle.pv_edits.specs.Edits.{is_about, names, makes, leases, is_by};
+ghost use Rattle.pv_edits.specs.Edits.{is_about, names, makes, leases, is_edit_of};
 
 use crate::record::Record;
 use pv_page::{AccountNo, FrameName, PageNo};
@@ -25,7 +25,7 @@ pub(crate) fn is_about(edit: &Record, subject: Subject) -> bool
         Subject::Name(name) => names(edit, name),
         Subject::Account(number) => makes(edit, number),
         Subject::Root(page) => leases(edit, page),
-        Subject::Editor(account) => is_by(edit, account),
+        Subject::Editor(account) => is_edit_of(edit, account),
     }
 }
 
@@ -61,8 +61,8 @@ fn leases(edit: &Record, page: PageNo) -> bool
 }
 
 /// Whether the record is an edit of this editor.
-fn is_by(edit: &Record, account: AccountNo) -> bool
-    ensures { result ≡ is_by account edit.now }
+fn is_edit_of(edit: &Record, account: AccountNo) -> bool
+    ensures { result ≡ is_edit_of account edit.now }
 {
     match edit {
         Record::Put { editor, .. } => account == *editor,

@@ -10,7 +10,8 @@ use Rattle.pv_journal.specs.Journal.{EachImage}
 use Rattle.pv_journal.proofs.Crash.{torn_behind, staged, torn_gate, stored, IsStaged}
 use Rattle.pv_journal.proofs.Images.{if_map, text_of_each, each_written}
 
-module _ {D : Type 0} (g : reports.Ghosts D) (left : (d : D) → IfSome (g.reads d) (g.may_leave d)) (bodies : List (List ℕ)) (body : List ℕ) (gate : ℕ) (is : gate ≡ length (text_of bodies)) (old new : D) where
+module _ {D : Type 0} (g : reports.Ghosts D) (left : (d : D) → IfSome (g.reads d) (g.may_leave d)) (bodies : List (List ℕ)) (body : List ℕ)
+    (gate : ℕ) (is : gate ≡ length (text_of bodies)) (old new : D) where
   -- bodies that each image spelled, each still spells after a write after the closed gate, whatever it returns
   pub behind : {T E : Type 0} (r : Result T E) (bytes : List ℕ) → WritesAt g (gate + 1) bytes old new r
       → EachImage g old (λ image. Spells image bodies) → EachImage g new (λ image. Spells image bodies)
@@ -61,7 +62,8 @@ both_writes gate body bytes text same within =
     ∙ ap (λ (l : List ℕ). text_after_write gate (1 ∷ l) text) same
 
 -- the same of a text that may not be reported
-pub both_written : (old : Option (List ℕ)) (gate : ℕ) (body bytes : List ℕ) → bytes ≡ bytes_after_gate body → IfSome old (HasClosedGate gate)
+pub both_written : (old : Option (List ℕ)) (gate : ℕ) (body bytes : List ℕ) → bytes ≡ bytes_after_gate body
+    → IfSome old (HasClosedGate gate)
     → option_map (text_after_write gate (1 ∷ [])) (option_map (text_after_write (gate + 1) bytes) old) ≡ option_map (text_after_write gate (block body ++ 0 ∷ [])) old
 both_written None gate body bytes same closed = refl
 both_written (Some text) gate body bytes same closed = ap Some (both_writes gate body bytes text same closed.0)

@@ -61,7 +61,8 @@ module _ {D : Type 0} (g : reports.Ghosts D) where
   -- the same of calls that write nothing
   pub reads_most : {n most : ℕ} {F Fails : Type 0} {old new : D} → n ≤ most → (Fails → F) → ReadsOnly g n F old new
       → ReadsOnly g most Fails old new
-  reads_most le fails a = record { same = a.same; spends = spends_most le fails a.spends; passes = λ room endless f. a.passes room endless (fails f) }
+  reads_most le fails a =
+      record { same = a.same; spends = spends_most le fails a.spends; passes = λ room endless f. a.passes room endless (fails f) }
 
   pub reads_none : {most : ℕ} {Fails : Type 0} (d : D) → (Fails → ⊥) → ReadsOnly g most Fails d d
   reads_none d never = record { same = remains_none d; spends = spends_none d never; passes = λ room endless. never }

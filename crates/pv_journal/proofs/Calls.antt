@@ -72,7 +72,8 @@ endless_passes : {T E : Type 0} (r : Result T E) (budget : Option Budget) → (C
     → IsErr r → ⊥
 endless_passes r None can room endless fails = endless
 endless_passes (Ok x) (Some b) can room endless fails = false≢true fails
-endless_passes (Err e) (Some b) can room endless fails = false≢true (can (λ some. subst (λ (o : Option ℕ). IfSome o (λ n. ⊥)) (sym endless.1 ∙ some) tt))
+endless_passes (Err e) (Some b) can room endless fails =
+    false≢true (can (λ some. subst (λ (o : Option ℕ). IfSome o (λ n. ⊥)) (sym endless.1 ∙ some) tt))
 
 module _ {D : Type 0} (g : reports.Ghosts D) {T E : Type 0} {pay : Budget → Budget} (pays : Pays pay) (old new : D) (r : Result T E) where
   -- one call of a disk takes at most one of those that are left, and only if it succeeds

@@ -20,11 +20,15 @@ text_of-push bodies body = sym (flat_map_more block MARK bodies body)
 -- the gate moves by the size of the body and three
 length-text_of-push : (bodies : List (List ℕ)) (body : List ℕ)
     → length (text_of (bodies ++ body ∷ [])) ≡ length (text_of bodies) + length body + 3
-length-text_of-push bodies body = ap length (text_of-push bodies body) ∙ length-append (text_of bodies) (block body) ∙ omega (arith, length-block body)
+length-text_of-push bodies body =
+    ap length (text_of-push bodies body) ∙ length-append (text_of bodies) (block body) ∙ omega (arith, length-block body)
 
 -- at the place after the blocks of the bodies that a text spells stands its closed gate
-pub gate_byte : (bodies : List (List ℕ)) (text : List ℕ) (spells : Spells text bodies) → get_or text (length (text_of bodies)) 0 ≡ spells.gate
-gate_byte bodies text spells = ap (λ (l : List ℕ). get_or l (length (text_of bodies)) 0) spells.text ∙ get_or_at (text_of bodies) spells.gate spells.rest 0 (length (text_of bodies)) refl
+pub gate_byte : (bodies : List (List ℕ)) (text : List ℕ) (spells : Spells text bodies)
+    → get_or text (length (text_of bodies)) 0 ≡ spells.gate
+gate_byte bodies text spells =
+    ap (λ (l : List ℕ). get_or l (length (text_of bodies)) 0) spells.text
+    ∙ get_or_at (text_of bodies) spells.gate spells.rest 0 (length (text_of bodies)) refl
 
 -- if a text spells a further body, the gate before that body is open
 pub open_byte : (bodies : List (List ℕ)) (body text : List ℕ) → Spells text (bodies ++ body ∷ [])
@@ -52,7 +56,12 @@ pub counted_more : {D : Type 0} (g : reports.Ghosts D) (old new : Log D) (bodies
     → new.count ≡ old.count + 1 → new.gate ≡ old.gate + length body + 3 → HasCounted g new (bodies ++ body ∷ [])
 counted_more g old new bodies body counted sized count gate = record {
   count = omega (arith, count, counted.count, length_push bodies body);
-  gate = gate ∙ (let e : old.gate + length body + 3 ≡ length (text_of (bodies ++ body ∷ [])) = omega (arith, counted.gate, length-text_of-push bodies body) in e);
+  gate =
+      gate ∙ (let e : old.gate + length body + 3 ≡ length (text_of (bodies ++ body ∷ [])) = omega (
+        arith,
+        counted.gate,
+        length-text_of-push bodies body,
+      ) in e);
   sizes = All-push IsBody bodies body counted.sizes sized;
 }
 
@@ -63,5 +72,7 @@ next_front bodies body text gate n is next begins has =
     let split : text ≡ text_of (bodies ++ body ∷ []) ++ has.rest =
     begins ∙ ap (λ (l : List ℕ). text_of bodies ++ l) has.text ∙ sym (append_assoc (text_of bodies) (block body) has.rest) ∙ ap (λ (l : List ℕ). l ++ has.rest) (sym (text_of-push bodies body)) in
     let rest : drop n text ≡ has.rest =
-    ap (λ (l : List ℕ). drop n l) split ∙ drop_at (text_of (bodies ++ body ∷ [])) has.rest n (length-text_of-push bodies body ∙ (let e : length (text_of bodies) + length body + 3 ≡ n = omega (arith, is, next) in e)) in
+    ap (λ (l : List ℕ). drop n l) split
+    ∙ drop_at (text_of (bodies ++ body ∷ [])) has.rest n
+    (length-text_of-push bodies body ∙ (let e : length (text_of bodies) + length body + 3 ≡ n = omega (arith, is, next) in e)) in
     split ∙ ap (λ (l : List ℕ). text_of (bodies ++ body ∷ []) ++ l) (sym rest)

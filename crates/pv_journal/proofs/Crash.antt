@@ -47,7 +47,8 @@ pub record IsStaged (bodies : List (List ℕ)) (body bytes : List ℕ) : Type 0 
 
 -- to append a body, three bytes more than it has are written after the gate
 pub length-bytes_after_gate : (body : List ℕ) → length (bytes_after_gate body) ≡ length body + 3
-length-bytes_after_gate body = omega (arith, length-append (to_be_bytes w16 (length body) ++ body) (0 ∷ []), length-append (to_be_bytes w16 (length body)) body)
+length-bytes_after_gate body =
+    omega (arith, length-append (to_be_bytes w16 (length body) ++ body) (0 ∷ []), length-append (to_be_bytes w16 (length body)) body)
 
 -- with the gate before it open, the body that was written is the last that the bytes spell
 opened : (bodies : List (List ℕ)) (body rest : List ℕ)

@@ -2,7 +2,7 @@
 use Rattle.std.proofs.Common.{◌≡◌, inl, [], ◌∷◌, ◌++◌, replicate, codes, refl}
 use Rattle.pv_journal.specs.declared.block.TheConstants.{MAX_BODY}
 use Rattle.pv_journal.specs.Log.{longest}
-use Rattle.pv_journal.specs.Text.{text_of, first_eight, bytes_after_gate, IsBroken}
+use Rattle.pv_journal.specs.Text.{text_of, first_eight, bytes_after_gate, HasBrokenBlock}
 
 -- a body has at most 2,048 bytes
 pub longest_body : MAX_BODY ≡ 2048
@@ -33,5 +33,5 @@ pub filled_up : first_eight (codes "PVJOURN") ≡ codes "PVJOURN" ++ 0 ∷ []
 filled_up = refl
 
 -- an open gate with a body of no bytes is broken
-pub broken_if_empty : IsBroken (1 ∷ 0 ∷ 0 ∷ [])
+pub broken_if_empty : HasBrokenBlock (1 ∷ 0 ∷ 0 ∷ [])
 broken_if_empty = (refl, inl refl)

@@ -55,7 +55,10 @@ behind_written gate body bytes text is closed =
     inside (gate + 1) bytes text (omega (arith, closed.0)) (length body + 2) (gate + length body + 3) (omega arith) (omega (arith, size))
     ∙ ap (λ (l : List ℕ). get_or l (length body + 2) 0) is ∙ last_is_closed body in
     record {
-      here = (omega (arith, closed.0, long), λ e. closed.1 (sym (before (gate + 1) bytes text (omega (arith, closed.0)) gate (omega arith)) ∙ e));
+      here = (
+        omega (arith, closed.0, long),
+        λ e. closed.1 (sym (before (gate + 1) bytes text (omega (arith, closed.0)) gate (omega arith)) ∙ e),
+      );
       next = (omega (arith, long, size), λ e. omega (arith, last, e));
     }
 

@@ -76,7 +76,8 @@ module _ {D : Type 0} (g : reports.Ghosts D) where
   -- a call that wrote nothing leaves each image what all had before
   pub each_kept : (old new : D) (P : List ℕ → Type 0) → g.reads new ≡ g.reads old → NoMore (g.may_leave old) (g.may_leave new)
       → EachImage g old P → EachImage g new P
-  each_kept old new P same no_more each told image left = each (subst (λ (o : Option (List ℕ)). IsSome o) same told) image (no_more image left)
+  each_kept old new P same no_more each told image left =
+      each (subst (λ (o : Option (List ℕ)). IsSome o) same told) image (no_more image left)
 
   -- a disk that reports what it reads after a write reported it before
   pub writes_told : {T E : Type 0} (old new : D) (r : Result T E) (at : ℕ) (bytes : List ℕ) → WritesAt g at bytes old new r

@@ -15,9 +15,13 @@ module _ {D : Type 0} (g : reports.Ghosts D) where
   time_call old new r P call little told each = record {
     reported = told;
     later = call.time.later;
-    since = λ t image before told left. ⊎_elim (λ l. inl l) (λ more. inr (⊎_elim (λ now. inl (each told image now)) (λ f. inr f) more)) (call.time.nothing_else t image before left);
+    since =
+        λ t image before told left. ⊎_elim (λ l. inl l) (λ more. inr (⊎_elim (λ now. inl (each told image now)) (λ f. inr f) more))
+        (call.time.nothing_else t image before left);
     stays = call.time.stays;
-    forgets = λ t before f. ⊎_elim (λ o. inl o) (λ more. ⊎_elim (λ far. inr far) (λ large. absurd (omega (arith, large, little))) more) (call.time.forgets t before f);
+    forgets =
+        λ t before f. ⊎_elim (λ o. inl o) (λ more. ⊎_elim (λ far. inr far) (λ large. absurd (omega (arith, large, little))) more)
+        (call.time.forgets t before f);
   }
 
   -- over no call
@@ -36,7 +40,9 @@ module _ {D : Type 0} (g : reports.Ghosts D) where
   time_weaker weaker a = record {
     reported = a.reported;
     later = a.later;
-    since = λ t image before told left. ⊎_elim (λ l. inl l) (λ more. inr (⊎_elim (λ p. inl (weaker told image p)) (λ f. inr f) more)) (a.since t image before told left);
+    since =
+        λ t image before told left. ⊎_elim (λ l. inl l) (λ more. inr (⊎_elim (λ p. inl (weaker told image p)) (λ f. inr f) more))
+        (a.since t image before told left);
     stays = a.stays;
     forgets = a.forgets;
   }
@@ -51,13 +57,16 @@ module _ {D : Type 0} (g : reports.Ghosts D) where
         let till : t ≤ g.clock second = omega (arith, before, a.later) in
         ⊎_elim (λ l. ⊎_elim (λ l. inl l) (λ more. inr (⊎_elim (λ p. inl p) (λ f. inr (b.stays t till f)) more)) (a.since t image before (b.reported told) l)) (λ more. inr more) (b.since t image till told left);
     stays = λ t before f. b.stays t (omega (arith, before, a.later)) (a.stays t before f);
-    forgets = λ t before f. ⊎_elim (λ f. ⊎_elim (λ o. inl o) (λ far. inr (omega (arith, far, b.later))) (a.forgets t before f)) (λ far. inr far) (b.forgets t (omega (arith, before, a.later)) f);
+    forgets =
+        λ t before f. ⊎_elim (λ f. ⊎_elim (λ o. inl o) (λ far. inr (omega (arith, far, b.later))) (a.forgets t before f)) (λ far. inr far)
+        (b.forgets t (omega (arith, before, a.later)) f);
   }
 
   -- over a write, whatever it returns
   pub time_write : {T E : Type 0} (old new : D) (r : Result T E) (at : ℕ) (bytes : List ℕ) (P : List ℕ → Type 0)
       → WritesAt g at bytes old new r → length bytes ≤ KEPT_BYTES → EachImage g new P → TimePasses g old new P
-  time_write old new r at bytes P writes little each = time_call old new r P writes.call little (writes_told g old new r at bytes writes) each
+  time_write old new r at bytes P writes little each =
+      time_call old new r P writes.call little (writes_told g old new r at bytes writes) each
 
   -- over a call that writes nothing
   pub time_look : {T E : Type 0} {pay : Budget → Budget} (old new : D) (r : Result T E) → WritesNothing g pay old new r

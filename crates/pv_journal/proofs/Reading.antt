@@ -6,7 +6,7 @@ use Rattle.std.proofs.lemmas.Nat.{be_bytes_2}
 use Rattle.std.specs.List.{slice_range}
 use Rattle.std.specs.Int.{w16, to_be_bytes, from_be_bytes}
 use Rattle.pv_journal.specs.Block.{HasBlockOf}
-use Rattle.pv_journal.specs.Text.{block, HasBlock, IsClosed, IsBroken, first_eight}
+use Rattle.pv_journal.specs.Text.{block, HasBlock, HasNoOpenGate, HasBrokenBlock, first_eight}
 use Rattle.std.proofs.lemmas.Bool.{cases_lt}
 use Rattle.pv_journal.specs.declared.block.TheConstants.{MARK, MAX_BLOCK}
 
@@ -29,7 +29,9 @@ has_block (gate ∷ b ∷ c ∷ rest) size long open_gate is high low some most 
     record {
       block = record {
         rest = drop size rest;
-        text = (λ i. open_gate i ∷ b ∷ c ∷ sym (take-append-drop size rest) i) ∙ ap (λ (l : List ℕ). 1 ∷ (l ++ take size rest) ++ drop size rest) (sym digits);
+        text =
+            (λ i. open_gate i ∷ b ∷ c ∷ sym (take-append-drop size rest) i)
+            ∙ ap (λ (l : List ℕ). 1 ∷ (l ++ take size rest) ++ drop size rest) (sym digits);
         size = (omega (arith, whole), omega (arith, whole));
       };
       size = whole;
@@ -73,11 +75,13 @@ pub block_read : (text into rest : List ℕ) (gate held : ℕ) → held ≡ min 
 block_read text into rest gate held is within read =
     let size : length into ≡ held = ap length read ∙ length-take-le held (drop gate text) (omega (arith, length-drop gate text)) in
     let same : take held (drop gate text) ≡ take MAX_BLOCK (drop gate text) =
-    ap (λ (k : ℕ). take k (drop gate text)) (let e : held ≡ min MAX_BLOCK (length (drop gate text)) = omega (arith, length-drop gate text) in e) ∙ take_min MAX_BLOCK (drop gate text) in
+    ap (λ (k : ℕ). take k (drop gate text))
+    (let e : held ≡ min MAX_BLOCK (length (drop gate text)) = omega (arith, length-drop gate text) in e)
+    ∙ take_min MAX_BLOCK (drop gate text) in
     take_at into rest held size ∙ read ∙ same
 
 -- at a gate stands what a read of at most a longest block there shows: a closed gate
-closed_there : (rest : List ℕ) → IsClosed (take MAX_BLOCK rest) → IsClosed rest
+closed_there : (rest : List ℕ) → HasNoOpenGate (take MAX_BLOCK rest) → HasNoOpenGate rest
 closed_there [] closed = closed
 closed_there (gate ∷ rest) closed = closed
 
@@ -86,16 +90,19 @@ block_there : (rest : List ℕ) (size : ℕ) → HasBlock (take MAX_BLOCK rest) 
     → HasBlock rest (take size (drop 3 (take MAX_BLOCK rest)))
 block_there rest size has = record {
   rest = has.rest ++ drop MAX_BLOCK rest;
-  text = sym (take-append-drop MAX_BLOCK rest) ∙ ap (λ (l : List ℕ). l ++ drop MAX_BLOCK rest) has.text ∙ append_assoc (block (take size (drop 3 (take MAX_BLOCK rest)))) has.rest (drop MAX_BLOCK rest);
+  text =
+      sym (take-append-drop MAX_BLOCK rest) ∙ ap (λ (l : List ℕ). l ++ drop MAX_BLOCK rest) has.text
+      ∙ append_assoc (block (take size (drop 3 (take MAX_BLOCK rest)))) has.rest (drop MAX_BLOCK rest);
   size = has.size;
 }
 
 -- the broken gate that such a read shows
-broken_there : (rest : List ℕ) → IsBroken (take MAX_BLOCK rest) → IsBroken rest
+broken_there : (rest : List ℕ) → HasBrokenBlock (take MAX_BLOCK rest) → HasBrokenBlock rest
 broken_there [] broken = tt
 broken_there (gate ∷ []) broken = broken
 broken_there (gate ∷ high ∷ []) broken = broken
-broken_there (gate ∷ high ∷ low ∷ rest) broken = (broken.0, ⊎_elim (λ none. inl none) (λ more. inr (⊎_elim (λ long. inl long) (λ short. too_short rest (from_be_bytes w16 (high ∷ low ∷ [])) short) more)) broken.1)
+broken_there (gate ∷ high ∷ low ∷ rest) broken =
+    (broken.0, ⊎_elim (λ none. inl none) (λ more. inr (⊎_elim (λ long. inl long) (λ short. too_short rest (from_be_bytes w16 (high ∷ low ∷ [])) short) more)) broken.1)
   where
     too_short : (rest : List ℕ) (size : ℕ) → length (take 2048 rest) < size → (2048 < size) ⊎ (length rest < size)
     too_short rest size short = elim (cases_lt (length rest) size) [
@@ -104,12 +111,12 @@ broken_there (gate ∷ high ∷ low ∷ rest) broken = (broken.0, ⊎_elim (λ n
     ]
 
 -- if the bytes of at most a longest block begin with a closed gate, one is there
-pub closed_at : (bytes rest : List ℕ) → bytes ≡ take MAX_BLOCK rest → IsClosed bytes → IsClosed rest
-closed_at bytes rest is closed = closed_there rest (subst IsClosed is closed)
+pub closed_at : (bytes rest : List ℕ) → bytes ≡ take MAX_BLOCK rest → HasNoOpenGate bytes → HasNoOpenGate rest
+closed_at bytes rest is closed = closed_there rest (subst HasNoOpenGate is closed)
 
 -- if they begin with a broken gate, one is there
-pub broken_at : (bytes rest : List ℕ) → bytes ≡ take MAX_BLOCK rest → IsBroken bytes → IsBroken rest
-broken_at bytes rest is broken = broken_there rest (subst IsBroken is broken)
+pub broken_at : (bytes rest : List ℕ) → bytes ≡ take MAX_BLOCK rest → HasBrokenBlock bytes → HasBrokenBlock rest
+broken_at bytes rest is broken = broken_there rest (subst HasBrokenBlock is broken)
 
 -- if they begin with a block, the block of that body is there
 pub block_at : (bytes rest body : List ℕ) (size : ℕ) → bytes ≡ take MAX_BLOCK rest → body ≡ take size (drop 3 bytes)

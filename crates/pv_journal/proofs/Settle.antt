@@ -12,14 +12,18 @@ use Rattle.pv_journal.proofs.Images.{if_both, text_of_each, each_kept, each_sync
 -- a read of one byte gives the byte at that place
 byte_read : (text into : List ℕ) (at : ℕ) → into ≡ slice_range text at (at + 1) → get_or into 0 0 ≡ get_or text at 0
 byte_read text into at read =
-    ap (λ (l : List ℕ). get_or l 0 0) read ∙ get_or-take (at + 1 - at) (drop at text) 0 0 (omega arith) ∙ get_or-drop at text 0 0 ∙ ap (λ (n : ℕ). get_or text n 0) (let e : at + 0 ≡ at = omega arith in e)
+    ap (λ (l : List ℕ). get_or l 0 0) read ∙ get_or-take (at + 1 - at) (drop at text) 0 0 (omega arith) ∙ get_or-drop at text 0 0
+    ∙ ap (λ (n : ℕ). get_or text n 0) (let e : at + 0 ≡ at = omega arith in e)
 
-module _ {D : Type 0} (g : reports.Ghosts D) (left : (d : D) → IfSome (g.reads d) (g.may_leave d)) (old synced now : D) (gate : ℕ) (into : List ℕ) (bodies : List (List ℕ)) (body : List ℕ) (is : gate ≡ length (text_of bodies))
+module _ {D : Type 0} (g : reports.Ghosts D) (left : (d : D) → IfSome (g.reads d) (g.may_leave d)) (old synced now : D) (gate : ℕ)
+    (into : List ℕ) (bodies : List (List ℕ)) (body : List ℕ) (is : gate ≡ length (text_of bodies))
     (each : EachImage g old (SpellsEither bodies (body ∷ []))) (same : g.reads synced ≡ g.reads old) (no_more : NoMore (g.may_leave old) (g.may_leave synced)) (durable : IsDurable g synced)
     (read : IfSome (g.reads synced) (λ text. into ≡ slice_range text gate (gate + 1))) (same_now : g.reads now ≡ g.reads synced) (no_more_now : NoMore (g.may_leave synced) (g.may_leave now)) where
   -- after the sync the disk reads as the list without the body in hand or with it
   either : IfSome (g.reads synced) (SpellsEither bodies (body ∷ []))
-  either = text_of_each g synced (SpellsEither bodies (body ∷ [])) (left synced) (each_kept g old synced (SpellsEither bodies (body ∷ [])) same no_more each)
+  either =
+      text_of_each g synced (SpellsEither bodies (body ∷ [])) (left synced)
+      (each_kept g old synced (SpellsEither bodies (body ∷ [])) same no_more each)
 
   -- the byte that was read is the one at the gate
   byte : (text : List ℕ) → into ≡ slice_range text gate (gate + 1) → get_or text (length (text_of bodies)) 0 ≡ get_or into 0 0

@@ -8,7 +8,7 @@ use Rattle.std.proofs.lemmas.Nat.{from_be_bytes-to_be_bytes_2}
 use Rattle.std.specs.List.{flat_map}
 use Rattle.std.specs.Int.{w16, to_be_bytes, from_be_bytes}
 use Rattle.pv_journal.specs.declared.block.TheConstants.{MARK}
-use Rattle.pv_journal.specs.Text.{IsBody, block, text_of, Spells, IsClosed, HasBlock, IsBroken}
+use Rattle.pv_journal.specs.Text.{IsBody, block, text_of, Spells, HasNoOpenGate, HasBlock, HasBrokenBlock}
 
 -- after the mark, or after some of the bodies, stand the blocks of these and a closed gate
 pub record Follows (rest : List ℕ) (bodies : List (List ℕ)) : Type 0 where
@@ -29,7 +29,7 @@ same_block a b x y sized_a sized_b same =
     (body, append_cancel_left b x y (ap (λ (l : List ℕ). l ++ x) (sym body) ∙ rest))
 
 -- after a closed gate there is no further body
-pub closed_none : (rest : List ℕ) (more : List (List ℕ)) → Follows rest more → IsClosed rest → more ≡ []
+pub closed_none : (rest : List ℕ) (more : List (List ℕ)) → Follows rest more → HasNoOpenGate rest → more ≡ []
 closed_none rest [] follows closed = refl
 closed_none [] (body ∷ more) follows closed = absurd closed
 closed_none (g ∷ rest) (body ∷ more) follows closed =
@@ -50,18 +50,18 @@ first_is rest body (first ∷ more) follows has =
     (more, ap (λ (b : List ℕ). b ∷ more) one.0)
 
 -- a gate that is broken and there is open
-open_if_broken : (gate : ℕ) (rest : List ℕ) → IsBroken (gate ∷ rest) → gate ≡ 1
+open_if_broken : (gate : ℕ) (rest : List ℕ) → HasBrokenBlock (gate ∷ rest) → gate ≡ 1
 open_if_broken gate [] broken = broken
 open_if_broken gate (high ∷ []) broken = broken
 open_if_broken gate (high ∷ low ∷ rest) broken = broken.0
 
 -- if bodies follow, or a closed gate, the bytes are not broken
-pub never_broken : (rest : List ℕ) (more : List (List ℕ)) → Follows rest more → IsBroken rest → ⊥
-never_broken rest [] follows broken = follows.closed (open_if_broken follows.gate follows.behind (subst IsBroken follows.text broken))
+pub never_broken : (rest : List ℕ) (more : List (List ℕ)) → Follows rest more → HasBrokenBlock rest → ⊥
+never_broken rest [] follows broken = follows.closed (open_if_broken follows.gate follows.behind (subst HasBrokenBlock follows.text broken))
 never_broken rest (body ∷ more) follows broken =
     let sized = All-head IsBody body more follows.sizes in
     let behind = flat_map block more ++ follows.gate ∷ follows.behind in
-    let there : IsBroken (block body ++ behind) = subst IsBroken (follows.text ∙ append_assoc (block body) (flat_map block more) (follows.gate ∷ follows.behind)) broken in
+    let there : HasBrokenBlock (block body ++ behind) = subst HasBrokenBlock (follows.text ∙ append_assoc (block body) (flat_map block more) (follows.gate ∷ follows.behind)) broken in
     let size : from_be_bytes w16 (to_be_bytes w16 (length body)) ≡ length body = from_be_bytes-to_be_bytes_2 (length body) (omega (arith, sized)) in
     ⊎_elim (λ none. omega (arith, none, size, sized)) (⊎_elim (λ long. omega (arith, long, size, sized)) (λ short. omega (arith, short, size, length-append body behind))) there.1
 
@@ -79,19 +79,22 @@ follows_front bodies more text rest begins spells =
       behind = spells.rest;
       text = append_cancel_left (text_of bodies) rest (flat_map block more ++ spells.gate ∷ spells.rest) whole;
       closed = spells.closed;
-      sizes = λ k d h. subst IsBody (get_or-append-add bodies more k d) (spells.sizes (length bodies + k) d (omega (arith, length-append bodies more)));
+      sizes =
+          λ k d h. subst IsBody (get_or-append-add bodies more k d)
+          (spells.sizes (length bodies + k) d (omega (arith, length-append bodies more)));
     }
 
 -- a text that begins with some bodies, with a closed gate after them, spells these
-pub spells_front : (bodies : List (List ℕ)) (text rest : List ℕ) → text ≡ text_of bodies ++ rest → IsClosed rest → All IsBody bodies
+pub spells_front : (bodies : List (List ℕ)) (text rest : List ℕ) → text ≡ text_of bodies ++ rest → HasNoOpenGate rest → All IsBody bodies
     → Spells text bodies
 spells_front bodies text [] begins closed sizes = absurd closed
-spells_front bodies text (gate ∷ rest) begins closed sizes = record { gate = gate; rest = rest; text = begins; closed = closed; sizes = sizes }
+spells_front bodies text (gate ∷ rest) begins closed sizes =
+    record { gate = gate; rest = rest; text = begins; closed = closed; sizes = sizes }
 
 -- what stands after some bodies is the text of at most one list of further ones
 same_following : (rest : List ℕ) (one other : List (List ℕ)) → Follows rest one → Follows rest other → one ≡ other
-same_following rest [] other a b = sym (closed_none rest other b (subst IsClosed (sym a.text) a.closed))
-same_following rest (body ∷ one) [] a b = closed_none rest (body ∷ one) a (subst IsClosed (sym b.text) b.closed)
+same_following rest [] other a b = sym (closed_none rest other b (subst HasNoOpenGate (sym a.text) a.closed))
+same_following rest (body ∷ one) [] a b = closed_none rest (body ∷ one) a (subst HasNoOpenGate (sym b.text) b.closed)
 same_following rest (body ∷ one) (first ∷ other) a b =
     let behind_a = flat_map block one ++ a.gate ∷ a.behind in
     let behind_b = flat_map block other ++ b.gate ∷ b.behind in

@@ -1,6 +1,6 @@
 -- What stands after the bodies that were read.
 use Rattle.std.specs.Prelude.{◌≡◌, ℕ, ◌+◌, ◌≤◌, List, length, take, drop}
-use Rattle.pv_journal.specs.Text.{IsClosed, HasBlock, IsBroken}
+use Rattle.pv_journal.specs.Text.{HasNoOpenGate, HasBlock, HasBrokenBlock}
 use Rattle.pv_journal.specs.declared.block.Block.{Block}
 use Rattle.pv_journal.specs.declared.block.Block.TheVariants.{Closed, Whole, Broken}
 
@@ -12,6 +12,6 @@ pub record HasBlockOf (n : ℕ) (bytes : List ℕ) : Type 0 where
 
 -- the bytes begin with this
 abbrev pub BeginsWith : Block → List ℕ → Type 0
-BeginsWith Closed bytes = IsClosed bytes
+BeginsWith Closed bytes = HasNoOpenGate bytes
 BeginsWith (Whole size) bytes = HasBlockOf size bytes
-BeginsWith Broken bytes = IsBroken bytes
+BeginsWith Broken bytes = HasBrokenBlock bytes

@@ -1,6 +1,6 @@
 -- When each answer of a journal comes.
 use Rattle.std.specs.Prelude.{◌≡◌, ◌≢◌, ℕ, ◌<◌, ◌≤◌, List, [], ◌∷◌, length, take, drop, Option, Some, None, Result, Ok, Err}
-use Rattle.pv_journal.specs.Text.{first_eight, IsClosed, HasBlock, IsBroken}
+use Rattle.pv_journal.specs.Text.{first_eight, HasNoOpenGate, HasBlock, HasBrokenBlock}
 use Rattle.pv_journal.specs.Log.{Log}
 use Rattle.pv_journal.specs.declared.block.TheConstants.{MARK, MAX_BODY}
 use Rattle.pv_journal.specs.declared.fault.OpenFault.{OpenFault}
@@ -49,10 +49,10 @@ module _ {D F : Type 0} where
   -- the next body, by the bytes at the gate: the cases exclude one another
   abbrev pub NextShows : List ℕ → ℕ → List ℕ → Result (Option ℕ) (OpenFault D F) → Type 0
   NextShows text gate into (Ok (Some n)) = HasBlock (drop gate text) (take n into)
-  NextShows text gate into (Ok None) = IsClosed (drop gate text)
+  NextShows text gate into (Ok None) = HasNoOpenGate (drop gate text)
   NextShows text gate into (Err (Disk failure)) = Unit {0}
   NextShows text gate into (Err (NotFormatted kept)) = ⊥
-  NextShows text gate into (Err (Broken at)) = (at ≡ gate) × IsBroken (drop gate text)
+  NextShows text gate into (Err (Broken at)) = (at ≡ gate) × HasBrokenBlock (drop gate text)
   NextShows text gate into (Err (TooMany count)) = (body : List ℕ) × HasBlock (drop gate text) body
 
   -- the next body, on a disk that spells those that were read and then these

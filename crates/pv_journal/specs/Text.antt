@@ -33,9 +33,9 @@ abbrev pub first_eight : List ℕ → List ℕ
 first_eight bytes = take MARK_SIZE (bytes ++ replicate MARK_SIZE 0)
 
 -- a gate is there that is not open
-abbrev pub IsClosed : List ℕ → Type 0
-IsClosed [] = ⊥
-IsClosed (gate ∷ rest) = gate ≢ 1
+abbrev pub HasNoOpenGate : List ℕ → Type 0
+HasNoOpenGate [] = ⊥
+HasNoOpenGate (gate ∷ rest) = gate ≢ 1
 
 -- the block of this body is there
 pub record HasBlock (bytes body : List ℕ) : Type 0 where
@@ -44,11 +44,11 @@ pub record HasBlock (bytes body : List ℕ) : Type 0 where
   pub size : IsBody body
 
 -- there is no byte, or the gate is open and the length after it is missing, is 0 or over 2,048, or passes the end
-abbrev pub IsBroken : List ℕ → Type 0
-IsBroken [] = Unit {0}
-IsBroken (gate ∷ []) = gate ≡ 1
-IsBroken (gate ∷ high ∷ []) = gate ≡ 1
-IsBroken (gate ∷ high ∷ low ∷ rest) =
+abbrev pub HasBrokenBlock : List ℕ → Type 0
+HasBrokenBlock [] = Unit {0}
+HasBrokenBlock (gate ∷ []) = gate ≡ 1
+HasBrokenBlock (gate ∷ high ∷ []) = gate ≡ 1
+HasBrokenBlock (gate ∷ high ∷ low ∷ rest) =
     let size = from_be_bytes w16 (high ∷ low ∷ []) in
     (gate ≡ 1) × ((size ≡ 0) ⊎ ((MAX_BODY < size) ⊎ (length rest < size)))
 

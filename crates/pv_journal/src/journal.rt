@@ -55,7 +55,13 @@ impl<D: Disk> Model for Journal<D> {
 
     ghost Value = { Log D };
 
-    ghost view = { λ j. record { disk = j.disk; limit = j.limit; count = j.count; gate = j.gate; phase = j.phase } };
+    ghost view = { λ j. record {
+      disk = j.disk;
+      limit = j.limit;
+      count = j.count;
+      gate = j.gate;
+      phase = j.phase;
+    } };
 
     ghost invariant = { λ j. IsPlaced D.reads
         (record { disk = j.disk; limit = j.limit; count = j.count; gate = j.gate; phase = j.phase }) };

@@ -5,10 +5,10 @@ use Rattle.std.proofs.lemmas.List.{length-take, take-take}
 use Rattle.pv_outside.specs.declared.failed.TheConstants.{COUNT_END}
 use Rattle.pv_outside.specs.declared.disk.TheConstants.{KEPT_CALLS, KEPT_BYTES}
 use Rattle.pv_outside.specs.Disk.{Elapses, IsLaterBy}
-use Rattle.pv_memory.specs.Medium.{Medium, Moment, moment_of, IsImage, LeftIn, IsForgotten, LeftSince, past_after}
+use Rattle.pv_memory.specs.Medium.{Medium, Moment, moment_of, IsImage, LeftIn, IsTooFarBack, LeftSince, past_after}
 
 -- a time is forgotten, or the clock counts and all moments since then are known
-is_known : (m : Medium) (t : ℕ) → IsForgotten m t ⊎ ((m.clock < COUNT_END) × (m.clock ≤ t + length m.past))
+is_known : (m : Medium) (t : ℕ) → IsTooFarBack m t ⊎ ((m.clock < COUNT_END) × (m.clock ≤ t + length m.past))
 is_known m t = elim (cases_lt m.clock COUNT_END) [
   | inl counts ↦ elim (cases_lt (t + length m.past) m.clock) [
     | inl far ↦ inl (inr far)
@@ -63,7 +63,7 @@ module _ (size : ℕ) (old new : Medium) (clock : new.clock ≡ min (old.clock +
 
   -- after a call, a crash since a time might have left what it might have left before, or what it may leave now, or the time is forgotten
   nothing_else : (t : ℕ) (image : List ℕ) → t ≤ old.clock → LeftSince new t image
-      → LeftSince old t image ⊎ (IsImage (moment_of new) image ⊎ IsForgotten new t)
+      → LeftSince old t image ⊎ (IsImage (moment_of new) image ⊎ IsTooFarBack new t)
   nothing_else t image le (inl forgotten) = inr (inr forgotten)
   nothing_else t image le (inr left) = elim (is_known new t) [
     | inl forgotten ↦ inr (inr forgotten)
@@ -78,7 +78,7 @@ module _ (size : ℕ) (old new : Medium) (clock : new.clock ≡ min (old.clock +
   ]
 
   -- a call forgets a time only if more than eight calls have succeeded since, or if the call wrote much
-  forgets : (t : ℕ) → t ≤ old.clock → IsForgotten new t → IsForgotten old t ⊎ (IsLaterBy (KEPT_CALLS + 1) t new.clock ⊎ (KEPT_BYTES < size))
+  forgets : (t : ℕ) → t ≤ old.clock → IsTooFarBack new t → IsTooFarBack old t ⊎ (IsLaterBy (KEPT_CALLS + 1) t new.clock ⊎ (KEPT_BYTES < size))
   forgets t le (inl ended) = inr (inl (omega arith))
   forgets t le (inr far) = elim (cases_lt KEPT_BYTES size) [
     | inl large ↦ inr (inr large)
@@ -89,7 +89,7 @@ module _ (size : ℕ) (old new : Medium) (clock : new.clock ≡ min (old.clock +
   ]
 
   -- a time that was forgotten stays so
-  stays : (t : ℕ) → t ≤ old.clock → IsForgotten old t → IsForgotten new t
+  stays : (t : ℕ) → t ≤ old.clock → IsTooFarBack old t → IsTooFarBack new t
   stays t le (inl ended) = inl (omega (arith, ended, clock))
   stays t le (inr far) = elim (cases_lt new.clock COUNT_END) [
     | inl counts ↦ elim (cases_lt KEPT_BYTES size) [
@@ -101,5 +101,5 @@ module _ (size : ℕ) (old new : Medium) (clock : new.clock ≡ min (old.clock +
 
   -- each call of a disk in memory lets time go on as the trait says
   pub elapses : old.clock ≤ COUNT_END
-      → Elapses old.clock new.clock (IsForgotten old) (IsForgotten new) (LeftSince old) (LeftSince new) (IsImage (moment_of new)) size
+      → Elapses old.clock new.clock (IsTooFarBack old) (IsTooFarBack new) (LeftSince old) (LeftSince new) (IsImage (moment_of new)) size
   elapses ends = record { later = omega (arith, clock, ends); stays = stays; nothing_else = nothing_else; keeps = keeps; forgets = forgets }

@@ -55,12 +55,12 @@ LeftIn [] image = ⊥
 LeftIn (m ∷ moments) image = IsImage m image ⊎ LeftIn moments image
 
 -- the time lies further back than the moments that are known, or the clock is at its end
-abbrev pub IsForgotten : Medium → ℕ → Type 0
-IsForgotten m t = (COUNT_END ≤ m.clock) ⊎ (t + length m.past < m.clock)
+abbrev pub IsTooFarBack : Medium → ℕ → Type 0
+IsTooFarBack m t = (COUNT_END ≤ m.clock) ⊎ (t + length m.past < m.clock)
 
 -- the image is one that a crash might have left since this time
 abbrev pub LeftSince : Medium → ℕ → List ℕ → Type 0
-LeftSince m t image = IsForgotten m t ⊎ LeftIn (moment_of m ∷ take (m.clock - t) m.past) image
+LeftSince m t image = IsTooFarBack m t ⊎ LeftIn (moment_of m ∷ take (m.clock - t) m.past) image
 
 -- a disk of which no calls are named to fail reports how much it still takes
 abbrev pub budget_of : Medium → Option Budget
@@ -135,5 +135,5 @@ abbrev pub can_pass : Medium → Bool
 can_pass m = not (fails_now m.plan) && left_passes m.left
 
 -- a write up to this end has room, and is not one more than a disk takes between two syncs
-abbrev pub has_room : Medium → ℕ → Bool
-has_room m end = nat_le end m.room && nat_lt (length m.pending) MAX_UNSYNCED
+abbrev pub accepts_write : Medium → ℕ → Bool
+accepts_write m end = nat_le end m.room && nat_lt (length m.pending) MAX_UNSYNCED

@@ -91,7 +91,11 @@ pub(crate) fn restore(text: &mut Vec<u8>, synced: &mut Vec<u8>, pending: &[Range
 
     // It is the image of this number, and one that a crash may leave.
     ensures image { text.new.items ≡ image_bytes text.old.items synced.old.items pending.now image }
-    ensures left { IsImage (record { text = text.old.items; end = length synced.old.items; pending = pending.now }) text.new.items }
+    ensures left { IsImage (record {
+      text = text.old.items;
+      end = length synced.old.items;
+      pending = pending.now;
+    }) text.new.items }
     ensures same { synced.new.items ≡ text.new.items }
 
     // Both keep their room.

@@ -4,7 +4,7 @@ ghost use Rattle.pv_outside.specs.Counts.{Rose};
 ghost use Rattle.pv_outside.specs.declared.failed.TheConstants.{COUNT_END};
 ghost use Rattle.pv_outside.specs.Disk.{budget_after_call, budget_after_sync};
 ghost use Rattle.pv_outside.specs.Calls.{WritesNothing, WritesAt, IsFused};
-ghost use Rattle.pv_memory.specs.Medium.{Medium, moment_of, IsImage, IsForgotten, LeftSince, budget_of, can_pass, has_room, image_of, disk_after_count, disk_after_failure, disk_after_read, disk_after_write, disk_after_sync};
+ghost use Rattle.pv_memory.specs.Medium.{Medium, moment_of, IsImage, IsTooFarBack, LeftSince, budget_of, can_pass, accepts_write, image_of, disk_after_count, disk_after_failure, disk_after_read, disk_after_write, disk_after_sync};
 ghost use Rattle.pv_memory.specs.MediumLaws.{now_counts, only_now, now_is_known, new_disk};
 ghost use Rattle.std.specs.Prelude.{refl};
 ghost use Rattle.std.proofs.Common.{inl};
@@ -141,7 +141,7 @@ impl Reports for MemDisk {
 
     ghost left_since = { LeftSince };
 
-    ghost has_forgotten = { IsForgotten };
+    ghost has_forgotten = { IsTooFarBack };
 
     ghost budget = { budget_of };
 
@@ -198,7 +198,7 @@ impl Disk for MemDisk {
 
         // It fails exactly if it is named to, no further call passes or it has no room, and then it changes
         // nothing.
-        ensures exact { is_ok result ≡ (can_pass self.old && has_room self.old (at + length bytes.now)) }
+        ensures exact { is_ok result ≡ (can_pass self.old && accepts_write self.old (at + length bytes.now)) }
         ensures done { OnOk result (self.new ≡ disk_after_write at bytes.now self.old) }
         ensures err { OnErr result (self.new ≡ disk_after_failure self.old) }
     {

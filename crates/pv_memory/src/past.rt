@@ -31,7 +31,12 @@ impl Model for Step {
 
     ghost Value = { Change };
 
-    ghost view = { λ s. record { range = s.range; replaced = s.replaced.items; pending = s.pending.items; end = s.end } };
+    ghost view = { λ s. record {
+      range = s.range;
+      replaced = s.replaced.items;
+      pending = s.pending.items;
+      end = s.end;
+    } };
 
     ghost invariant = { λ s. (KEPT_BYTES ≤ vec_capacity s.replaced)
         × (MAX_UNSYNCED ≤ vec_capacity s.pending) };

@@ -33,7 +33,15 @@ impl MemSink {
     /// from 0.
     pub fn new(alloc: Global, room: usize, fails: &[u64]) -> Result<MemSink, AllocError>
         ensures { IfOk result (λ s. s
-            ≡ record { bytes = []; room = room; plan = record { call = 0; failing = fails.now; faults = 0 } }) }
+            ≡ record {
+              bytes = [];
+              room = room;
+              plan = record {
+                call = 0;
+                failing = fails.now;
+                faults = 0;
+              };
+            }) }
     {
         Ok(MemSink {
             bytes: Vec::with_capacity(alloc, room)?,

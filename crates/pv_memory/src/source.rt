@@ -25,7 +25,12 @@ impl Model for MemSource {
 
     ghost Value = { SourceState };
 
-    ghost view = { λ s. record { read = take s.at s.bytes.items; left = drop s.at s.bytes.items; ended = s.ended; plan = s.faults } };
+    ghost view = { λ s. record {
+      read = take s.at s.bytes.items;
+      left = drop s.at s.bytes.items;
+      ended = s.ended;
+      plan = s.faults;
+    } };
 
     ghost invariant = { λ s. s.at ≤ vec_len s.bytes };
 }
@@ -34,7 +39,16 @@ impl MemSource {
     /// A source of these bytes, of which the calls of these numbers fail.
     pub fn new(alloc: Global, bytes: &[u8], fails: &[u64]) -> Result<MemSource, AllocError>
         ensures { IfOk result (λ s. s
-            ≡ record { read = []; left = bytes.now; ended = false; plan = record { call = 0; failing = fails.now; faults = 0 } }) }
+            ≡ record {
+              read = [];
+              left = bytes.now;
+              ended = false;
+              plan = record {
+                call = 0;
+                failing = fails.now;
+                faults = 0;
+              };
+            }) }
     {
         Ok(MemSource {
             bytes: Vec::from_slice(alloc, bytes)?,

@@ -13,7 +13,7 @@ use Rattle.std.proofs.lemmas.List.Folds.{list_any-append, find-append}
 use mir.Val.{bool_byte}
 use Rattle.pv_page.specs.Names.{Name}
 use Rattle.pv_network.specs.declared.record.Record.{Record}
-use Rattle.pv_network.specs.Edits.{same_name, puts, is_by, frame_at, frame_count, last_number}
+use Rattle.pv_network.specs.Edits.{same_name, puts, is_by, frame_under, count_of_frames, last_number}
 
 -- ---- names
 
@@ -59,7 +59,7 @@ none-option_map None = refl
 none-option_map (Some x) = refl
 
 -- a name has no frame where no record is of it
-pub none-frame_at : (edits : List Record) (name : Name) → is_none (frame_at edits name) ≡ not (list_any (puts name) edits)
+pub none-frame_at : (edits : List Record) (name : Name) → is_none (frame_under edits name) ≡ not (list_any (puts name) edits)
 none-frame_at edits name = none-option_map (find (puts name) (reverse edits)) ∙ none-reverse (puts name) edits
 
 -- ---- how many names have a frame
@@ -69,17 +69,17 @@ arranged : (before here same : Bool) (count : ℕ) → (same ≡ true → before
 arranged before here same count agree = grind arith
 
 -- a record more is a frame more, unless its name had one
-pub frame_count-push : (edits : List Record) (edit : Record) → frame_count (edits ++ edit ∷ []) ≡ frame_count edits + cond (list_any (puts edit.name) edits) 0 1
-frame_count-push [] edit = refl
-frame_count-push (x ∷ edits) edit =
+pub count_of_frames-push : (edits : List Record) (edit : Record) → count_of_frames (edits ++ edit ∷ []) ≡ count_of_frames edits + cond (list_any (puts edit.name) edits) 0 1
+count_of_frames-push [] edit = refl
+count_of_frames-push (x ∷ edits) edit =
     let later : list_any (puts x.name) (edits ++ edit ∷ []) ≡ (list_any (puts x.name) edits || same_name x.name edit.name) =
     list_any-append (puts x.name) edits (edit ∷ [])
     ∙ ap (λ (t : Bool). list_any (puts x.name) edits || t) (or-false (same_name edit.name x.name) ∙ is_name_comm edit.name x.name) in
     let agree : same_name x.name edit.name ≡ true → list_any (puts x.name) edits ≡ list_any (puts edit.name) edits =
     λ is. ap (λ (n : Name). list_any (puts n) edits) (equal_names x.name edit.name is) in
-    ap (λ (t : Bool). cond t 0 1 + frame_count (edits ++ edit ∷ [])) later
-    ∙ ap (λ (n : ℕ). cond (list_any (puts x.name) edits || same_name x.name edit.name) 0 1 + n) (frame_count-push edits edit)
-    ∙ arranged (list_any (puts x.name) edits) (list_any (puts edit.name) edits) (same_name x.name edit.name) (frame_count edits) agree
+    ap (λ (t : Bool). cond t 0 1 + count_of_frames (edits ++ edit ∷ [])) later
+    ∙ ap (λ (n : ℕ). cond (list_any (puts x.name) edits || same_name x.name edit.name) 0 1 + n) (count_of_frames-push edits edit)
+    ∙ arranged (list_any (puts x.name) edits) (list_any (puts edit.name) edits) (same_name x.name edit.name) (count_of_frames edits) agree
 
 -- ---- the next number
 
@@ -103,9 +103,9 @@ count_by-grows p xs a b x is passes less =
     omega (arith, more, parts, ap (count_by p) prefix)
 
 -- a count of one for a name that is new
-pub frame_count_more : (edits : List Record) (edit : Record) (is_new : Bool) (count : ℕ) → is_new ≡ is_none (frame_at edits edit.name) → count ≡ frame_count edits → count + bool_byte is_new ≡ frame_count (edits ++ edit ∷ [])
+pub frame_count_more : (edits : List Record) (edit : Record) (is_new : Bool) (count : ℕ) → is_new ≡ is_none (frame_under edits edit.name) → count ≡ count_of_frames edits → count + bool_byte is_new ≡ count_of_frames (edits ++ edit ∷ [])
 frame_count_more edits edit is_new count new counted =
-    counts is_new (list_any (puts edit.name) edits) (new ∙ none-frame_at edits edit.name) ∙ sym (frame_count-push edits edit)
+    counts is_new (list_any (puts edit.name) edits) (new ∙ none-frame_at edits edit.name) ∙ sym (count_of_frames-push edits edit)
   where
-    counts : (new named : Bool) → new ≡ not named → count + bool_byte new ≡ frame_count edits + cond named 0 1
+    counts : (new named : Bool) → new ≡ not named → count + bool_byte new ≡ count_of_frames edits + cond named 0 1
     counts new named is = grind (arith, counted)

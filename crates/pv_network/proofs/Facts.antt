@@ -7,7 +7,7 @@ use Rattle.pv_network.specs.declared.outcome.Outcome.{Outcome}
 use Rattle.pv_network.specs.declared.outcome.Outcome.TheVariants as outcomes
 use Rattle.pv_network.specs.declared.record.Record.{Record}
 use Rattle.pv_network.specs.declared.record.TheConstants.{OPERATOR}
-use Rattle.pv_network.specs.Edits.{frame_count, last_number, edit_at}
+use Rattle.pv_network.specs.Edits.{count_of_frames, last_number, edit_at}
 use Rattle.pv_network.specs.Replies.{stored_reply, frames_full_reply, full_reply, bad_line_reply}
 use Rattle.pv_network.specs.Centre.{arrival_of}
 use Rattle.pv_network.specs.Link.{next_number}
@@ -32,7 +32,7 @@ abbrev edit : ℕ → ℕ → ℕ → Record
 edit editor number letter = record { editor = editor; number = number; name = record { page = 1; letter = letter }; frame = blank_frame }
 
 -- two edits of one frame are one frame, and the frames a and b of a page are two
-pub frames : (frame_count (edit 0 1 97 ∷ edit 0 2 97 ∷ []) ≡ 1) × (frame_count (edit 0 1 97 ∷ edit 0 2 98 ∷ []) ≡ 2)
+pub frames : (count_of_frames (edit 0 1 97 ∷ edit 0 2 97 ∷ []) ≡ 1) × (count_of_frames (edit 0 1 97 ∷ edit 0 2 98 ∷ []) ≡ 2)
 frames = (refl, refl)
 
 -- the last edit of a name counts

@@ -15,7 +15,7 @@ use Rattle.pv_network.specs.Centre.{CentreStands, Index, arrival_of, with_next}
 use Rattle.pv_network.specs.Link.{Link, link_in, is_packets_full, next_number, with_packet, with_acknowledgement}
 use Rattle.pv_network.specs.Sound.{IsGenuine}
 use Rattle.pv_network.specs.Standing.{State, StandsFor}
-use Rattle.pv_network.specs.Step.{frame_of_cells, step_of_send, step_of_acknowledging, with_applied, step_of_arrival, step_of_deliver}
+use Rattle.pv_network.specs.Step.{frame_of_cells, step_of_send, step_of_acknowledging, with_next_at, step_of_arrival, step_of_deliver}
 use Rattle.pv_network.specs.World.{World, link_at, centre_at}
 use Rattle.pv_network.proofs.Lists.{all_get}
 use Rattle.pv_network.proofs.Soundness.{sound_packet, sound_count, sound_applied, taken_is_next}
@@ -63,7 +63,7 @@ module _ (s : State) (w : World) (stands : StandsFor s w) (c : ℕ) where
 
       -- the centre takes the record
       pub takes : arrival ≡ arrivals.Taken → (new : Index) → (slice_get w.update.edits (centre_at w c).applied ≡ Some packet.edit → CentreStands w.update.record_limit w.update.edits new (with_next (centre_at w c)))
-          → StandsFor (record s { centres = set s.centres c new }) (with_applied w c)
+          → StandsFor (record s { centres = set s.centres c new }) (with_next_at w c)
       takes is new follows =
           let genuine = all_get (IsGenuine w.update.edits) (link_at w c).down index packet (stands.sound.links c).packets found_there in
           let next = (taken_is_next (centre_at w c).applied w.update.record_limit packet.number (how_there ∙ is)) in

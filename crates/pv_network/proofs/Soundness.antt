@@ -22,15 +22,15 @@ use Rattle.pv_network.specs.declared.packet.Packet.{Packet}
 use Rattle.pv_network.specs.declared.record.Record.{Record}
 use Rattle.pv_network.specs.declared.record.TheConstants.{OPERATOR}
 use Rattle.pv_network.specs.Centre.{Centre, new_centre, arrival_of}
-use Rattle.pv_network.specs.Edits.{puts, is_by, frame_at, frame_count, last_number}
+use Rattle.pv_network.specs.Edits.{puts, is_by, frame_under, count_of_frames, last_number}
 use Rattle.pv_network.specs.Link.{Link, new_link, is_packets_full, next_number, with_packet, with_acknowledgement}
-use Rattle.pv_network.specs.OneList.{IsNextOfEditor, AreNumbered, StandsAt, HasOnePlaceEach, IsReceived, OneList}
+use Rattle.pv_network.specs.OneList.{IsNextOfEditor, HasNumbersInOrder, StandsAt, HasOnePlaceEach, MatchesReceipt, OneList}
 use Rattle.pv_network.specs.Run.{EachFollows, MayFollow}
 use Rattle.pv_network.specs.Sound.{IsGenuine, IsSoundLink, IsSound}
-use Rattle.pv_network.specs.Step.{world_with, step_of_judgement, frame_of_cells, step_of_seed, step_of_packing, step_of_number, step_of_send, step_of_acknowledging, with_applied, step_of_arrival, step_of_packet, step_of_deliver, happens, after}
+use Rattle.pv_network.specs.Step.{world_with, step_of_judgement, frame_of_cells, step_of_put, step_of_packing, step_of_number, step_of_send, step_of_acknowledging, with_next_at, step_of_arrival, step_of_packet, step_of_deliver, happens, after}
 use Rattle.pv_network.specs.UpdateCentre.{Update, next_record, refusal_reply, judgement_by, judgement_of}
 use Rattle.pv_network.specs.World.{World, Receipt, start, centre_at, link_at, with_centre, with_link, with_edit}
-use Rattle.pv_network.proofs.Counts.{none-frame_at, frame_count-push, last_number-push, count_by-grows}
+use Rattle.pv_network.proofs.Counts.{none-frame_at, count_of_frames-push, last_number-push, count_by-grows}
 use Rattle.pv_network.proofs.Lists.{set_at, all_get, get_prefix, get_push, get_last}
 
 -- what holds of the world on each side of a test holds of the one that it chooses
@@ -74,7 +74,7 @@ module _ (w : World) (c : ℕ) (sound : IsSound w) where
 -- ---- an edit that is stored
 
 -- what is kept in a list is kept in a longer one
-kept_longer : (edits more : List Record) (receipt : Receipt) → IsReceived edits receipt → IsReceived (edits ++ more) receipt
+kept_longer : (edits more : List Record) (receipt : Receipt) → MatchesReceipt edits receipt → MatchesReceipt (edits ++ more) receipt
 kept_longer edits more receipt kept = record {
   edit = kept.edit;
   there = get_prefix edits more receipt.place kept.edit kept.there;
@@ -109,7 +109,7 @@ neither_below : (a b : ℕ) → (a < b → ⊥) → (b < a → ⊥) → a ≡ b
 neither_below a b below above = grind (arith, nat_tests, below, above)
 
 -- in a list with numbers in order an editor and a number have one place
-one_place : (edits : List Record) → AreNumbered edits → HasOnePlaceEach edits
+one_place : (edits : List Record) → HasNumbersInOrder edits → HasOnePlaceEach edits
 one_place edits numbered editor number one other here there =
     neither_below one other (λ less. earlier one other here there less) (λ less. earlier other one there here less)
   where
@@ -132,12 +132,12 @@ last_push edits edit next last e =
     go false is = omega (arith, last e)
 
 -- a record leaves the number of frames within a limit if there is room for a new name's
-frames_push : (edits : List Record) (edit : Record) (limit : ℕ) → frame_count edits ≤ limit → (frame_at edits edit.name ≡ None → frame_count edits < limit) → frame_count (edits ++ edit ∷ []) ≤ limit
+frames_push : (edits : List Record) (edit : Record) (limit : ℕ) → count_of_frames edits ≤ limit → (frame_under edits edit.name ≡ None → count_of_frames edits < limit) → count_of_frames (edits ++ edit ∷ []) ≤ limit
 frames_push edits edit limit within room =
-    go (frame_at edits edit.name) (list_any (puts edit.name) edits) (none-frame_at edits edit.name) (frame_count-push edits edit) room
+    go (frame_under edits edit.name) (list_any (puts edit.name) edits) (none-frame_at edits edit.name) (count_of_frames-push edits edit) room
   where
-    go : (frame : Option Content) (named : Bool) → is_none frame ≡ not named → frame_count (edits ++ edit ∷ []) ≡ frame_count edits + cond named 0 1
-        → (frame ≡ None → frame_count edits < limit) → frame_count (edits ++ edit ∷ []) ≤ limit
+    go : (frame : Option Content) (named : Bool) → is_none frame ≡ not named → count_of_frames (edits ++ edit ∷ []) ≡ count_of_frames edits + cond named 0 1
+        → (frame ≡ None → count_of_frames edits < limit) → count_of_frames (edits ++ edit ∷ []) ≤ limit
     go frame true is count less = omega (arith, count, within)
     go None false is count less = omega (arith, count, less refl)
     go (Some frame) false is count less = absurd cc
@@ -147,13 +147,13 @@ sound_edit : (w : World) (edit : Record) → IsSound w → MayFollow w.update.fr
 sound_edit w edit sound follows =
     let edits = w.update.edits in
     let longer = edits ++ edit ∷ [] in
-    let numbered : AreNumbered longer = follows_push IsNextOfEditor edits edit sound.law.numbered (follows.number ∙ ap (λ (n : ℕ). n + 1) (sound.last edit.editor)) in
+    let numbered : HasNumbersInOrder longer = follows_push IsNextOfEditor edits edit sound.law.numbered (follows.number ∙ ap (λ (n : ℕ). n + 1) (sound.last edit.editor)) in
     record {
       law = record {
         run = follows_push (MayFollow w.update.frame_limit w.update.record_limit) edits edit sound.law.run follows;
         one_place = one_place longer numbered;
         numbered = numbered;
-        kept = All-push (IsReceived longer) w.receipts _ (λ k d within. kept_longer edits (edit ∷ []) _ (sound.law.kept k d within))
+        kept = All-push (MatchesReceipt longer) w.receipts _ (λ k d within. kept_longer edits (edit ∷ []) _ (sound.law.kept k d within))
             (record { edit = edit; there = get_last edits edit; by = refl; numbered = refl });
         prefixes = λ c. omega (arith, sound.law.prefixes c, length-append edits (edit ∷ []));
       };
@@ -170,33 +170,33 @@ not_refused : (frames records : Bool) (a b : List ℕ) → cond frames (Some a) 
 not_refused frames records a b is = grind arith
 
 -- what is judged and not refused may follow
-may_follow : (u : Update) (name : Name) (frame : Content) → IsValid frame → refusal_reply u (is_none (frame_at u.edits name)) ≡ None
+may_follow : (u : Update) (name : Name) (frame : Content) → IsValid frame → refusal_reply u (is_none (frame_under u.edits name)) ≡ None
     → MayFollow u.frame_limit u.record_limit u.edits (next_record u OPERATOR name frame)
 may_follow u name frame valid is =
-    let full = leb u.frame_limit (frame_count u.edits) in
-    let tests = not_refused (is_none (frame_at u.edits name) && full) (leb u.record_limit (length u.edits)) _ _ is in
+    let full = leb u.frame_limit (count_of_frames u.edits) in
+    let tests = not_refused (is_none (frame_under u.edits name) && full) (leb u.record_limit (length u.edits)) _ _ is in
     record {
       editor = refl;
       number = refl;
       valid = valid;
-      frame_room = λ new. leb-false u.frame_limit (frame_count u.edits) (ap (λ (o : Option Content). is_none o && full) (sym new) ∙ tests.0);
+      frame_room = λ new. leb-false u.frame_limit (count_of_frames u.edits) (ap (λ (o : Option Content). is_none o && full) (sym new) ∙ tests.0);
       record_room = leb-false u.record_limit (length u.edits) tests.1;
     }
 
 -- a sound world stays sound if a valid frame is judged
 pub sound_judged : (w : World) (name : Name) (frame : Content) → IsValid frame → IsSound w → IsSound (step_of_judgement w (judgement_of w.update OPERATOR name frame)).0
-sound_judged w name frame valid sound = by (refusal_reply w.update (is_none (frame_at w.update.edits name))) refl
+sound_judged w name frame valid sound = by (refusal_reply w.update (is_none (frame_under w.update.edits name))) refl
   where
-    by : (refusal : Option (List ℕ)) → refusal_reply w.update (is_none (frame_at w.update.edits name)) ≡ refusal
+    by : (refusal : Option (List ℕ)) → refusal_reply w.update (is_none (frame_under w.update.edits name)) ≡ refusal
         → IsSound (world_with w (judgement_by w.update (next_record w.update OPERATOR name frame) refusal).stored)
     by None is = sound_edit w _ sound (may_follow w.update name frame valid is)
     by (Some refusal) is = sound
 
 -- a sound world stays sound whatever row is put: one that is no row of cells is not judged
-sound_seed : (w : World) (name : Name) (row : List ℕ) → IsSound w → IsSound (step_of_seed w name (frame_of_cells row)).0
+sound_seed : (w : World) (name : Name) (row : List ℕ) → IsSound w → IsSound (step_of_put w name (frame_of_cells row)).0
 sound_seed w name row sound = by (list_all (λ cell. leb cell LAST_CELL) row) (AllPass-from_list_all (λ cell. leb cell LAST_CELL) row)
   where
-    by : (cells : Bool) → (cells ≡ true → (k d : ℕ) → k < length row → leb (get_or row k d) LAST_CELL ≡ true) → IsSound (step_of_seed w name (cond cells (Some (frame_of_row row)) None)).0
+    by : (cells : Bool) → (cells ≡ true → (k d : ℕ) → k < length row → leb (get_or row k d) LAST_CELL ≡ true) → IsSound (step_of_put w name (cond cells (Some (frame_of_row row)) None)).0
     by true all = sound_judged w name (frame_of_row row) (IsValid-frame_of_row row (λ k d within. leb-true (get_or row k d) LAST_CELL (all refl k d within))) sound
     by false all = sound
 
@@ -241,7 +241,7 @@ sound_acknowledged : (w : World) (c : ℕ) → IsSound w → IsSound (step_of_ac
 sound_acknowledged w c sound = choice IsSound (is_packets_full w.links) _ _ (λ _. sound) (λ _. sound_count w c sound)
 
 -- the record that comes next is one of the list's
-pub sound_applied : (w : World) (c : ℕ) (packet : Packet) → IsSound w → IsGenuine w.update.edits packet → packet.number ≡ (centre_at w c).applied → IsSound (with_applied w c)
+pub sound_applied : (w : World) (c : ℕ) (packet : Packet) → IsSound w → IsGenuine w.update.edits packet → packet.number ≡ (centre_at w c).applied → IsSound (with_next_at w c)
 sound_applied w c packet sound is next =
     let here = sound.links c in
     sound_with_centre w c sound _ (omega (arith, slice_get_within w.update.edits packet.number packet.edit is, next)) (record {
@@ -259,7 +259,7 @@ pub sound_deliver : (w : World) (c index : ℕ) → IsSound w → IsSound (step_
 sound_deliver w c index sound = arrives (slice_get (link_at w c).down index) refl
   where
     by : (packet : Packet) (arrival : Arrival) → IsGenuine w.update.edits packet → arrival_of (centre_at w c).applied w.update.record_limit packet.number ≡ arrival → IsSound (step_of_arrival w c packet.number arrival).0
-    by packet arrivals.Taken is how = sound_acknowledged (with_applied w c) c (sound_applied w c packet sound is (taken_is_next (centre_at w c).applied w.update.record_limit packet.number how))
+    by packet arrivals.Taken is how = sound_acknowledged (with_next_at w c) c (sound_applied w c packet sound is (taken_is_next (centre_at w c).applied w.update.record_limit packet.number how))
     by packet arrivals.Old is how = sound_acknowledged w c sound
     by packet arrivals.Early is how = sound_acknowledged w c sound
     by packet arrivals.Full is how = sound

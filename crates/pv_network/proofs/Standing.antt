@@ -8,7 +8,7 @@ use Rattle.pv_page.specs.Names.{Name}
 use Rattle.pv_network.specs.Edits.{puts, edit_at}
 use Rattle.pv_network.specs.Centre.{Centre, CentreStands, Index, entry_of, new_centre, with_next}
 use Rattle.pv_network.specs.Link.{Link}
-use Rattle.pv_network.specs.UpdateCentre.{Update, UdcStands, with_stored}
+use Rattle.pv_network.specs.UpdateCentre.{Update, UdcStands, with_judgement}
 use Rattle.pv_network.specs.World.{World, centre_at, with_centre, with_link, with_edit}
 use Rattle.pv_network.specs.Step.{world_with}
 use Rattle.pv_network.specs.Sound.{IsSound}
@@ -61,7 +61,7 @@ module _ (s : State) (w : World) (stands : StandsFor s w) where
   out_stands out = record { sound = stands.sound; update = stands.update; centres = stands.centres; links = stands.links }
 
   -- another Update Centre, which stands for the list with what was stored, leaves all else standing
-  pub update_replaced : (stored : Option Record) (here : Update) → UdcStands (with_stored w.update stored) here → IsSound (world_with w stored)
+  pub update_replaced : (stored : Option Record) (here : Update) → UdcStands (with_judgement w.update stored) here → IsSound (world_with w stored)
       → StandsFor (record s { update = here }) (world_with w stored)
   update_replaced None here is sound = record { sound = sound; update = is; centres = stands.centres; links = stands.links }
   update_replaced (Some edit) here is sound = record {

@@ -23,13 +23,13 @@ abbrev pub edit_at : List Record → Name → Option Record
 edit_at edits name = find (puts name) (reverse edits)
 
 -- the frame that the edits give a name: that of the last record of the name
-abbrev pub frame_at : List Record → Name → Option Content
-frame_at edits name = option_map (λ edit. edit.frame) (edit_at edits name)
+abbrev pub frame_under : List Record → Name → Option Content
+frame_under edits name = option_map (λ edit. edit.frame) (edit_at edits name)
 
 -- how many names have a frame: a record counts if no later one is of its name
-abbrev pub frame_count : List Record → ℕ
-frame_count [] = 0
-frame_count (edit ∷ later) = (if list_any (puts edit.name) later then 0 else 1) + frame_count later
+abbrev pub count_of_frames : List Record → ℕ
+count_of_frames [] = 0
+count_of_frames (edit ∷ later) = (if list_any (puts edit.name) later then 0 else 1) + count_of_frames later
 
 -- the number of an editor's last record, 0 if he has none
 abbrev pub last_number : List Record → ℕ → ℕ

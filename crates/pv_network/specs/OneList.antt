@@ -13,8 +13,8 @@ abbrev pub IsNextOfEditor : List Record → Record → Type 0
 IsNextOfEditor before edit = edit.number ≡ count_by (is_by edit.editor) before + 1
 
 -- so the records of each editor have the numbers 1, 2, 3 and on, in order
-abbrev pub AreNumbered : List Record → Type 0
-AreNumbered edits = EachFollows IsNextOfEditor edits
+abbrev pub HasNumbersInOrder : List Record → Type 0
+HasNumbersInOrder edits = EachFollows IsNextOfEditor edits
 
 -- the record of an editor under a number stands at this place
 pub record StandsAt (edits : List Record) (editor number place : ℕ) : Type 0 where
@@ -29,8 +29,8 @@ HasOnePlaceEach edits = (editor number one other : ℕ)
     → StandsAt edits editor number one → StandsAt edits editor number other → one ≡ other
 
 -- the record that was acknowledged stands at the place of its receipt
-abbrev pub IsReceived : List Record → Receipt → Type 0
-IsReceived edits receipt = StandsAt edits receipt.editor receipt.number receipt.place
+abbrev pub MatchesReceipt : List Record → Receipt → Type 0
+MatchesReceipt edits receipt = StandsAt edits receipt.editor receipt.number receipt.place
 
 -- The edit list is a run from nothing within the limits. It holds every acknowledged edit once, in order: an editor and a
 -- number have one place, an editor's numbers are 1, 2, 3 and on, and each acknowledged edit stands at the place of its
@@ -38,8 +38,8 @@ IsReceived edits receipt = StandsAt edits receipt.editor receipt.number receipt.
 pub record IsOneList (u : Update) (centres : List Centre) (receipts : List Receipt) : Type 0 where
   pub run : IsRun u.frame_limit u.record_limit u.edits
   pub one_place : HasOnePlaceEach u.edits
-  pub numbered : AreNumbered u.edits
-  pub kept : All (IsReceived u.edits) receipts
+  pub numbered : HasNumbersInOrder u.edits
+  pub kept : All (MatchesReceipt u.edits) receipts
   pub prefixes : (c : ℕ) → (slice_index_or centres c new_centre).applied ≤ length u.edits
 
 -- the law of a world

@@ -3,7 +3,7 @@ use Rattle.std.specs.Prelude.{◌≡◌, ℕ, ◌+◌, ◌<◌, List, length, ta
 use Rattle.pv_frame.specs.Errors.{IsValid}
 use Rattle.pv_network.specs.declared.record.Record.{Record}
 use Rattle.pv_network.specs.declared.record.TheConstants.{OPERATOR}
-use Rattle.pv_network.specs.Edits.{frame_at, frame_count, last_number}
+use Rattle.pv_network.specs.Edits.{frame_under, count_of_frames, last_number}
 
 -- each record follows those before it in this way
 abbrev pub EachFollows : (List Record → Record → Type 0) → List Record → Type 0
@@ -16,7 +16,7 @@ pub record MayFollow (frames records : ℕ) (before : List Record) (edit : Recor
   pub editor : edit.editor ≡ OPERATOR
   pub number : edit.number ≡ last_number before edit.editor + 1
   pub valid : IsValid edit.frame
-  pub frame_room : frame_at before edit.name ≡ None → frame_count before < frames
+  pub frame_room : frame_under before edit.name ≡ None → count_of_frames before < frames
   pub record_room : length before < records
 
 -- each record of the list may follow those before it

@@ -4,7 +4,7 @@ use Rattle.std.specs.List.{count_by}
 use Rattle.pv_network.specs.declared.packet.Packet.{Packet}
 use Rattle.pv_network.specs.declared.record.Record.{Record}
 use Rattle.pv_network.specs.Centre.{Centre}
-use Rattle.pv_network.specs.Edits.{is_by, frame_count, last_number}
+use Rattle.pv_network.specs.Edits.{is_by, count_of_frames, last_number}
 use Rattle.pv_network.specs.Link.{Link}
 use Rattle.pv_network.specs.OneList.{OneList}
 use Rattle.pv_network.specs.World.{World, centre_at, link_at}
@@ -26,5 +26,5 @@ pub record IsSound (w : World) : Type 0 where
   pub law : OneList w
   pub last : (editor : ℕ) → last_number w.update.edits editor ≡ count_by (is_by editor) w.update.edits
   pub records : length w.update.edits ≤ w.update.record_limit
-  pub frames : frame_count w.update.edits ≤ w.update.frame_limit
+  pub frames : count_of_frames w.update.edits ≤ w.update.frame_limit
   pub links : (c : ℕ) → IsSoundLink w.update.edits (centre_at w c) (link_at w c)

@@ -29,10 +29,10 @@ abbrev pub Performs : {A : Type 0} → State → State → A → (World → Worl
 Performs old new outcome step = (w : World) → StandsFor old w → StandsFor new (step w).0 × (outcome ≡ (step w).1)
 
 -- the event is at a centre that there is, or puts a row of cells
-abbrev pub CanHappen : State → Event → Type 0
-CanHappen s (events.Seed name row) = IsRow row
-CanHappen s (events.Send centre) = centre < length s.centres
-CanHappen s (events.Deliver centre index) = centre < length s.centres
-CanHappen s (events.View centre name) = centre < length s.centres
-CanHappen s (events.At centre) = centre < length s.centres
-CanHappen s events.List = Unit {0}
+abbrev pub IsPossible : State → Event → Type 0
+IsPossible s (events.Seed name row) = IsRow row
+IsPossible s (events.Send centre) = centre < length s.centres
+IsPossible s (events.Deliver centre index) = centre < length s.centres
+IsPossible s (events.View centre name) = centre < length s.centres
+IsPossible s (events.At centre) = centre < length s.centres
+IsPossible s events.List = Unit {0}

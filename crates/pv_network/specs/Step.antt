@@ -16,7 +16,7 @@ use Rattle.pv_network.specs.declared.event.Event.TheVariants as events
 use Rattle.pv_network.specs.declared.outcome.Outcome.{Outcome}
 use Rattle.pv_network.specs.declared.outcome.Outcome.TheVariants as outcomes
 use Rattle.pv_network.specs.Centre.{with_next, arrival_of}
-use Rattle.pv_network.specs.Edits.{frame_at}
+use Rattle.pv_network.specs.Edits.{frame_under}
 use Rattle.pv_network.specs.Link.{is_packets_full, next_number, with_packet, with_acknowledgement}
 use Rattle.pv_network.specs.Replies.{bad_line_reply}
 use Rattle.pv_network.specs.UpdateCentre.{Judgement, judgement_of}
@@ -38,9 +38,9 @@ abbrev pub frame_of_cells : List ℕ → Option Content
 frame_of_cells row = if list_all (λ cell. nat_le cell LAST_CELL) row then Some (frame_of_row row) else None
 
 -- the operator puts a frame under a name; what is no frame is no request
-abbrev pub step_of_seed : World → Name → Option Content → World × Outcome
-step_of_seed w name None = (w, outcomes.Reply bad_line_reply)
-step_of_seed w name (Some frame) = step_of_judgement w (judgement_of w.update OPERATOR name frame)
+abbrev pub step_of_put : World → Name → Option Content → World × Outcome
+step_of_put w name None = (w, outcomes.Reply bad_line_reply)
+step_of_put w name (Some frame) = step_of_judgement w (judgement_of w.update OPERATOR name frame)
 
 -- ---- view
 
@@ -51,7 +51,7 @@ view_answer name (Some frame) = outcomes.Shown (record { screen = Whole (compose
 
 -- a view leaves the world as it is, and shows what the centre has under the name
 abbrev pub step_of_view : World → ℕ → Name → World × Outcome
-step_of_view w c name = (w, view_answer name (frame_at (page_base w c) name))
+step_of_view w c name = (w, view_answer name (frame_under (page_base w c) name))
 
 -- ---- send
 
@@ -79,13 +79,13 @@ step_of_acknowledging w c = if is_packets_full w.links then (w, None)
     else (with_link w c (with_acknowledgement (link_at w c) (centre_at w c).applied), Some (length (link_at w c).up))
 
 -- the world with the next record applied at a centre
-abbrev pub with_applied : World → ℕ → World
-with_applied w c = with_centre w c (with_next (centre_at w c))
+abbrev pub with_next_at : World → ℕ → World
+with_next_at w c = with_centre w c (with_next (centre_at w c))
 
 -- The centre takes the record that comes next; it acknowledges that one, and any that is old or early. A full centre
 -- does neither.
 abbrev pub step_of_arrival : World → ℕ → ℕ → Arrival → World × Outcome
-step_of_arrival w c number arrivals.Taken = let a = step_of_acknowledging (with_applied w c) c in (a.0, outcomes.Taken number a.1)
+step_of_arrival w c number arrivals.Taken = let a = step_of_acknowledging (with_next_at w c) c in (a.0, outcomes.Taken number a.1)
 step_of_arrival w c number arrivals.Old = let a = step_of_acknowledging w c in (a.0, outcomes.Old number a.1)
 step_of_arrival w c number arrivals.Early = let a = step_of_acknowledging w c in (a.0, outcomes.Early number a.1)
 step_of_arrival w c number arrivals.Full = (w, outcomes.Full (centre_at w c).applied)
@@ -114,7 +114,7 @@ step_of_list w = (w, outcomes.Records (length w.update.edits))
 -- The world after an event, and the answer. The last argument is a choice of the outside: whether a stop within a write
 -- kept the record that was being written. No event stops a node yet, so that none depends on it.
 abbrev pub happens : World → Event → Bool → World × Outcome
-happens w (events.Seed name row) kept = step_of_seed w name (frame_of_cells row)
+happens w (events.Seed name row) kept = step_of_put w name (frame_of_cells row)
 happens w (events.Send centre) kept = step_of_send w centre
 happens w (events.Deliver centre index) kept = step_of_deliver w centre index
 happens w (events.View centre name) kept = step_of_view w centre name

@@ -35,7 +35,11 @@ impl Model for Centre {
 
     ghost Value = { Index };
 
-    ghost view = { λ c. record { count = length c.held.edits; limit = c.held.room; entries = reverse c.held.edits } };
+    ghost view = { λ c. record {
+      count = length c.held.edits;
+      limit = c.held.room;
+      entries = reverse c.held.edits;
+    } };
 }
 
 impl Centre {

@@ -24,7 +24,14 @@ impl Model for Link {
 
     ghost Value = { Spec.Link };
 
-    ghost view = { λ l. record { down = l.down.items; up = l.up.items; sending = record { acknowledged = l.acknowledged; next = l.next } } };
+    ghost view = { λ l. record {
+      down = l.down.items;
+      up = l.up.items;
+      sending = record {
+        acknowledged = l.acknowledged;
+        next = l.next;
+      };
+    } };
 
     ghost invariant = { λ l. (MAX_PACKETS ≤ vec_capacity l.down) × (MAX_PACKETS ≤ vec_capacity l.up) };
 }

@@ -2,8 +2,8 @@ ghost use Rattle.std.specs.Prelude.{◌≡◌, ℕ, ◌+◌, ◌<◌, ◌≤◌,
 ghost use Rattle.pv_frame.specs.Content.{frame_of_row};
 ghost use Rattle.pv_screen.specs.Grid.{IsRow};
 ghost use Rattle.pv_network.specs.World.{start};
-ghost use Rattle.pv_network.specs.Standing.{StandsFor, Performs, CanHappen};
-ghost use Rattle.pv_network.specs.Step.{happens, step_of_seed, frame_of_cells, step_of_send, step_of_deliver, step_of_view, step_of_at, step_of_list, step_of_acknowledging};
+ghost use Rattle.pv_network.specs.Standing.{StandsFor, Performs, IsPossible};
+ghost use Rattle.pv_network.specs.Step.{happens, step_of_put, frame_of_cells, step_of_send, step_of_deliver, step_of_view, step_of_at, step_of_list, step_of_acknowledging};
 
 use crate::centre::{Arrival, Centre, open_centres};
 use crate::event::Event;
@@ -32,7 +32,12 @@ impl Model for Network {
 
     ghost Value = { State };
 
-    ghost view = { λ n. record { update = n.update; centres = n.centres.items; links = n.links; is_out = n.is_out } };
+    ghost view = { λ n. record {
+      update = n.update;
+      centres = n.centres.items;
+      links = n.links;
+      is_out = n.is_out;
+    } };
 
     ghost invariant = { λ n. length n.links ≡ length n.centres.items };
 }
@@ -59,7 +64,7 @@ impl Network {
     /// its row is one of cells of 0 to 127. The only error is that memory ran out: after it, every later
     /// step returns it too. No event so far takes memory.
     pub fn step(&mut self, event: &Event) -> Result<Outcome, AllocError>
-        requires { CanHappen self.old event.now }
+        requires { IsPossible self.old event.now }
 
         // Whatever world the network stood for, it stands for the next one, and the outcome is that answer.
         ensures performs { IfOk result (λ outcome. (kept : Bool)
@@ -81,7 +86,7 @@ impl Network {
 
     /// Lets an event happen.
     fn happen(&mut self, event: &Event) -> Result<Outcome, AllocError>
-        requires { CanHappen self.old event.now }
+        requires { IsPossible self.old event.now }
         ensures performs { IfOk result (λ outcome. (kept : Bool)
             × Performs self.old self.new outcome (λ w. happens w event.now kept)) }
         ensures centres { length self.new.centres ≡ length self.old.centres }
@@ -101,7 +106,7 @@ impl Network {
     fn seed(&mut self, name: FrameName, row: &[u8; 40]) -> Outcome
         requires { IsRow row.now }
         ensures performs { Performs self.old self.new result
-            (λ w. step_of_seed w name (frame_of_cells row.now)) }
+            (λ w. step_of_put w name (frame_of_cells row.now)) }
         ensures centres { length self.new.centres ≡ length self.old.centres }
     {
         Outcome::Reply(self.update.seed(name, row))

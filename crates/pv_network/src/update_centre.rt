@@ -2,9 +2,9 @@ ghost use Rattle.std.specs.Prelude.{◌≡◌, ℕ, ◌<◌, ◌≤◌, ◌^◌,
 ghost use Rattle.pv_frame.specs.Content.{frame_of_row};
 ghost use Rattle.pv_screen.specs.Grid.{IsRow};
 ghost use Rattle.pv_network.specs.declared.record.TheConstants.{OPERATOR};
-ghost use Rattle.pv_network.specs.Edits.{frame_at};
+ghost use Rattle.pv_network.specs.Edits.{frame_under};
 ghost use Rattle.pv_network.specs.UpdateCentre as Spec;
-ghost use Rattle.pv_network.specs.UpdateCentre.{UdcStands, judgement_of, next_record, refusal_reply, with_record, with_stored};
+ghost use Rattle.pv_network.specs.UpdateCentre.{UdcStands, judgement_of, next_record, refusal_reply, with_record, with_judgement};
 
 use crate::edit_list::EditList;
 use crate::record::{OPERATOR, Record};
@@ -27,14 +27,18 @@ pub struct UpdateCentre {
 impl Model for UpdateCentre {
     ghost use Rattle.std.specs.Prelude.{◌≡◌, ◌<◌, ◌≤◌, ◌^◌, length};
     ghost use Rattle.pv_network.specs.declared.record.TheConstants.{OPERATOR};
-    ghost use Rattle.pv_network.specs.Edits.{frame_count, last_number};
+    ghost use Rattle.pv_network.specs.Edits.{count_of_frames, last_number};
     ghost use Rattle.pv_network.specs.UpdateCentre.{Update};
 
     ghost Value = { Update };
 
-    ghost view = { λ u. record { edits = u.edits.edits; frame_limit = u.frame_limit; record_limit = u.edits.room } };
+    ghost view = { λ u. record {
+      edits = u.edits.edits;
+      frame_limit = u.frame_limit;
+      record_limit = u.edits.room;
+    } };
 
-    ghost invariant = { λ u. (u.frames ≡ frame_count u.edits.edits)
+    ghost invariant = { λ u. (u.frames ≡ count_of_frames u.edits.edits)
         × (u.last ≡ last_number u.edits.edits OPERATOR)
         × (u.last ≤ length u.edits.edits) × (u.edits.room < 2 ^ 32) };
 }
@@ -77,7 +81,7 @@ impl UpdateCentre {
 
         // Whatever list it stood for, it stands for the list with the record that is stored.
         ensures stored { (u : Spec.Update) → UdcStands u self.old
-            → UdcStands (with_stored u
+            → UdcStands (with_judgement u
             (judgement_of u OPERATOR name (frame_of_row row.now)).stored) self.new }
     {
         let is_new = self.edits.last_of(name).is_none();
@@ -105,7 +109,7 @@ impl UpdateCentre {
 
     /// Stores the operator's next record, and returns its place.
     fn store(&mut self, name: FrameName, frame: CheckedFrame, is_new: bool) -> u64
-        requires new { is_new ≡ is_none (frame_at self.old.edits name) }
+        requires new { is_new ≡ is_none (frame_under self.old.edits name) }
         requires taken { refusal_reply self.old is_new ≡ None }
         ensures place { result ≡ length self.old.edits }
         ensures stored { self.new ≡ with_record self.old (next_record self.old OPERATOR name frame) }

@@ -27,7 +27,8 @@ module _ {S State Request Rec Reply D : Type 0} (r : rules.Ghosts S State Reques
   -- a disk that stands for records spells their spellings
   pub disk_spells : (disk : D) (records more : List Rec) → DiskStands r d disk (records ++ more)
       → DiskSpells d disk (map r.spelling records ++ map r.spelling more)
-  disk_spells disk records more stands = (stands.0, stands.1, subst (λ (l : List (List ℕ)). Spells stands.0 l) (map-append r.spelling records more) stands.2.text)
+  disk_spells disk records more stands =
+      (stands.0, stands.1, subst (λ (l : List (List ℕ)). Spells stands.0 l) (map-append r.spelling records more) stands.2.text)
 
   -- a record that was read from the journal and absorbed joins those that were read
   pub read_more : (grows : (state : State) (records : List Rec) (rec : Rec) → r.stands state records → r.is_record rec → r.fits state rec → length records < (r.limits_of state).records → r.stands (r.after state rec (length records)) (records ++ rec ∷ []))
@@ -42,9 +43,13 @@ module _ {S State Request Rec Reply D : Type 0} (r : rules.Ghosts S State Reques
       let room_for : length records < (r.limits_of state).records = omega (arith, count, room) in
       let stood : r.stands (r.after state rec (length records)) (records ++ rec ∷ []) = grows state records rec read.stood spelled fits room_for in
       record {
-        journal = subst (λ (l : List (List ℕ)). IsReading d new l) (sym (map_push r.spelling records rec ∙ ap (λ (b : List ℕ). map r.spelling records ++ b ∷ []) is)) reading;
+        journal =
+            subst (λ (l : List (List ℕ)). IsReading d new l)
+            (sym (map_push r.spelling records rec ∙ ap (λ (b : List ℕ). map r.spelling records ++ b ∷ []) is)) reading;
         each = All-push r.is_record records rec read.each spelled;
-        meets = subst (λ (limits : Limits). Meets r limits (records ++ rec ∷ [])) (sym (ap r.limits_of absorbed ∙ limits_stay state rec old.count))
+        meets =
+            subst (λ (limits : Limits). Meets r limits (records ++ rec ∷ []))
+            (sym (ap r.limits_of absorbed ∙ limits_stay state rec old.count))
             (meets_more r same_room (r.limits_of state) state records rec read.meets read.stood refl fits room_for);
         stood = subst (λ (s : State). r.stands s (records ++ rec ∷ [])) (sym (absorbed ∙ ap (r.after state rec) count)) stood;
       }
@@ -93,7 +98,8 @@ module _ {S State Request Rec Reply D : Type 0} (r : rules.Ghosts S State Reques
   pub fault_shows : {F : Type 0} (log : Log D) (limits : Limits) (state : State) (records : List Rec) (text : List ℕ) (fault : NodeFault D F) → HasRead r d log state records
       → r.limits_of state ≡ limits → text ≡ text_of (map r.spelling records) ++ drop log.gate text
       → StopShows r (r.limits_of state) text records state fault → FaultShows r limits text fault
-  fault_shows {F = F} log limits state records text fault read is begins shows = go fault (subst (λ (l : Limits). StopShows r l text records state fault) is shows)
+  fault_shows {F = F} log limits state records text fault read is begins shows =
+      go fault (subst (λ (l : Limits). StopShows r l text records state fault) is shows)
     where
       begun : Begins r limits text records state
       begun = record {

@@ -23,7 +23,8 @@ pub of_push : {X : Type 0} (xs : List X) (y : X) (before : List X) (x : X) (behi
 of_push [] y [] x behind e = inl (refl, sym (heads y x [] behind e))
 of_push [] y (b ∷ before) x behind e = absurd (not_empty before x behind (tails y b [] (before ++ x ∷ behind) e))
 of_push (z ∷ xs) y [] x behind e = inr (xs, ap (λ w. w ∷ xs) (heads z x (xs ++ y ∷ []) behind e))
-of_push {X = X} (z ∷ xs) y (b ∷ before) x behind e = under (of_push xs y before x behind (tails z b (xs ++ y ∷ []) (before ++ x ∷ behind) e))
+of_push {X = X} (z ∷ xs) y (b ∷ before) x behind e =
+    under (of_push xs y before x behind (tails z b (xs ++ y ∷ []) (before ++ x ∷ behind) e))
   where
     same : z ≡ b
     same = heads z b (xs ++ y ∷ []) (before ++ x ∷ behind) e
@@ -39,7 +40,8 @@ module _ {S State Request Rec Reply : Type 0} (r : rules.Ghosts S State Request 
       (limits : Limits) (state : State) (records : List Rec) (rec : Rec) → EachHasRoom r limits records → r.stands state records
       → r.limits_of state ≡ limits → r.fits state rec
       → EachHasRoom r limits (records ++ rec ∷ [])
-  room_for_each same_room limits state records rec each stands is_limit fits before behind x other e other_stands other_limit = in_each (of_push records rec before x behind e)
+  room_for_each same_room limits state records rec each stands is_limit fits before behind x other e other_stands other_limit =
+      in_each (of_push records rec before x behind e)
     where
       in_each : ((before ≡ records) × (x ≡ rec)) ⊎ ((rest : List Rec) × (records ≡ before ++ x ∷ rest)) → r.fits other x
       in_each (inl last) =

@@ -11,7 +11,7 @@ use Rattle.pv_node.specs.declared.rules.Rules as rules
 use Rattle.pv_node.specs.declared.fault.AskFault.{AskFault}
 use Rattle.pv_node.specs.Parts.{Parts}
 use Rattle.pv_node.specs.Standing.{StandsEither, StandsFor}
-use Rattle.pv_node.specs.Asking.{with_stored, IsSettled, FailsOnDisk, SpendsOnAsk}
+use Rattle.pv_node.specs.Asking.{records_with, IsSettled, FailsOnDisk, SpendsOnAsk}
 use Rattle.pv_node.proofs.Standing.{settled_same}
 
 -- a disk whose calls have no end has any number of calls left
@@ -36,7 +36,8 @@ module _ {S State Request Rec Reply D : Type 0} (r : rules.Ghosts S State Reques
   }
     where
       at_rest : old.hand ≡ None → SpendsOnAsk r d 4 old new result
-      at_rest none = subst (λ (node : Parts D State Rec). SpendsOnAsk r d 4 node new result) (settled_same r d old settled stored is none) spends
+      at_rest none =
+          subst (λ (node : Parts D State Rec). SpendsOnAsk r d 4 node new result) (settled_same r d old settled stored is none) spends
 
   -- after a settling nothing is in hand
   none_after : (old settled : Parts D State Rec) (stored : Option Rec) → IsSettled r d old settled stored → settled.hand ≡ None
@@ -45,7 +46,7 @@ module _ {S State Request Rec Reply D : Type 0} (r : rules.Ghosts S State Reques
 
   -- a node that stood for some records stands, once it is settled, for these with what was stored
   pub stands_then : (old settled : Parts D State Rec) (stored : Option Rec) → IsSettled r d old settled stored
-      → (records : List Rec) → StandsFor r d old records → StandsFor r d settled (with_stored records stored)
+      → (records : List Rec) → StandsFor r d old records → StandsFor r d settled (records_with records stored)
   stands_then old settled None is records stands = is.records records stands
   stands_then old settled (Some rec) is records stands = is.records records stands
 
@@ -75,4 +76,4 @@ module _ {S State Request Rec Reply D : Type 0} (r : rules.Ghosts S State Reques
       let room = longest (r.limits_of old.state).records in
       let still = subst (λ (l : Limits). HasCalls 4 (longest l.records) (d.budget settled.journal.disk)) (sym limits)
       (endless_has 4 room (d.budget settled.journal.disk) (reads.spends.endless room endless)) in
-      spends.passes (none_after old settled stored is) (with_stored records stored) now still fails
+      spends.passes (none_after old settled stored is) (records_with records stored) now still fails

@@ -58,7 +58,11 @@ module _ {S State Request Rec Reply D : Type 0} (r : rules.Ghosts S State Reques
   pub either : (records : List Rec) (rec : Rec) → All r.is_record records → r.is_record rec → (image : List ℕ)
       → SpellsEither (map r.spelling records) (r.spelling rec ∷ []) image → Stands r image records ⊎ Stands r image (records ++ rec ∷ [])
   either records rec each spelled image (inl without) = inl (record { text = without; each = each })
-  either records rec each spelled image (inr longer) = inr (record { text = subst (λ (l : List (List ℕ)). Spells image l) (sym (map_push r.spelling records rec)) longer; each = All-push r.is_record records rec each spelled })
+  either records rec each spelled image (inr longer) =
+      inr (record {
+        text = subst (λ (l : List (List ℕ)). Spells image l) (sym (map_push r.spelling records rec)) longer;
+        each = All-push r.is_record records rec each spelled;
+      })
 
   -- a record that the journal has in hand leaves what the node stood for
   pub taken : (same_room : (one other : State) (records : List Rec) (rec : Rec) → r.stands one records → r.stands other records → r.limits_of one ≡ r.limits_of other → r.fits one rec → r.fits other rec)

@@ -29,9 +29,9 @@ to_store (Answer reply) = None
 to_store (Store rec reply) = Some rec
 
 -- these records, and after them one that was stored
-abbrev pub with_stored : {Rec : Type 0} → List Rec → Option Rec → List Rec
-with_stored records None = records
-with_stored records (Some rec) = records ++ rec ∷ []
+abbrev pub records_with : {Rec : Type 0} → List Rec → Option Rec → List Rec
+records_with records None = records
+records_with records (Some rec) = records ++ rec ∷ []
 
 module _ {S State Request Rec Reply : Type 0} (r : rules.Ghosts S State Request Rec Reply) where
   -- a record that is to be stored has a spelling, and has room in this state
@@ -100,7 +100,8 @@ module _ {S State Request Rec Reply D : Type 0} (r : rules.Ghosts S State Reques
   abbrev pub CarriesOut : {F : Type 0} → Decision Rec Reply → Parts D State Rec → Parts D State Rec
       → Result (Told Reply) (AskFault D F) → Type 0
   CarriesOut (Answer reply) old new result = (result ≡ Ok (record { reply = reply; number = None })) × (new ≡ old)
-  CarriesOut (Store rec reply) old new (Ok told) = (told ≡ record { reply = reply; number = Some old.journal.count }) × HasStored old new rec
+  CarriesOut (Store rec reply) old new (Ok told) =
+      (told ≡ record { reply = reply; number = Some old.journal.count }) × HasStored old new rec
   CarriesOut (Store rec reply) old new (Err fault) = IsRefused old new rec fault
 
   -- What an ask returns: a call of the disk failed in the settling; or the node was settled, and the judgement of the settled
@@ -116,7 +117,7 @@ module _ {S State Request Rec Reply D : Type 0} (r : rules.Ghosts S State Reques
   abbrev pub AskLeaves : Request → Parts D State Rec → List Rec → List ℕ → Type 0
   AskLeaves request old records image = StandsEither r records old.hand image
       ⊎ ((settled : Parts D State Rec) × (stored : Option Rec) × IsSettled old settled stored
-      × StandsEither r (with_stored records stored) (to_store (r.judgement settled.state request)) image)
+      × StandsEither r (records_with records stored) (to_store (r.judgement settled.state request)) image)
 
   -- What an ask, or a part of it, takes of the disk, of which at most `most` calls succeed. The rest holds if nothing was in hand.
   pub record SpendsOnAsk {T F : Type 0} (most : ℕ) (old new : Parts D State Rec) (result : Result T (AskFault D F)) : Type 0 where

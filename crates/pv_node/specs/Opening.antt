@@ -2,7 +2,7 @@
 use Rattle.std.specs.Prelude.{◌≡◌, ◌≢◌, ℕ, ◌<◌, List, [], ◌∷◌, ◌++◌, length, map, drop, All, Result, Ok, Err}
 use Rattle.pv_outside.specs.declared.reports.Reports as reports
 use Rattle.pv_outside.specs.declared.limits.Limits.{Limits}
-use Rattle.pv_journal.specs.Text.{text_of, first_eight, HasBlock, IsBroken}
+use Rattle.pv_journal.specs.Text.{text_of, first_eight, HasBlock, HasBrokenBlock}
 use Rattle.pv_journal.specs.Log.{Log}
 use Rattle.pv_journal.specs.Journal.{IsReading, Holds}
 use Rattle.pv_journal.specs.declared.block.TheConstants.{MARK}
@@ -74,7 +74,7 @@ module _ {S State Request Rec Reply : Type 0} (r : rules.Ghosts S State Request 
   StopShows limits text records state Memory = Unit {0}
   StopShows limits text records state (Disk failure) = Unit {0}
   StopShows limits text records state (NotFormatted kept) = ⊥
-  StopShows limits text records state (Broken at) = (at ≡ gate_after records) × IsBroken (drop (gate_after records) text)
+  StopShows limits text records state (Broken at) = (at ≡ gate_after records) × HasBrokenBlock (drop (gate_after records) text)
   StopShows limits text records state (TooMany count) =
       (body : List ℕ) × HasBlock (drop (gate_after records) text) body × (length records ≡ limits.records)
   StopShows limits text records state (Unreadable number) =

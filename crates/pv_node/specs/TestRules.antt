@@ -8,8 +8,8 @@ use Rattle.pv_node.specs.declared.decision.Decision.{Decision}
 use Rattle.pv_node.specs.declared.decision.Decision.TheVariants.{Answer, Store}
 
 -- what the tests' rules decide: a byte below 128 is stored while there are fewer records than the most; the reply is how many there were
-abbrev pub judged : ℕ → ℕ → ℕ → Decision ℕ ℕ
-judged most count byte = if (nat_lt byte 128 && nat_lt count most) then Store byte count else Answer count
+abbrev pub decision_on : ℕ → ℕ → ℕ → Decision ℕ ℕ
+decision_on most count byte = if (nat_lt byte 128 && nat_lt count most) then Store byte count else Answer count
 
 -- a byte is a body
 pub sized : (rec : ℕ) → rec < 128 → IsBody (rec ∷ [])
@@ -38,7 +38,7 @@ shown false true byte count rec reply e = absurd (subst IsAnswer e tt)
 shown false false byte count rec reply e = absurd (subst IsAnswer e tt)
 
 -- a byte that is stored is below 128, and there are fewer than the most
-pub stored : (most count byte rec reply : ℕ) → judged most count byte ≡ Store rec reply → (rec < 128) × (count < most)
+pub stored : (most count byte rec reply : ℕ) → decision_on most count byte ≡ Store rec reply → (rec < 128) × (count < most)
 stored most count byte rec reply e =
     let s = shown (nat_lt byte 128) (nat_lt count most) byte count rec reply e in
     let small : byte < 128 = ltb-true byte 128 s.0 in
@@ -53,5 +53,5 @@ pub has_room_too : (one other most wide : ℕ) → one ≡ other → most ≡ wi
 has_room_too one other most wide same limits room = omega (arith, same, limits, room)
 
 -- counts and limits that are equal give one judgement
-pub judged_alike : (one other most wide byte : ℕ) → one ≡ other → most ≡ wide → judged most one byte ≡ judged wide other byte
-judged_alike one other most wide byte same limits = λ i. judged (limits i) (same i) byte
+pub judged_alike : (one other most wide byte : ℕ) → one ≡ other → most ≡ wide → decision_on most one byte ≡ decision_on wide other byte
+judged_alike one other most wide byte same limits = λ i. decision_on (limits i) (same i) byte

@@ -1,5 +1,5 @@
 ghost use Rattle.std.specs.Prelude.{◌≡◌, ◌+◌, ◌<◌, length, ◌∷◌, []};
-ghost use Rattle.pv_node.specs.TestRules.{judged, sized, one_meaning, stored, counts_more, has_room_too, judged_alike};
+ghost use Rattle.pv_node.specs.TestRules.{decision_on, sized, one_meaning, stored, counts_more, has_room_too, judged_alike};
 ghost use Rattle.std.proofs.Common.{refl, sym, ap, ◌∙◌};
 
 use super::*;
@@ -42,7 +42,7 @@ impl Rules for Counting {
 
     ghost is_request = { λ request. Unit {0} };
 
-    ghost judgement = { λ state request. judged state.limits.frames state.count request };
+    ghost judgement = { λ state request. decision_on state.limits.frames state.count request };
 
     ghost is_record = { λ rec. rec < 128 };
 

@@ -31,7 +31,12 @@ impl Model for Reply {
     ghost invariant = { λ r. IsResponse
         (record { account = r.account; name = r.name; moment = r.moment; fields = r.fields }) };
 
-    ghost inverse = { λ r. record { account = r.account; name = r.name; moment = r.moment; fields = r.fields } };
+    ghost inverse = { λ r. record {
+      account = r.account;
+      name = r.name;
+      moment = r.moment;
+      fields = r.fields;
+    } };
 }
 
 impl Reply {

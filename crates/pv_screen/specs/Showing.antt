@@ -17,6 +17,6 @@ HasCells (Whole grid) = Unit {0}
 HasCells (Row cells) = All IsCell cells
 
 -- a whole screen is a grid, and a row is one of its rows
-abbrev pub IsScreen : Screen → Type 0
-IsScreen (Whole grid) = IsGrid grid
-IsScreen (Row cells) = IsRow cells
+abbrev pub IsShowable : Screen → Type 0
+IsShowable (Whole grid) = IsGrid grid
+IsShowable (Row cells) = IsRow cells

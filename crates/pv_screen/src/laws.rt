@@ -3,7 +3,7 @@
 ghost use Rattle.std.specs.Prelude.{◌≡◌, ℕ, List, All, fold};
 ghost use Rattle.std.specs.List.{flat_map};
 ghost use Rattle.pv_screen.specs.Painting.{screen_bytes};
-ghost use Rattle.pv_screen.specs.Showing.{IsScreen, shown_after};
+ghost use Rattle.pv_screen.specs.Showing.{IsShowable, shown_after};
 ghost use Rattle.pv_screen.specs.Terminal.{Display, IsDisplay, IsReady, terminal_after};
 ghost use Rattle.pv_screen.specs.declared.screen.Screen.{Screen};
 
@@ -15,6 +15,6 @@ pub fn any_bytes_leave_a_screen()
 /// A terminal that is sent screens one after another shows the last whole one, with the last row that was sent alone
 /// since then as its row 24.
 pub fn screens_are_shown()
-    ensures { (screens : List Screen) → All IsScreen screens → (t : Display) → IsReady t
+    ensures { (screens : List Screen) → All IsShowable screens → (t : Display) → IsReady t
         → (terminal_after t (flat_map screen_bytes screens)).cells ≡ fold shown_after t.cells screens }
 {}

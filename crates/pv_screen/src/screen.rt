@@ -13,7 +13,7 @@ pub enum Screen {
 impl Screen {
     ghost use Rattle.std.specs.Prelude.{◌≡◌, ◌≤◌, length, take, drop};
     ghost use Rattle.pv_screen.specs.Painting.{screen_bytes};
-    ghost use Rattle.pv_screen.specs.Showing.{HasCells, IsScreen, shown_after};
+    ghost use Rattle.pv_screen.specs.Showing.{HasCells, IsShowable, shown_after};
     ghost use Rattle.pv_screen.specs.Terminal.{Display, IsReady, terminal_after};
 
     /// Writes the bytes that show this screen to the beginning of `into`, and returns their number.
@@ -24,7 +24,7 @@ impl Screen {
         ensures rest { drop result into.new ≡ drop result into.old }
 
         // A whole screen has cells of 0 to 127; of a row alone that is asked.
-        ensures screen { HasCells self.now → IsScreen self.now }
+        ensures screen { HasCells self.now → IsShowable self.now }
 
         // The terminal that takes these bytes shows the whole screen, or what it showed with another row 24.
         ensures shows { HasCells self.now → (t : Display) → IsReady t

@@ -6,7 +6,7 @@ use Rattle.prestel.specs.declared.about.About.{About}
 use Rattle.prestel.specs.declared.about.About.TheVariants.{Help, Version}
 use Rattle.prestel.specs.declared.streams.StandardOutput.{StandardOutput}
 use Rattle.prestel.specs.About.{about_words}
-use Rattle.prestel.specs.Program.{IsWritten}
+use Rattle.prestel.specs.Program.{WritesText}
 use Rattle.prestel.proofs.program.run_program.Goals as goal
 
 -- the words are those that ask for what was asked for
@@ -15,8 +15,8 @@ words_that_ask words asked Help help version is = help.0 is
 words_that_ask words asked Version help version is = version.0 is
 
 -- help and the version never end with the words at fault
-never_usage : {W : Type 0} (contents : W → Option (List ℕ)) (text : List ℕ) (status : Status) (before now : StandardOutput W) → IsWritten contents text before now status → status ≡ Usage → ⊥
-never_usage contents text status before now written is = subst (λ (s : Status). IsWritten contents text before now s) is written
+never_usage : {W : Type 0} (contents : W → Option (List ℕ)) (text : List ℕ) (status : Status) (before now : StandardOutput W) → WritesText contents text before now status → status ≡ Usage → ⊥
+never_usage contents text status before now written is = subst (λ (s : Status). WritesText contents text before now s) is written
 
 pub returns-in-Some-clause-runs : goal.returns-in-Some-clause-runs
 returns-in-Some-clause-runs g c = λ others. absurd (others c.in-Some.about (words_that_ask _ _ c.in-Some.about c.asked.ensures.help c.asked.ensures.version c.in-Some.is))

@@ -15,7 +15,9 @@ spends_sync : (g : Over) (c : After-sync g) → Spends g.D.Reports 1 (IsErr c.sy
 spends_sync g c = spends_call g.D.Reports (λ b. (refl, refl)) _ _ _ c.sync.ensures.keeps.call
 
 spends_write : (g : Over) (c : After-write g) → Spends g.D.Reports 2 (IsErr c.write.result) c.args.disk.now c.write.new.self
-spends_write g c = spends_then g.D.Reports (spends_sync g (goal.at.After-write g c).After-sync) (spends_call g.D.Reports (λ b. (refl, refl)) _ _ _ c.write.ensures.writes.call)
+spends_write g c =
+    spends_then g.D.Reports (spends_sync g (goal.at.After-write g c).After-sync)
+    (spends_call g.D.Reports (λ b. (refl, refl)) _ _ _ c.write.ensures.writes.call)
 
 -- what a crash leaves up to each of the two
 leaves_sync : (g : Over) (c : After-sync g)
@@ -38,10 +40,14 @@ pub returns-clause-moments : goal.returns-clause-moments
 returns-clause-moments g c = only_look g.D.Reports (leaves_write g (goal.at.returns-clause-moments g c).After-write) c.sync-2.ensures.keeps
 
 pub returns-in_err-sync-clause-spends : goal.returns-in_err-sync-clause-spends
-returns-in_err-sync-clause-spends g c = spends_most g.D.Reports (omega arith) (search rules) (spends_sync g (goal.at.returns-in_err-sync-clause-spends g c).After-sync)
+returns-in_err-sync-clause-spends g c =
+    spends_most g.D.Reports (omega arith) (search rules) (spends_sync g (goal.at.returns-in_err-sync-clause-spends g c).After-sync)
 
 pub returns-in_err-write-clause-spends : goal.returns-in_err-write-clause-spends
-returns-in_err-write-clause-spends g c = spends_most g.D.Reports (omega arith) (search rules) (spends_write g (goal.at.returns-in_err-write-clause-spends g c).After-write)
+returns-in_err-write-clause-spends g c =
+    spends_most g.D.Reports (omega arith) (search rules) (spends_write g (goal.at.returns-in_err-write-clause-spends g c).After-write)
 
 pub returns-clause-spends : goal.returns-clause-spends
-returns-clause-spends g c = spends_then g.D.Reports (spends_write g (goal.at.returns-clause-spends g c).After-write) (spends_call g.D.Reports (λ b. (refl, refl)) _ _ _ c.sync-2.ensures.keeps.call)
+returns-clause-spends g c =
+    spends_then g.D.Reports (spends_write g (goal.at.returns-clause-spends g c).After-write)
+    (spends_call g.D.Reports (λ b. (refl, refl)) _ _ _ c.sync-2.ensures.keeps.call)

@@ -15,27 +15,38 @@ reads_sync : (g : Over) (c : After-sync g) → ReadsOnly g.D.Reports 1 (IsErr c.
 reads_sync g c = reads_once g.D.Reports (λ b. (refl, refl)) _ _ _ c.sync.ensures.keeps
 
 reads_len : (g : Over) (c : After-len g) → ReadsOnly g.D.Reports 2 (IsErr c.len.result) c.args.disk.now c.len.new.self
-reads_len g c = reads_then g.D.Reports (reads_sync g (goal.at.After-len g c).After-sync) (reads_once g.D.Reports (λ b. (refl, refl)) _ _ _ c.len.ensures.keeps)
+reads_len g c =
+    reads_then g.D.Reports (reads_sync g (goal.at.After-len g c).After-sync)
+    (reads_once g.D.Reports (λ b. (refl, refl)) _ _ _ c.len.ensures.keeps)
 
 reads_all : (g : Over) (c : After-read g) → ReadsOnly g.D.Reports 3 (IsErr c.read.result) c.args.disk.now c.read.new.self
-reads_all g c = reads_then g.D.Reports (reads_len g (goal.at.After-read g c).After-len) (reads_once g.D.Reports (λ b. (refl, refl)) _ _ _ c.read.ensures.keeps)
+reads_all g c =
+    reads_then g.D.Reports (reads_len g (goal.at.After-read g c).After-len)
+    (reads_once g.D.Reports (λ b. (refl, refl)) _ _ _ c.read.ensures.keeps)
 
 pub returns-in_err-sync-clause-reads_only : goal.returns-in_err-sync-clause-reads_only
-returns-in_err-sync-clause-reads_only g c = reads_most g.D.Reports (omega arith) (search rules) (reads_sync g (goal.at.returns-in_err-sync-clause-reads_only g c).After-sync)
+returns-in_err-sync-clause-reads_only g c =
+    reads_most g.D.Reports (omega arith) (search rules) (reads_sync g (goal.at.returns-in_err-sync-clause-reads_only g c).After-sync)
 
 pub returns-in_err-end-clause-reads_only : goal.returns-in_err-end-clause-reads_only
-returns-in_err-end-clause-reads_only g c = reads_most g.D.Reports (omega arith) (search rules) (reads_len g (goal.at.returns-in_err-end-clause-reads_only g c).After-len)
+returns-in_err-end-clause-reads_only g c =
+    reads_most g.D.Reports (omega arith) (search rules) (reads_len g (goal.at.returns-in_err-end-clause-reads_only g c).After-len)
 
 pub returns-in_err-read-clause-reads_only : goal.returns-in_err-read-clause-reads_only
-returns-in_err-read-clause-reads_only g c = reads_most g.D.Reports (omega arith) (search rules) (reads_all g (goal.at.returns-in_err-read-clause-reads_only g c).After-read)
+returns-in_err-read-clause-reads_only g c =
+    reads_most g.D.Reports (omega arith) (search rules) (reads_all g (goal.at.returns-in_err-read-clause-reads_only g c).After-read)
 
 pub returns-clause-reads_only : goal.returns-clause-reads_only
-returns-clause-reads_only g c = reads_most g.D.Reports (omega arith) (search rules) (reads_all g (goal.at.returns-clause-reads_only g c).After-read)
+returns-clause-reads_only g c =
+    reads_most g.D.Reports (omega arith) (search rules) (reads_all g (goal.at.returns-clause-reads_only g c).After-read)
 
 pub returns-clause-bytes : goal.returns-clause-bytes
 returns-clause-bytes g c =
     let size : IfSome (g.D.Reports.reads c.args.disk.now) (λ text. c.in_ok-end.end ≡ length text) = search rules in
     let read : IfSome (g.D.Reports.reads c.args.disk.now) (λ text. c.read.new.into ≡ take c.min-held.result text) =
     subst (λ (o : Option (List ℕ)). IfSome o (λ text. c.read.new.into ≡ take c.min-held.result text)) (c.len.ensures.keeps.reads ∙ c.sync.ensures.keeps.reads)
-    (IfSome_then _ c.in_ok-read.ensures.bytes (λ text r. let t : c.read.new.into ≡ take c.min-held.result text = grind (arith, common_steps) in t)) in
+    (IfSome_then _ c.in_ok-read.ensures.bytes (λ text r. let t : c.read.new.into ≡ take c.min-held.result text = grind (
+      arith,
+      common_steps,
+    ) in t)) in
     if_both _ _ _ _ (λ text size read. first_read text c.read.new.into c.min-held.result (omega (arith, c.min-held.ensures)) read) size read

@@ -11,7 +11,8 @@ use Rattle.pv_journal.proofs.opening.read_block.Goals as goal
 pub returns-clause-bytes : goal.returns-clause-bytes
 returns-clause-bytes g c =
     let read : IfSome (g.D.Reports.reads c.args.disk.now) (λ text. c.read.new.into ≡ take c.min-held.result (drop c.args.gate text)) =
-    IfSome_then _ c.in_ok-read.ensures.bytes (λ text r. let t : c.read.new.into ≡ take c.min-held.result (drop c.args.gate text) = grind (arith, common_steps) in t) in
+    IfSome_then _ c.in_ok-read.ensures.bytes
+    (λ text r. let t : c.read.new.into ≡ take c.min-held.result (drop c.args.gate text) = grind (arith, common_steps) in t) in
     let whole : IfSome (g.D.Reports.reads c.args.disk.now) (λ text. take c.min-held.result (c.read.new.into ++ drop c.min-held.result c.args.into.now) ≡ take MAX_BLOCK (drop c.args.gate text)) =
     if_both (g.D.Reports.reads c.args.disk.now) (λ text. length text ≡ c.args.end) (λ text. c.read.new.into ≡ take c.min-held.result (drop c.args.gate text))
     (λ text. take c.min-held.result (c.read.new.into ++ drop c.min-held.result c.args.into.now) ≡ take MAX_BLOCK (drop c.args.gate text))
@@ -20,7 +21,9 @@ returns-clause-bytes g c =
     whole
 
 pub returns-in_err-read-clause-reads_only : goal.returns-in_err-read-clause-reads_only
-returns-in_err-read-clause-reads_only g c = reads_most g.D.Reports (omega arith) (search rules) (reads_once g.D.Reports (λ b. (refl, refl)) _ _ _ c.read.ensures.keeps)
+returns-in_err-read-clause-reads_only g c =
+    reads_most g.D.Reports (omega arith) (search rules) (reads_once g.D.Reports (λ b. (refl, refl)) _ _ _ c.read.ensures.keeps)
 
 pub returns-clause-reads_only : goal.returns-clause-reads_only
-returns-clause-reads_only g c = reads_most g.D.Reports (omega arith) (search rules) (reads_once g.D.Reports (λ b. (refl, refl)) _ _ _ c.read.ensures.keeps)
+returns-clause-reads_only g c =
+    reads_most g.D.Reports (omega arith) (search rules) (reads_once g.D.Reports (λ b. (refl, refl)) _ _ _ c.read.ensures.keeps)

@@ -35,7 +35,8 @@ behind_write g c bodies is each =
 behind_sync : (g : Over) (c : After-sync g) (bodies : List (List ℕ)) → c.args.gate ≡ length (text_of bodies)
     → EachImage g.D.Reports c.args.disk.now (λ image. Spells image bodies)
     → LeavesOnly g.D.Reports c.args.disk.now c.sync.new.self (λ image. Spells image bodies)
-behind_sync g c bodies is each = only_look g.D.Reports (behind_write g (goal.at.After-sync g c).After-write bodies is each) c.sync.ensures.keeps
+behind_sync g c bodies is each =
+    only_look g.D.Reports (behind_write g (goal.at.After-sync g c).After-write bodies is each) c.sync.ensures.keeps
 
 at_write-2 : (g : Over) (c : After-write-2 g) (bodies : List (List ℕ)) → c.args.gate ≡ length (text_of bodies)
     → EachImage g.D.Reports c.args.disk.now (λ image. Spells image bodies)
@@ -46,34 +47,49 @@ at_write-2 g c bodies is each =
 
 -- the first two calls were made
 made_two : (g : Over) (c : In_ok-sync g) → HasMade g.D.Reports 2 c.args.disk.now c.sync.new.self
-made_two g c = made_then g.D.Reports (made_call g.D.Reports (λ b. (refl, refl)) _ _ _ c.write.ensures.writes.call (search rules)) (made_call g.D.Reports (λ b. (refl, refl)) _ _ _ c.sync.ensures.keeps.call (search rules))
+made_two g c =
+    made_then g.D.Reports (made_call g.D.Reports (λ b. (refl, refl)) _ _ _ c.write.ensures.writes.call (search rules))
+    (made_call g.D.Reports (λ b. (refl, refl)) _ _ _ c.sync.ensures.keeps.call (search rules))
 
 made_gate : (g : Over) (c : After-write-2 g) → HasMade g.D.Reports 2 c.args.disk.now c.write-2.new.self
-made_gate g c = made_then g.D.Reports (made_two g (goal.at.After-write-2 g c).In_ok-sync) (made_any g.D.Reports (λ b. (refl, refl)) _ _ _ c.write-2.ensures.writes.call)
+made_gate g c =
+    made_then g.D.Reports (made_two g (goal.at.After-write-2 g c).In_ok-sync)
+    (made_any g.D.Reports (λ b. (refl, refl)) _ _ _ c.write-2.ensures.writes.call)
 
 pub returns-in_err-write-clause-moments : goal.returns-in_err-write-clause-moments
-returns-in_err-write-clause-moments g c = λ bodies is each. only_weaker g.D.Reports (λ image spells. inl spells) (behind_write g (goal.at.returns-in_err-write-clause-moments g c).After-write bodies is each)
+returns-in_err-write-clause-moments g c =
+    λ bodies is each. only_weaker g.D.Reports (λ image spells. inl spells)
+    (behind_write g (goal.at.returns-in_err-write-clause-moments g c).After-write bodies is each)
 
 pub returns-in_err-write-clause-early : goal.returns-in_err-write-clause-early
-returns-in_err-write-clause-early g c = λ bodies is each. inr (behind_write g (goal.at.returns-in_err-write-clause-early g c).After-write bodies is each)
+returns-in_err-write-clause-early g c =
+    λ bodies is each. inr (behind_write g (goal.at.returns-in_err-write-clause-early g c).After-write bodies is each)
 
 pub returns-in_err-sync-clause-moments : goal.returns-in_err-sync-clause-moments
-returns-in_err-sync-clause-moments g c = λ bodies is each. only_weaker g.D.Reports (λ image spells. inl spells) (behind_sync g (goal.at.returns-in_err-sync-clause-moments g c).After-sync bodies is each)
+returns-in_err-sync-clause-moments g c =
+    λ bodies is each. only_weaker g.D.Reports (λ image spells. inl spells)
+    (behind_sync g (goal.at.returns-in_err-sync-clause-moments g c).After-sync bodies is each)
 
 pub returns-in_err-sync-clause-early : goal.returns-in_err-sync-clause-early
-returns-in_err-sync-clause-early g c = λ bodies is each. inr (behind_sync g (goal.at.returns-in_err-sync-clause-early g c).After-sync bodies is each)
+returns-in_err-sync-clause-early g c =
+    λ bodies is each. inr (behind_sync g (goal.at.returns-in_err-sync-clause-early g c).After-sync bodies is each)
 
 pub returns-in_err-write-2-clause-moments : goal.returns-in_err-write-2-clause-moments
 returns-in_err-write-2-clause-moments g c = at_write-2 g (goal.at.returns-in_err-write-2-clause-moments g c).After-write-2
 
 pub returns-in_err-write-2-clause-early : goal.returns-in_err-write-2-clause-early
-returns-in_err-write-2-clause-early g c = λ bodies is each. inl (made_gate g (goal.at.returns-in_err-write-2-clause-early g c).After-write-2)
+returns-in_err-write-2-clause-early g c =
+    λ bodies is each. inl (made_gate g (goal.at.returns-in_err-write-2-clause-early g c).After-write-2)
 
 pub returns-clause-moments : goal.returns-clause-moments
-returns-clause-moments g c = λ bodies is each. only_look g.D.Reports (at_write-2 g (goal.at.returns-clause-moments g c).After-write-2 bodies is each) c.sync-2.ensures.keeps
+returns-clause-moments g c =
+    λ bodies is each. only_look g.D.Reports
+    (at_write-2 g (goal.at.returns-clause-moments g c).After-write-2 bodies is each) c.sync-2.ensures.keeps
 
 pub returns-clause-early : goal.returns-clause-early
-returns-clause-early g c = λ bodies is each. inl (made_then g.D.Reports (made_gate g (goal.at.returns-clause-early g c).After-write-2) (made_any g.D.Reports (λ b. (refl, refl)) _ _ _ c.sync-2.ensures.keeps.call))
+returns-clause-early g c =
+    λ bodies is each. inl
+    (made_then g.D.Reports (made_gate g (goal.at.returns-clause-early g c).After-write-2) (made_any g.D.Reports (λ b. (refl, refl)) _ _ _ c.sync-2.ensures.keeps.call))
 
 pub returns-clause-all_four : goal.returns-clause-all_four
 returns-clause-all_four g c = if_ok c.sync-2.result (λ ok.
@@ -135,19 +151,28 @@ spends_write : (g : Over) (c : After-write g) → Spends g.D.Reports 1 (IsErr c.
 spends_write g c = spends_call g.D.Reports (λ b. (refl, refl)) _ _ _ c.write.ensures.writes.call
 
 spends_sync : (g : Over) (c : After-sync g) → Spends g.D.Reports 2 (IsErr c.sync.result) c.args.disk.now c.sync.new.self
-spends_sync g c = spends_then g.D.Reports (spends_write g (goal.at.After-sync g c).After-write) (spends_call g.D.Reports (λ b. (refl, refl)) _ _ _ c.sync.ensures.keeps.call)
+spends_sync g c =
+    spends_then g.D.Reports (spends_write g (goal.at.After-sync g c).After-write)
+    (spends_call g.D.Reports (λ b. (refl, refl)) _ _ _ c.sync.ensures.keeps.call)
 
 spends_gate : (g : Over) (c : After-write-2 g) → Spends g.D.Reports 3 (IsErr c.write-2.result) c.args.disk.now c.write-2.new.self
-spends_gate g c = spends_then g.D.Reports (spends_sync g (goal.at.After-write-2 g c).After-sync) (spends_call g.D.Reports (λ b. (refl, refl)) _ _ _ c.write-2.ensures.writes.call)
+spends_gate g c =
+    spends_then g.D.Reports (spends_sync g (goal.at.After-write-2 g c).After-sync)
+    (spends_call g.D.Reports (λ b. (refl, refl)) _ _ _ c.write-2.ensures.writes.call)
 
 pub returns-in_err-write-clause-spends : goal.returns-in_err-write-clause-spends
-returns-in_err-write-clause-spends g c = spends_most g.D.Reports (omega arith) (search rules) (spends_write g (goal.at.returns-in_err-write-clause-spends g c).After-write)
+returns-in_err-write-clause-spends g c =
+    spends_most g.D.Reports (omega arith) (search rules) (spends_write g (goal.at.returns-in_err-write-clause-spends g c).After-write)
 
 pub returns-in_err-sync-clause-spends : goal.returns-in_err-sync-clause-spends
-returns-in_err-sync-clause-spends g c = spends_most g.D.Reports (omega arith) (search rules) (spends_sync g (goal.at.returns-in_err-sync-clause-spends g c).After-sync)
+returns-in_err-sync-clause-spends g c =
+    spends_most g.D.Reports (omega arith) (search rules) (spends_sync g (goal.at.returns-in_err-sync-clause-spends g c).After-sync)
 
 pub returns-in_err-write-2-clause-spends : goal.returns-in_err-write-2-clause-spends
-returns-in_err-write-2-clause-spends g c = spends_most g.D.Reports (omega arith) (search rules) (spends_gate g (goal.at.returns-in_err-write-2-clause-spends g c).After-write-2)
+returns-in_err-write-2-clause-spends g c =
+    spends_most g.D.Reports (omega arith) (search rules) (spends_gate g (goal.at.returns-in_err-write-2-clause-spends g c).After-write-2)
 
 pub returns-clause-spends : goal.returns-clause-spends
-returns-clause-spends g c = spends_then g.D.Reports (spends_gate g (goal.at.returns-clause-spends g c).After-write-2) (spends_call g.D.Reports (λ b. (refl, refl)) _ _ _ c.sync-2.ensures.keeps.call)
+returns-clause-spends g c =
+    spends_then g.D.Reports (spends_gate g (goal.at.returns-clause-spends g c).After-write-2)
+    (spends_call g.D.Reports (λ b. (refl, refl)) _ _ _ c.sync-2.ensures.keeps.call)

@@ -29,7 +29,9 @@ returns-clause-appended g c =
         images = c.in_default.ensures.stored bodies held.counted.gate held.images;
         synced = c.in_default.ensures.synced;
       };
-      written = λ bodies held. c.in_default.ensures.written ∙ ap (λ (n : ℕ). option_map (text_after_write n (block c.args.body.now ++ 0 ∷ [])) (g.D.Reports.reads c.self.inside.disk)) held.counted.gate;
+      written =
+          λ bodies held. c.in_default.ensures.written
+          ∙ ap (λ (n : ℕ). option_map (text_after_write n (block c.args.body.now ++ 0 ∷ [])) (g.D.Reports.reads c.self.inside.disk)) held.counted.gate;
     } in
     subst (λ v. IsAppended g.D.Reports v new c.args.body.now c.self.inside.count) c.self.view_is appended
 

@@ -1,6 +1,6 @@
 use Rattle.std.proofs.Common.{◌≡◌, ℕ, ◌+◌, List, [], ◌∷◌, ◌++◌, length, take, drop, Option, IfSome, IsErr, rules, refl, sym, ◌∙◌, ap, subst, arith}
 use Rattle.std.proofs.lemmas.Option.{IfSome_then, MatchOption-at_some}
-use Rattle.pv_journal.specs.Text.{IsBody, text_of, Spells, IsClosed, IsBroken, HasBlock}
+use Rattle.pv_journal.specs.Text.{IsBody, text_of, Spells, HasNoOpenGate, HasBrokenBlock, HasBlock}
 use Rattle.pv_journal.specs.Journal.{IsReading, DiskSpells, ReadsOnly}
 use Rattle.pv_journal.proofs.CallerLemmas.{reads_none, reads_most}
 use Rattle.pv_journal.proofs.Counted.{counted_more, next_front}
@@ -12,11 +12,17 @@ use Rattle.pv_journal.proofs.journal.Journal.next.Goals as goal
 use Rattle.pv_journal.proofs.journal.Journal.next.Goals.{After-read_block, In-Closed, In-Broken, After-copy_from_slice}
 
 -- what the bytes that were read begin with is at the gate
-closed_here : (g : Over) (c : In-Closed g) → IfSome (g.D.Reports.reads c.self.inside.disk) (λ text. IsClosed (drop c.self.inside.gate text))
-closed_here g c = IfSome_then _ c.in-Ok.ensures.bytes (λ text b. let r : IsClosed (drop c.self.inside.gate text) = closed_at _ _ b c.in-Closed.ensures in r)
+closed_here : (g : Over) (c : In-Closed g)
+    → IfSome (g.D.Reports.reads c.self.inside.disk) (λ text. HasNoOpenGate (drop c.self.inside.gate text))
+closed_here g c =
+    IfSome_then _ c.in-Ok.ensures.bytes
+    (λ text b. let r : HasNoOpenGate (drop c.self.inside.gate text) = closed_at _ _ b c.in-Closed.ensures in r)
 
-broken_here : (g : Over) (c : In-Broken g) → IfSome (g.D.Reports.reads c.self.inside.disk) (λ text. IsBroken (drop c.self.inside.gate text))
-broken_here g c = IfSome_then _ c.in-Ok.ensures.bytes (λ text b. let r : IsBroken (drop c.self.inside.gate text) = broken_at _ _ b c.in-Broken.ensures in r)
+broken_here : (g : Over) (c : In-Broken g)
+    → IfSome (g.D.Reports.reads c.self.inside.disk) (λ text. HasBrokenBlock (drop c.self.inside.gate text))
+broken_here g c =
+    IfSome_then _ c.in-Ok.ensures.bytes
+    (λ text b. let r : HasBrokenBlock (drop c.self.inside.gate text) = broken_at _ _ b c.in-Broken.ensures in r)
 
 -- what the read did, and that it alone can fail on the disk
 reads_here : (g : Over) (c : After-read_block g) {Fails : Type 0} → (Fails → IsErr c.read_block.result)
@@ -28,22 +34,26 @@ pub returns-in-Err-clause-reads_only : goal.returns-in-Err-clause-reads_only
 returns-in-Err-clause-reads_only g c = reads_here g (goal.at.returns-in-Err-clause-reads_only g c).After-read_block (search rules)
 
 pub returns-in-Closed-clause-reads_only : goal.returns-in-Closed-clause-reads_only
-returns-in-Closed-clause-reads_only g c = reads_here g (goal.at.returns-in-Closed-clause-reads_only g c).After-read_block (λ fails. absurd fails)
+returns-in-Closed-clause-reads_only g c =
+    reads_here g (goal.at.returns-in-Closed-clause-reads_only g c).After-read_block (λ fails. absurd fails)
 
 pub returns-in-Broken-clause-reads_only : goal.returns-in-Broken-clause-reads_only
-returns-in-Broken-clause-reads_only g c = reads_here g (goal.at.returns-in-Broken-clause-reads_only g c).After-read_block (λ fails. absurd fails)
+returns-in-Broken-clause-reads_only g c =
+    reads_here g (goal.at.returns-in-Broken-clause-reads_only g c).After-read_block (λ fails. absurd fails)
 
 pub returns-in-Whole-clause-reads_only : goal.returns-in-Whole-clause-reads_only
-returns-in-Whole-clause-reads_only g c = reads_here g (goal.at.returns-in-Whole-clause-reads_only g c).After-read_block (λ fails. absurd fails)
+returns-in-Whole-clause-reads_only g c =
+    reads_here g (goal.at.returns-in-Whole-clause-reads_only g c).After-read_block (λ fails. absurd fails)
 
 pub returns-in-Whole-2-clause-reads_only : goal.returns-in-Whole-2-clause-reads_only
-returns-in-Whole-2-clause-reads_only g c = reads_here g (goal.at.returns-in-Whole-2-clause-reads_only g c).After-read_block (λ fails. absurd fails)
+returns-in-Whole-2-clause-reads_only g c =
+    reads_here g (goal.at.returns-in-Whole-2-clause-reads_only g c).After-read_block (λ fails. absurd fails)
 
 pub returns-in-Closed-clause-ended : goal.returns-in-Closed-clause-ended
 returns-in-Closed-clause-ended g c = λ _ bodies reading_now.
     let reading = subst (λ v. IsReading g.D.Reports v bodies) (sym c.self.view_is) reading_now in
     let spelled : IfSome (g.D.Reports.reads c.self.inside.disk) (λ text. Spells text bodies) =
-    if_both (g.D.Reports.reads c.self.inside.disk) (λ text. text ≡ text_of bodies ++ drop c.self.inside.gate text) (λ text. IsClosed (drop c.self.inside.gate text)) (λ text. Spells text bodies)
+    if_both (g.D.Reports.reads c.self.inside.disk) (λ text. text ≡ text_of bodies ++ drop c.self.inside.gate text) (λ text. HasNoOpenGate (drop c.self.inside.gate text)) (λ text. Spells text bodies)
     (λ text begins shut. spells_front bodies text (drop c.self.inside.gate text) begins shut reading.counted.sizes) reading.text (closed_here g (goal.at.returns-in-Closed-clause-ended g c).In-Closed) in
     record {
       phase = refl;
@@ -58,28 +68,28 @@ returns-in-Closed-clause-spelled g c = λ bodies more reading_now spelled_now.
     let reading = subst (λ v. IsReading g.D.Reports v bodies) (sym c.self.view_is) reading_now in
     let spelled = subst (λ v. DiskSpells g.D.Reports v.disk (bodies ++ more)) (sym c.self.view_is) spelled_now in
     closed_none _ more (follows_on_disk _ c.self.inside.gate bodies more spelled.0 reading.text spelled.1 spelled.2)
-    (MatchOption-at_some _ (λ (text : List ℕ). IsClosed (drop c.self.inside.gate text)) spelled.0 spelled.1 (closed_here g (goal.at.returns-in-Closed-clause-spelled g c).In-Closed))
+    (MatchOption-at_some _ (λ (text : List ℕ). HasNoOpenGate (drop c.self.inside.gate text)) spelled.0 spelled.1 (closed_here g (goal.at.returns-in-Closed-clause-spelled g c).In-Closed))
 
 pub returns-in-Broken-clause-shown : goal.returns-in-Broken-clause-shown
 returns-in-Broken-clause-shown g c = λ bodies reading_now.
     let reading = subst (λ v. IsReading g.D.Reports v bodies) (sym c.self.view_is) reading_now in
     let here = broken_here g (goal.at.returns-in-Broken-clause-shown g c).In-Broken in
-    subst (λ v. IfSome (g.D.Reports.reads v.disk) (λ text. (c.self.inside.gate ≡ length (text_of bodies)) × IsBroken (drop (length (text_of bodies)) text))) c.self.view_is
-    (IfSome_then _ here (λ text broken. let r : (c.self.inside.gate ≡ length (text_of bodies)) × IsBroken (drop (length (text_of bodies)) text) = (reading.counted.gate, subst (λ (n : ℕ). IsBroken (drop n text)) reading.counted.gate broken) in r))
+    subst (λ v. IfSome (g.D.Reports.reads v.disk) (λ text. (c.self.inside.gate ≡ length (text_of bodies)) × HasBrokenBlock (drop (length (text_of bodies)) text))) c.self.view_is
+    (IfSome_then _ here (λ text broken. let r : (c.self.inside.gate ≡ length (text_of bodies)) × HasBrokenBlock (drop (length (text_of bodies)) text) = (reading.counted.gate, subst (λ (n : ℕ). HasBrokenBlock (drop n text)) reading.counted.gate broken) in r))
 
 pub returns-in-Closed-clause-shown : goal.returns-in-Closed-clause-shown
 returns-in-Closed-clause-shown g c = λ bodies reading_now.
     let reading = subst (λ v. IsReading g.D.Reports v bodies) (sym c.self.view_is) reading_now in
     let here = closed_here g (goal.at.returns-in-Closed-clause-shown g c).In-Closed in
-    subst (λ v. IfSome (g.D.Reports.reads v.disk) (λ text. IsClosed (drop (length (text_of bodies)) text))) c.self.view_is
-    (subst (λ (n : ℕ). IfSome (g.D.Reports.reads c.self.inside.disk) (λ text. IsClosed (drop n text))) reading.counted.gate here)
+    subst (λ v. IfSome (g.D.Reports.reads v.disk) (λ text. HasNoOpenGate (drop (length (text_of bodies)) text))) c.self.view_is
+    (subst (λ (n : ℕ). IfSome (g.D.Reports.reads c.self.inside.disk) (λ text. HasNoOpenGate (drop n text))) reading.counted.gate here)
 
 pub returns-in-Broken-clause-spelled : goal.returns-in-Broken-clause-spelled
 returns-in-Broken-clause-spelled g c = λ bodies more reading_now spelled_now.
     let reading = subst (λ v. IsReading g.D.Reports v bodies) (sym c.self.view_is) reading_now in
     let spelled = subst (λ v. DiskSpells g.D.Reports v.disk (bodies ++ more)) (sym c.self.view_is) spelled_now in
     never_broken _ more (follows_on_disk _ c.self.inside.gate bodies more spelled.0 reading.text spelled.1 spelled.2)
-    (MatchOption-at_some _ (λ (text : List ℕ). IsBroken (drop c.self.inside.gate text)) spelled.0 spelled.1 (broken_here g (goal.at.returns-in-Broken-clause-spelled g c).In-Broken))
+    (MatchOption-at_some _ (λ (text : List ℕ). HasBrokenBlock (drop c.self.inside.gate text)) spelled.0 spelled.1 (broken_here g (goal.at.returns-in-Broken-clause-spelled g c).In-Broken))
 
 pub returns-in-Whole-clause-shown : goal.returns-in-Whole-clause-shown
 returns-in-Whole-clause-shown g c = λ bodies reading_now.
@@ -103,7 +113,8 @@ handed_sized g c = subst IsBody (sym (handed_is g c)) c.in-Whole.ensures.block.s
 block_here : (g : Over) (c : After-copy_from_slice g)
     → IfSome (g.D.Reports.reads c.self.inside.disk) (λ text. HasBlock (drop c.self.inside.gate text) (handed g c))
 block_here g c =
-    IfSome_then _ c.in-Ok.ensures.bytes (λ text b. let r : HasBlock (drop c.self.inside.gate text) (handed g c) = block_at _ _ (handed g c) c.in-Whole.size b (handed_is g c) c.in-Whole.ensures.block in r)
+    IfSome_then _ c.in-Ok.ensures.bytes
+    (λ text b. let r : HasBlock (drop c.self.inside.gate text) (handed g c) = block_at _ _ (handed g c) c.in-Whole.size b (handed_is g c) c.in-Whole.ensures.block in r)
 
 pub returns-in-Whole-2-clause-shown : goal.returns-in-Whole-2-clause-shown
 unfolding handed
@@ -138,7 +149,8 @@ returns-in-Whole-2-clause-found g c = λ bodies reading_now.
     record {
       phase = reading.phase;
       counted = counted_more g.D.Reports _ _ bodies body reading.counted (handed_sized g place) refl (omega (arith, size));
-      text = subst (λ (o : Option (List ℕ)). IfSome o (λ text. text ≡ text_of (bodies ++ body ∷ []) ++ drop (c.self.inside.gate + (c.in-Whole.size + 3)) text)) (sym c.read_block.ensures.reads_only.same.reads) begins;
+      text =
+          subst (λ (o : Option (List ℕ)). IfSome o (λ text. text ≡ text_of (bodies ++ body ∷ []) ++ drop (c.self.inside.gate + (c.in-Whole.size + 3)) text)) (sym c.read_block.ensures.reads_only.same.reads) begins;
       durable = c.in-Ok.ensures.durable reading.durable;
       synced = c.in-Ok.ensures.synced reading.synced;
     }

@@ -18,22 +18,28 @@ reads_sync g c =
     subst (λ v. ReadsOnly g.D.Reports 1 (IsErr c.sync.result) v.disk c.sync.new.self) c.self.view_is (reads_once g.D.Reports (λ b. (refl, refl)) _ _ _ c.sync.ensures.keeps)
 
 reads_both : (g : Over) (c : After-read g) → ReadsOnly g.D.Reports 2 (IsErr c.read.result) c.args.self.now.disk c.read.new.self
-reads_both g c = reads_then g.D.Reports (reads_sync g (goal.at.After-read g c).After-sync) (reads_once g.D.Reports (λ b. (refl, refl)) _ _ _ c.read.ensures.keeps)
+reads_both g c =
+    reads_then g.D.Reports (reads_sync g (goal.at.After-read g c).After-sync)
+    (reads_once g.D.Reports (λ b. (refl, refl)) _ _ _ c.read.ensures.keeps)
 
 pub returns-in_default-clause-reads_only : goal.returns-in_default-clause-reads_only
 returns-in_default-clause-reads_only g c = reads_none g.D.Reports _ (search rules)
 
 pub returns-in_err-sync-clause-reads_only : goal.returns-in_err-sync-clause-reads_only
-returns-in_err-sync-clause-reads_only g c = reads_most g.D.Reports (omega arith) (search rules) (reads_sync g (goal.at.returns-in_err-sync-clause-reads_only g c).After-sync)
+returns-in_err-sync-clause-reads_only g c =
+    reads_most g.D.Reports (omega arith) (search rules) (reads_sync g (goal.at.returns-in_err-sync-clause-reads_only g c).After-sync)
 
 pub returns-in_err-read-clause-reads_only : goal.returns-in_err-read-clause-reads_only
-returns-in_err-read-clause-reads_only g c = reads_most g.D.Reports (omega arith) (search rules) (reads_both g (goal.at.returns-in_err-read-clause-reads_only g c).After-read)
+returns-in_err-read-clause-reads_only g c =
+    reads_most g.D.Reports (omega arith) (search rules) (reads_both g (goal.at.returns-in_err-read-clause-reads_only g c).After-read)
 
 pub returns-then-gate-ne1-clause-reads_only : goal.returns-then-gate-ne1-clause-reads_only
-returns-then-gate-ne1-clause-reads_only g c = reads_most g.D.Reports (omega arith) (search rules) (reads_both g (goal.at.returns-then-gate-ne1-clause-reads_only g c).After-read)
+returns-then-gate-ne1-clause-reads_only g c =
+    reads_most g.D.Reports (omega arith) (search rules) (reads_both g (goal.at.returns-then-gate-ne1-clause-reads_only g c).After-read)
 
 pub returns-clause-reads_only : goal.returns-clause-reads_only
-returns-clause-reads_only g c = reads_most g.D.Reports (omega arith) (search rules) (reads_both g (goal.at.returns-clause-reads_only g c).After-read)
+returns-clause-reads_only g c =
+    reads_most g.D.Reports (omega arith) (search rules) (reads_both g (goal.at.returns-clause-reads_only g c).After-read)
 
 -- the sync and the look at the gate were made
 made_both : (g : Over) (c : In_ok-read g) → HasMade g.D.Reports 2 c.args.self.now.disk c.read.new.self
@@ -50,7 +56,8 @@ returns-clause-both_calls g c = λ _. made_both g (goal.at.returns-clause-both_c
 -- a crash leaves what it might have left, over calls that write nothing
 moments : (g : Over) (c : After-read g) (bodies hand : List (List ℕ)) → HoldsInHand g.D.Reports c.args.self.now bodies hand
     → LeavesOnly g.D.Reports c.args.self.now.disk c.read.new.self (SpellsEither bodies hand)
-moments g c bodies hand held = only_remains g.D.Reports (only_none g.D.Reports g.met.D.Disk.only_now g.met.D.Disk.now_is_known _ _ held.images) (reads_both g c).same
+moments g c bodies hand held =
+    only_remains g.D.Reports (only_none g.D.Reports g.met.D.Disk.only_now g.met.D.Disk.now_is_known _ _ held.images) (reads_both g c).same
 
 pub returns-in_err-read-clause-moments : goal.returns-in_err-read-clause-moments
 returns-in_err-read-clause-moments g c = moments g (goal.at.returns-in_err-read-clause-moments g c).After-read
@@ -68,7 +75,8 @@ returns-clause-stored g c = λ same bodies body held_now.
     record {
       phase = refl;
       counted = counted_more g.D.Reports _ _ bodies body held.counted (All-head IsBody body [] held.sizes) refl (omega (arith, size));
-      images = found_stored g.D.Reports g.met.D.Disk.reads_is_left _ _ _ c.self.inside.gate _ bodies body held.counted.gate held.images c.sync.ensures.keeps.reads c.sync.ensures.keeps.images c.in_ok-sync.ensures.durable c.in_ok-read.ensures.bytes c.read.ensures.keeps.reads c.read.ensures.keeps.images c.if-gate-ne1.false;
+      images =
+          found_stored g.D.Reports g.met.D.Disk.reads_is_left _ _ _ c.self.inside.gate _ bodies body held.counted.gate held.images c.sync.ensures.keeps.reads c.sync.ensures.keeps.images c.in_ok-sync.ensures.durable c.in_ok-read.ensures.bytes c.read.ensures.keeps.reads c.read.ensures.keeps.images c.if-gate-ne1.false;
       synced = search rules;
     }
 

@@ -3,7 +3,7 @@ use Rattle.pv_network.specs.declared.centre.Arrival.{Arrival}
 use Rattle.pv_network.specs.declared.centre.Arrival.TheVariants as arrivals
 use Rattle.pv_network.specs.declared.outcome.Outcome.TheVariants.{Taken, Old, Early, Full}
 use Rattle.pv_network.specs.Standing.{StandsFor}
-use Rattle.pv_network.specs.Step.{with_applied, step_of_arrival, step_of_deliver}
+use Rattle.pv_network.specs.Step.{with_next_at, step_of_arrival, step_of_deliver}
 use Rattle.pv_network.specs.World.{World, centre_at}
 use Rattle.pv_network.proofs.Performing.{delivers, takes}
 use Rattle.pv_network.proofs.Standing.{centre_stands}
@@ -39,5 +39,5 @@ returns-in-Taken-clause-performs c = λ w stands.
     let stood = centre_stands _ w here c.args.centre c.index_mut.result.now there c.index_mut.ensures.value in
     let next = takes _ w here c.args.centre c.index.result.now there c.index.ensures c.args.index c.in-Some.packet.now (sym c.in-Some.ensures) arrivals.Taken (sym c.in-Taken.ensures) refl
     c.take.new.self (c.take.ensures w.update.record_limit w.update.edits (centre_at w c.args.centre) stood) in
-    let heard = c.acknowledge-ack.ensures.performs (with_applied w c.args.centre) next in
+    let heard = c.acknowledge-ack.ensures.performs (with_next_at w c.args.centre) next in
     rw (arrives (goal.at.returns-in-Taken-clause-performs c).After-arrival arrivals.Taken c.in-Taken.is w stands) (heard.0, ap (Taken c.in-Some.packet.now.number) heard.1)

@@ -1,7 +1,7 @@
 use Rattle.std.proofs.Common.{◌≡◌, length, Bool, not, Option, None, Some, Bor, refl, ap, sym, ◌∙◌, arith}
 use Rattle.std.specs.Prelude.{is_none, is_some, option_copied}
 use Rattle.pv_network.specs.declared.record.Record.{Record}
-use Rattle.pv_network.specs.Edits.{edit_at, frame_at}
+use Rattle.pv_network.specs.Edits.{edit_at, frame_under}
 use Rattle.pv_network.specs.Replies.{stored_reply}
 use Rattle.pv_network.specs.UpdateCentre.{Update, UdcStands, refusal_reply}
 use Rattle.pv_network.proofs.Counts.{none-option_map}
@@ -18,16 +18,16 @@ some_copied None = refl
 some_copied (Some edit) = refl
 
 -- the name is new to the list
-is_new : (c : After-refusal) → c.is_none-is_new.result ≡ is_none (frame_at c.args.self.now.edits c.args.name)
+is_new : (c : After-refusal) → c.is_none-is_new.result ≡ is_none (frame_under c.args.self.now.edits c.args.name)
 is_new c =
     turned c.is_none-is_new.result (is_some c.last_of.result) c.is_none-is_new.ensures
     ∙ sym (some_copied c.last_of.result)
     ∙ ap (λ (o : Option Record). is_none o) c.last_of.ensures
     ∙ sym (none-option_map (edit_at c.self.inside.edits.edits c.args.name))
-    ∙ ap (λ (v : Update). is_none (frame_at v.edits c.args.name)) c.self.view_is
+    ∙ ap (λ (v : Update). is_none (frame_under v.edits c.args.name)) c.self.view_is
 
 -- what is refused is the definition's
-refusal : (c : After-refusal) (u : Update) → UdcStands u c.args.self.now → refusal_reply u (is_none (frame_at u.edits c.args.name)) ≡ c.refusal.result
+refusal : (c : After-refusal) (u : Update) → UdcStands u c.args.self.now → refusal_reply u (is_none (frame_under u.edits c.args.name)) ≡ c.refusal.result
 refusal c u stands = rw (← stands.same) (sym (c.refusal.ensures ∙ ap (refusal_reply c.args.self.now) (is_new c)))
 
 pub returns-in-Some-clause-reply : goal.returns-in-Some-clause-reply

@@ -32,7 +32,8 @@ returns-in-Err-replay-clause-handed_back g c =
     subst (λ disk. ReadsOnly g.D.Reports (c.args.limits.records + 4) (IsOpenDiskFault c.in-Err-replay.fault) c.args.disk disk) (sym c.into_disk.ensures) both
 
 pub returns-in_default-clause-moments_refused : goal.returns-in_default-clause-moments_refused
-returns-in_default-clause-moments_refused g c = only_none g.D.Reports g.met.D.Disk.only_now g.met.D.Disk.now_is_known _ _ (λ told image left. left)
+returns-in_default-clause-moments_refused g c =
+    only_none g.D.Reports g.met.D.Disk.only_now g.met.D.Disk.now_is_known _ _ (λ told image left. left)
 
 pub returns-in-Err-clause-moments_refused : goal.returns-in-Err-clause-moments_refused
 returns-in-Err-clause-moments_refused g c = c.in-Err.ensures.moments_refused
@@ -42,10 +43,13 @@ returns-in-Err-replay-clause-moments_refused g c =
     only_remains g.D.Reports (only_none g.D.Reports g.met.D.Disk.only_now g.met.D.Disk.now_is_known _ _ (λ told image left. left)) (returns-in-Err-replay-clause-handed_back g c).same
 
 pub returns-clause-reads_only : goal.returns-clause-reads_only
-returns-clause-reads_only g c = reads_most g.D.Reports (omega arith) (λ never. absurd never) (reads_both g (goal.at.returns-clause-reads_only g c).After-replay)
+returns-clause-reads_only g c =
+    reads_most g.D.Reports (omega arith) (λ never. absurd never) (reads_both g (goal.at.returns-clause-reads_only g c).After-replay)
 
 pub returns-in_default-clause-handed_back : goal.returns-in_default-clause-handed_back
 returns-in_default-clause-handed_back g c = reads_none g.D.Reports _ (λ fails. fails)
 
 pub returns-clause-moments : goal.returns-clause-moments
-returns-clause-moments g c = only_remains g.D.Reports (only_none g.D.Reports g.met.D.Disk.only_now g.met.D.Disk.now_is_known _ _ (λ told image left. left)) (returns-clause-reads_only g c).same
+returns-clause-moments g c =
+    only_remains g.D.Reports (only_none g.D.Reports g.met.D.Disk.only_now g.met.D.Disk.now_is_known _ _ (λ told image left. left))
+    (returns-clause-reads_only g c).same

@@ -36,7 +36,8 @@ returns-in_default-clause-reads_only g c = reads_none g.D.Reports _ (search rule
 made_both : (g : Over) (c : In_ok-stored g) → HasMade g.D.Reports 2 c.args.self.now.journal.disk c.settle.new.self.disk
 made_both g c =
     let step = subst (λ (h : Option g.row.R-Rec.Denot). IsInStep g.R.Rules c.self.inside.state h c.self.inside.journal) c.in-Some.is c.self.invariant.hand in
-    subst (λ v. HasMade g.D.Reports 2 v.journal.disk c.settle.new.self.disk) c.self.view_is (c.in_ok-stored.ensures.both_calls (λ none. subst (λ phase. IsNoneInHand (record c.self.inside.journal { phase = phase })) step.0 none))
+    subst (λ v. HasMade g.D.Reports 2 v.journal.disk c.settle.new.self.disk) c.self.view_is
+    (c.in_ok-stored.ensures.both_calls (λ none. subst (λ phase. IsNoneInHand (record c.self.inside.journal { phase = phase })) step.0 none))
 
 pub returns-in-Some-true-clause-both_calls : goal.returns-in-Some-true-clause-both_calls
 returns-in-Some-true-clause-both_calls g c = λ _. made_both g (goal.at.returns-in-Some-true-clause-both_calls g c).In_ok-stored

@@ -28,10 +28,20 @@ spent : (g : Over) (c : After-append g) (state : g.row.R-State.Denot) (hand : Op
 unfolding seen
 spent g c state hand result fails passes =
     let none : c.self.inside.hand ≡ None = ap (λ v. v.hand) c.self.view_is ∙ c.requires.at_rest in
-    subst (λ v. SpendsOnAsk g.R.Rules g.D.Reports 4 v (record { journal = c.append.new.self; state = state; hand = hand }) result) c.self.view_is
-    (let spends : SpendsOnAsk g.R.Rules g.D.Reports 4 (seen g c) (record { journal = c.append.new.self; state = state; hand = hand }) result = record {
+    subst (λ v. SpendsOnAsk g.R.Rules g.D.Reports 4 v (record {
+      journal = c.append.new.self;
+      state = state;
+      hand = hand;
+    }) result) c.self.view_is
+    (let spends : SpendsOnAsk g.R.Rules g.D.Reports 4 (seen g c) (record {
+      journal = c.append.new.self;
+      state = state;
+      hand = hand;
+    }) result = record {
       spends = spends_most g.D.Reports (omega arith) fails c.append.ensures.spends;
-      passes = λ _ records stands has. passes (map g.R.Rules.spelling records) (holds_at_rest g.R.Rules g.D.Reports (seen g c) records stands none)
+      passes =
+          λ _ records stands has. passes (map g.R.Rules.spelling records)
+          (holds_at_rest g.R.Rules g.D.Reports (seen g c) records stands none)
           (subst (λ (n : ℕ). HasCalls 4 (longest n) (g.D.Reports.budget c.self.inside.journal.disk)) (sym c.self.invariant.limit) has);
       early = λ _ records stands.
           elim (c.append.ensures.early (map g.R.Rules.spelling records) (holds_at_rest g.R.Rules g.D.Reports (seen g c) records stands none)) [

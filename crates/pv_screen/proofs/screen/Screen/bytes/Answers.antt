@@ -1,6 +1,6 @@
 use Rattle.std.proofs.Common.{refl, subst, sym}
 use Rattle.pv_screen.specs.Grid.{IsGrid, blank_grid}
-use Rattle.pv_screen.specs.Showing.{HasCells, IsScreen}
+use Rattle.pv_screen.specs.Showing.{HasCells, IsShowable}
 use Rattle.pv_screen.specs.Terminal.{new_display}
 use Rattle.pv_screen.proofs.Shows.{IsReady-new, IsRow-last}
 use Rattle.pv_screen.proofs.screen.Screen.bytes.Goals as goal
@@ -9,12 +9,12 @@ use Rattle.pv_screen.proofs.screen.Screen.bytes.Goals as goal
 pub returns-in-Whole-clause-screen : goal.returns-in-Whole-clause-screen
 returns-in-Whole-clause-screen c = λ _.
     let after = c.paint.ensures.ready new_display refl in
-    subst IsScreen (sym c.in-Whole.is) (subst IsGrid (c.paint.ensures.shows new_display refl) after.cells)
+    subst IsShowable (sym c.in-Whole.is) (subst IsGrid (c.paint.ensures.shows new_display refl) after.cells)
 
 -- a terminal that shows the row has it as one of a grid
 pub returns-in-Row-clause-screen : goal.returns-in-Row-clause-screen
 returns-in-Row-clause-screen c = λ has.
     let fits = subst HasCells c.in-Row.is has in
     let after = c.message.ensures.ready fits new_display IsReady-new in
-    subst IsScreen (sym c.in-Row.is)
+    subst IsShowable (sym c.in-Row.is)
     (IsRow-last blank_grid c.in-Row.cells refl (subst IsGrid (c.message.ensures.shows fits new_display IsReady-new) after.cells))
