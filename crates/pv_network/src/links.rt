@@ -7,22 +7,27 @@ use crate::record::Record;
 use std::alloc::{AllocError, Global};
 use std::marker::Model;
 
-/// The links of all centres, with a count of the packets that were made on them.
+/// The links of all centres, with a count of the packets that were made on them. All packets that went down are in one
+/// row, in room that `open` reserves, and each link has the places of its own.
 #[derive(Debug, Drop)]
 pub struct Links {
     links: Vec<Link>,
-    packets: usize,
+    packets: Vec<Packet>,
+    made: usize,
 }
 
 impl Model for Links {
-    ghost use Rattle.std.specs.Prelude.{◌≡◌, List};
+    ghost use Rattle.std.specs.Prelude.{◌≡◌, ◌≤◌, List, length, vec_capacity};
+    ghost use Rattle.pv_network.specs.declared.packet.TheConstants.{MAX_PACKETS};
     ghost use Rattle.pv_network.specs.Link as Spec;
 
     ghost Value = { List Spec.Link };
 
-    ghost view = { λ l. l.links.items };
+    ghost view = { λ l. Spec.links_of l.packets.items l.links.items };
 
-    ghost invariant = { λ l. l.packets ≡ Spec.packet_count l.links.items };
+    ghost invariant = { λ l. Spec.AreWithin l.packets.items l.links.items
+        × (l.made ≡ Spec.packet_count (Spec.links_of l.packets.items l.links.items))
+        × (length l.packets.items ≤ l.made) × (MAX_PACKETS ≤ vec_capacity l.packets) };
 }
 
 impl Links {
@@ -34,14 +39,18 @@ impl Links {
         for _ in 0..count {
             links.push(Link::open(alloc)?)?;
         }
-        Ok(Links { links, packets: 0 })
+        Ok(Links {
+            links,
+            packets: Vec::with_capacity(alloc, MAX_PACKETS)?,
+            made: 0,
+        })
     }
 
     /// Whether as many packets were made as may be.
     pub(crate) fn is_full(&self) -> bool
         ensures { result ≡ is_packets_full self.now }
     {
-        self.packets >= MAX_PACKETS
+        self.made >= MAX_PACKETS
     }
 
     /// The packet of an index that went down a link.
@@ -49,7 +58,8 @@ impl Links {
         requires { link < length self.now }
         ensures { option_copied result ≡ slice_get (link_in self.now link).down index }
     {
-        self.links[link].packet(index)
+        let place = self.links[link].place(index)?;
+        Some(&self.packets[place])
     }
 
     /// The number that a link sends next, of those below this count. `None` if all of them are acknowledged.
@@ -68,8 +78,12 @@ impl Links {
         ensures index { result ≡ length (link_in self.old link).down }
         ensures packed { self.new ≡ slice_set self.old link (with_packet (link_in self.old link) number edit.now) }
     {
-        let index = self.links[link].pack(number, edit);
-        self.packets += 1;
+        let index = self.links[link].pack(number, self.packets.len());
+        self.packets.push_reserved(Packet {
+            number,
+            edit: *edit,
+        });
+        self.made += 1;
         index
     }
 
@@ -81,7 +95,7 @@ impl Links {
         ensures made { self.new ≡ slice_set self.old link (with_acknowledgement (link_in self.old link) count) }
     {
         let index = self.links[link].acknowledge(count);
-        self.packets += 1;
+        self.made += 1;
         index
     }
 }
