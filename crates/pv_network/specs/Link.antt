@@ -81,6 +81,10 @@ links_of packets links = map (link_of packets) links
 abbrev pub AreWithin : List Packet → List Places → Type 0
 AreWithin packets links = All (λ here. All (λ place. place < length packets) here.down) links
 
+-- how many packets the places are of, in both directions
+abbrev pub place_count : List Places → ℕ
+place_count links = sum_by (λ here. length here.down + length here.up) links
+
 -- one more place goes down, with the number of its packet, and the end goes on after it
 abbrev pub with_place : Places → ℕ → ℕ → Places
 with_place here number place = record here {

@@ -26,7 +26,7 @@ impl Model for Links {
     ghost view = { λ l. Spec.links_of l.packets.items l.links.items };
 
     ghost invariant = { λ l. Spec.AreWithin l.packets.items l.links.items
-        × (l.made ≡ Spec.packet_count (Spec.links_of l.packets.items l.links.items))
+        × (l.made ≡ Spec.place_count l.links.items)
         × (length l.packets.items ≤ l.made) × (MAX_PACKETS ≤ vec_capacity l.packets) };
 }
 
@@ -47,6 +47,7 @@ impl Links {
     }
 
     /// Whether as many packets were made as may be.
+    #[tactic(auto, using(crate::proofs::Packets::count_of_places))]
     pub(crate) fn is_full(&self) -> bool
         ensures { result ≡ is_packets_full self.now }
     {
@@ -71,6 +72,7 @@ impl Links {
     }
 
     /// Packs a record on a link, and returns the packet's index.
+    #[tactic(auto, using(crate::proofs::Packets::count_of_places))]
     pub(crate) fn pack(&mut self, link: usize, number: u64, edit: &Record) -> u64
         requires there { link < length self.old }
         requires room { is_packets_full self.old ≡ false }
@@ -78,6 +80,7 @@ impl Links {
         ensures index { result ≡ length (link_in self.old link).down }
         ensures packed { self.new ≡ slice_set self.old link (with_packet (link_in self.old link) number edit.now) }
     {
+        prove!(self.made < MAX_PACKETS);
         let index = self.links[link].pack(number, self.packets.len());
         self.packets.push_reserved(Packet {
             number,
@@ -88,12 +91,14 @@ impl Links {
     }
 
     /// Sends an acknowledgement of this many records up a link, and returns its index.
+    #[tactic(auto, using(crate::proofs::Packets::count_of_places))]
     pub(crate) fn acknowledge(&mut self, link: usize, count: u64) -> u64
         requires there { link < length self.old }
         requires room { is_packets_full self.old ≡ false }
         ensures index { result ≡ length (link_in self.old link).up }
         ensures made { self.new ≡ slice_set self.old link (with_acknowledgement (link_in self.old link) count) }
     {
+        prove!(self.made < MAX_PACKETS);
         let index = self.links[link].acknowledge(count);
         self.made += 1;
         index
