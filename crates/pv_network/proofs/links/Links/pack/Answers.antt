@@ -22,8 +22,8 @@ invariant_of-self c =
 pub returns-clause-packed : goal.returns-clause-packed
 returns-clause-packed c =
     let packets = c.self.inside.packets.items in
-    let links = c.self.inside.links.items in
     let there = rw (← c.self.view_is) at c.requires.there in
     let last : c.len.result ≡ length packets = omega (arith, c.len.ensures) in
     rw (← c.self.view_is, c.pack-index.ensures.packed, c.push_reserved.ensures.items)
-    (packed packets links c.args.link there c.index_mut.result.now c.index_mut.ensures.value c.self.invariant.0 c.args.number c.args.edit.now c.len.result last)
+    (packed packets c.self.inside.links.items c.args.link there c.index_mut.result.now c.index_mut.ensures.value
+    c.self.invariant.0 c.args.number c.args.edit.now c.len.result last)
