@@ -2,6 +2,7 @@ pub mod Counts
 pub mod Facts
 pub mod Finding
 pub mod Lists
+pub mod Packets
 pub mod Performing
 pub mod Pushes
 pub mod Soundness

@@ -1,10 +1,10 @@
 -- Each event at a network is that event at each world that it stands for.
-use Rattle.std.proofs.Common.{◌≡◌, ℕ, ◌<◌, false, cond, leb, List, length, get_or, set, Option, Some, None, refl, sym, ap, ◌∙◌}
+use Rattle.std.proofs.Common.{◌≡◌, ℕ, ◌<◌, false, cond, leb, List, length, get_or, set, Some, None, refl, sym, ap, ◌∙◌}
 use Rattle.std.specs.Prelude.{slice_get}
 use Rattle.std.proofs.lemmas.Bool.{le-leb}
 use Rattle.std.proofs.lemmas.List.Sums.{list_all-from_AllPass}
 use Rattle.pv_cells.specs.declared.reading.TheConstants.{LAST_CELL}
-use Rattle.pv_frame.specs.Content.{Content, frame_of_row}
+use Rattle.pv_frame.specs.Content.{frame_of_row}
 use Rattle.pv_screen.specs.Grid.{IsRow}
 use Rattle.pv_network.specs.declared.centre.Arrival.{Arrival}
 use Rattle.pv_network.specs.declared.centre.Arrival.TheVariants as arrivals

@@ -9,7 +9,7 @@ use Rattle.pv_network.specs.Edits.{puts, edit_at}
 use Rattle.pv_network.specs.Centre.{Centre, CentreStands, Index, entry_of, new_centre, with_next}
 use Rattle.pv_network.specs.Link.{Link}
 use Rattle.pv_network.specs.UpdateCentre.{Update, UdcStands, with_judgement}
-use Rattle.pv_network.specs.World.{World, centre_at, with_centre, with_link, with_edit}
+use Rattle.pv_network.specs.World.{World, centre_at, with_centre, with_link}
 use Rattle.pv_network.specs.Step.{world_with}
 use Rattle.pv_network.specs.Sound.{IsSound}
 use Rattle.pv_network.specs.Standing.{State, StandsFor}

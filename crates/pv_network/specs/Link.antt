@@ -1,6 +1,7 @@
 -- The link between the Update Centre and a centre: its packets, and the end that sends down.
-use Rattle.std.specs.Prelude.{ℕ, ◌+◌, Bool, ◌&&◌, nat_lt, nat_le, List, [], ◌∷◌, ◌++◌, length, Option, Some, None, slice_index_or, if◌then◌else◌}
+use Rattle.std.specs.Prelude.{ℕ, ◌+◌, ◌<◌, All, Bool, ◌&&◌, nat_lt, nat_le, List, [], ◌∷◌, ◌++◌, length, map, Option, Some, None, slice_index_or, if◌then◌else◌}
 use Rattle.std.specs.List.{sum_by}
+use Rattle.pv_frame.specs.Content.{blank_frame}
 use Rattle.pv_network.specs.declared.record.Record.{Record}
 use Rattle.pv_network.specs.declared.packet.Packet.{Packet}
 
@@ -47,3 +48,50 @@ with_packet link number edit = record link {
 -- an acknowledgement of this many records goes up
 abbrev pub with_acknowledgement : Link → ℕ → Link
 with_acknowledgement link count = record link { up = link.up ++ count ∷ [] }
+
+-- ---- how the code keeps the links: all packets in one row, and of each link the places of its own
+
+-- of a link: the places of the packets that went down, the acknowledgements that went up, and the end that sends down
+pub record Places : Type 0 where
+  pub down : List ℕ
+  pub up : List ℕ
+  pub sending : End
+
+-- no place on a link on which nothing was sent
+abbrev pub no_places : Places
+no_places = record { down = []; up = []; sending = record { acknowledged = 0; next = 0 } }
+
+-- a packet that is in no row
+abbrev pub no_packet : Packet
+no_packet = record { number = 0; edit = record { editor = 0; number = 0; name = record { page = 1; letter = 97 }; frame = blank_frame } }
+
+-- the packet at a place of the row
+abbrev pub packet_at : List Packet → ℕ → Packet
+packet_at packets place = slice_index_or packets place no_packet
+
+-- the link whose packets are at these places
+abbrev pub link_of : List Packet → Places → Link
+link_of packets here = record { down = map (packet_at packets) here.down; up = here.up; sending = here.sending }
+
+-- the links, each by its places
+abbrev pub links_of : List Packet → List Places → List Link
+links_of packets links = map (link_of packets) links
+
+-- each place is one of the row
+abbrev pub AreWithin : List Packet → List Places → Type 0
+AreWithin packets links = All (λ here. All (λ place. place < length packets) here.down) links
+
+-- how many packets the places are of, in both directions
+abbrev pub place_count : List Places → ℕ
+place_count links = sum_by (λ here. length here.down + length here.up) links
+
+-- one more place goes down, with the number of its packet, and the end goes on after it
+abbrev pub with_place : Places → ℕ → ℕ → Places
+with_place here number place = record here {
+  down = here.down ++ place ∷ [];
+  sending = record { acknowledged = here.sending.acknowledged; next = number + 1 };
+}
+
+-- an acknowledgement of this many records goes up
+abbrev pub with_count : Places → ℕ → Places
+with_count here count = record here { up = here.up ++ count ∷ [] }

@@ -1,5 +1,5 @@
 -- Which worlds a network stands for, part by part.
-use Rattle.std.specs.Prelude.{◌≡◌, ℕ, ◌<◌, Bool, List, length}
+use Rattle.std.specs.Prelude.{◌≡◌, ◌<◌, Bool, List, length}
 use Rattle.std.specs.List.{AllZip}
 use Rattle.pv_screen.specs.Grid.{IsRow}
 use Rattle.pv_network.specs.declared.event.Event.{Event}

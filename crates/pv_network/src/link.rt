@@ -1,17 +1,16 @@
-ghost use Rattle.std.specs.Prelude.{◌≡◌, ◌+◌, ◌<◌, ◌^◌, ℕ, length, option_copied, slice_get, IfOk};
+ghost use Rattle.std.specs.Prelude.{◌≡◌, ◌+◌, ◌<◌, ◌^◌, ℕ, length, slice_get, IfOk};
 ghost use Rattle.pv_network.specs.declared.packet.TheConstants.{MAX_PACKETS};
-ghost use Rattle.pv_network.specs.Link.{new_link, next_number, with_packet, with_acknowledgement};
+ghost use Rattle.pv_network.specs.Link.{no_places, next_number, with_place, with_count};
 
-use crate::packet::{MAX_PACKETS, Packet};
-use crate::record::Record;
+use crate::packet::MAX_PACKETS;
 use std::alloc::{AllocError, Global};
 use std::marker::Model;
 
-/// The link between the Update Centre and a centre: the packets that were made for it in both directions, and the end
-/// that sends down. `open` reserves all room.
+/// The link between the Update Centre and a centre: the places of the packets that went down it, the acknowledgements
+/// that went up, and the end that sends down. `open` reserves all room.
 #[derive(Debug, Drop)]
 pub struct Link {
-    down: Vec<Packet>,
+    down: Vec<usize>,
     up: Vec<u64>,
     acknowledged: u64,
     next: u64,
@@ -22,7 +21,7 @@ impl Model for Link {
     ghost use Rattle.pv_network.specs.declared.packet.TheConstants.{MAX_PACKETS};
     ghost use Rattle.pv_network.specs.Link as Spec;
 
-    ghost Value = { Spec.Link };
+    ghost Value = { Spec.Places };
 
     ghost view = { λ l. record {
       down = l.down.items;
@@ -39,7 +38,7 @@ impl Model for Link {
 impl Link {
     /// A link on which nothing was sent.
     pub(crate) fn open(alloc: Global) -> Result<Link, AllocError>
-        ensures { IfOk result (λ l. l ≡ new_link) }
+        ensures { IfOk result (λ l. l ≡ no_places) }
     {
         Ok(Link {
             down: Vec::with_capacity(alloc, MAX_PACKETS)?,
@@ -49,11 +48,11 @@ impl Link {
         })
     }
 
-    /// The packet of an index that went down.
-    pub(crate) fn packet(&self, index: u64) -> Option<&Packet>
-        ensures { option_copied result ≡ slice_get self.now.down index }
+    /// The place of the packet of an index that went down.
+    pub(crate) fn place(&self, index: u64) -> Option<usize>
+        ensures { result ≡ slice_get self.now.down index }
     {
-        self.down.get(index as usize)
+        self.down.get(index as usize).copied()
     }
 
     /// The number that is sent next, of those below this count. `None` if all of them are acknowledged.
@@ -70,18 +69,15 @@ impl Link {
         }
     }
 
-    /// Packs a record, and returns the packet's index.
-    pub(crate) fn pack(&mut self, number: u64, edit: &Record) -> u64
+    /// Sends the packet of a number at a place down, and returns its index.
+    pub(crate) fn pack(&mut self, number: u64, place: usize) -> u64
         requires room { length self.old.down < MAX_PACKETS }
         requires next { number + 1 < 2 ^ 64 }
         ensures index { result ≡ length self.old.down }
-        ensures packed { self.new ≡ with_packet self.old number edit.now }
+        ensures packed { self.new ≡ with_place self.old number place }
     {
         let index = self.down.len() as u64;
-        self.down.push_reserved(Packet {
-            number,
-            edit: *edit,
-        });
+        self.down.push_reserved(place);
         self.next = number + 1;
         index
     }
@@ -90,7 +86,7 @@ impl Link {
     pub(crate) fn acknowledge(&mut self, count: u64) -> u64
         requires { length self.old.up < MAX_PACKETS }
         ensures index { result ≡ length self.old.up }
-        ensures made { self.new ≡ with_acknowledgement self.old count }
+        ensures made { self.new ≡ with_count self.old count }
     {
         let index = self.up.len() as u64;
         self.up.push_reserved(count);

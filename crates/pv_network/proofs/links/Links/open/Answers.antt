@@ -1,12 +1,14 @@
-use Rattle.std.proofs.Common.{◌≡◌, ℕ, zero, suc, refl, sym, ap, ◌∙◌}
+use Rattle.std.proofs.Common.{◌≡◌, ℕ, zero, suc, [], ◌∷◌, refl, ap, ◌∙◌, arith}
 use Rattle.std.specs.Prelude.{replicate}
-use Rattle.pv_network.specs.Link.{new_link, packet_count}
+use Rattle.pv_network.specs.Link.{links_of, new_link, no_places}
 use Rattle.pv_network.proofs.links.Links.open.Goals as goal
 
--- no packet was made on new links
-none_made : (n : ℕ) → 0 ≡ packet_count (replicate n new_link)
-none_made zero = refl
-none_made (suc n) = none_made n
+-- links without places are new
+all_new : (n : ℕ) → links_of [] (replicate n no_places) ≡ replicate n new_link
+all_new zero = refl
+all_new (suc n) = ap (λ ls. new_link ∷ ls) (all_new n)
 
-pub invariant_of-result : goal.invariant_of-result
-invariant_of-result c = none_made c.loop.counter ∙ ap packet_count (sym c.loop.invariant)
+pub returns : goal.returns
+returns c =
+    rw (c.in_ok-with_capacity.ensures.items, c.loop.invariant)
+    (all_new c.loop.counter ∙ ap (λ n. replicate n new_link) (omega (arith, c.loop-test.false, c.loop.auto.counter-end)))
