@@ -1,6 +1,7 @@
 -- Whether there is room for a record: the limits on frames, accounts and leased roots.
 use Rattle.std.specs.Prelude.{ℕ, ◌+◌, ◌-◌, ◌&&◌, ◌||◌, nat_lt, Bool, true, List, [], ◌∷◌, reverse, is_some, if◌then◌else◌}
 use Rattle.pv_outside.specs.declared.limits.Limits.{Limits}
+use Rattle.pv_page.specs.Names.{Name}
 use Rattle.pv_edits.specs.declared.record.Record.{Record}
 use Rattle.pv_edits.specs.declared.record.Record.TheVariants.{Put, Drop, Account, Lease, Taken}
 use Rattle.pv_edits.specs.declared.room.TheConstants.{MAX_ACCOUNTS, MAX_LEASES}
@@ -51,13 +52,22 @@ lease_count records = count_from 0 leases_after (reverse records)
 abbrev pub has_editor : List Record → ℕ → Bool
 has_editor records editor = is_some (account_at records editor)
 
+-- the name has a frame, or there may be one frame more
+abbrev pub frame_fits : Limits → List Record → Name → Bool
+frame_fits limits records name = is_some (frame_at records name) || nat_lt (frame_count records) limits.frames
+
+-- there is the account, or there may be one more
+abbrev pub account_fits : List Record → ℕ → Bool
+account_fits records number = is_some (account_at records number) || nat_lt (account_count records) MAX_ACCOUNTS
+
+-- the root is leased, or there may be one leased root more
+abbrev pub lease_fits : List Record → ℕ → Bool
+lease_fits records root = is_some (last_index (leases root) records) || nat_lt (lease_count records) MAX_LEASES
+
 -- there is room for the record: its editor is an account, and what it adds is within the limits
 abbrev pub has_room : Limits → List Record → Record → Bool
-has_room limits records (Put editor q name frame) =
-    has_editor records editor && (is_some (frame_at records name) || nat_lt (frame_count records) limits.frames)
+has_room limits records (Put editor q name frame) = has_editor records editor && frame_fits limits records name
 has_room limits records (Drop editor q name) = has_editor records editor
-has_room limits records (Account editor q account) =
-    has_editor records editor && (is_some (account_at records account.number) || nat_lt (account_count records) MAX_ACCOUNTS)
-has_room limits records (Lease editor q root account) =
-    has_editor records editor && (is_some (last_index (leases root) records) || nat_lt (lease_count records) MAX_LEASES)
+has_room limits records (Account editor q account) = has_editor records editor && account_fits records account.number
+has_room limits records (Lease editor q root account) = has_editor records editor && lease_fits records root
 has_room limits records (Taken taken) = true

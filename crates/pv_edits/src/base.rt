@@ -1,8 +1,8 @@
-ghost use Rattle.std.specs.Prelude.{◌≡◌, ℕ, ◌+◌, ◌<◌, ◌≤◌, ◌↔◌, List, [], ◌∷◌, ◌++◌, ◌||◌, nat_lt, length, is_some, option_copied, option_map, IfOk, IfSome, IsTrue};
+ghost use Rattle.std.specs.Prelude.{◌≡◌, ℕ, ◌+◌, ◌<◌, ◌≤◌, ◌↔◌, List, [], ◌∷◌, ◌++◌, length, slice_get, is_some, option_copied, option_map, IfOk, IfSome, IsTrue};
 ghost use Rattle.std.specs.Vec.{vec_capacity};
 ghost use Rattle.pv_edits.specs.declared.record.Record.{Record};
 ghost use Rattle.pv_edits.specs.OpenPages.{is_open_to};
-ghost use Rattle.pv_edits.specs.Room.{frame_count, frames_after, account_count, accounts_after, lease_count, leases_after, has_editor, has_room};
+ghost use Rattle.pv_edits.specs.Room.{frame_count, frames_after, account_count, accounts_after, lease_count, leases_after, has_editor, frame_fits, account_fits, lease_fits, has_room};
 ghost use Rattle.pv_edits.specs.Edits.{is_about, leases, last_index, frame_at, frame_in, account_at, account_in, last_of, number_in, operator_profile};
 
 use crate::owner::lot_of;
@@ -128,6 +128,38 @@ impl Base {
         self.fits(rec)
     }
 
+    /// Whether the name has a frame, or there may be one frame more.
+    pub fn frame_fits(&self, name: FrameName) -> bool
+        ensures { (records : List Record) (places : List ℕ) → IsBaseOf self.now records places →
+            result ≡ frame_fits self.now.limits records name }
+    {
+        self.has_frame(name) || self.frames < self.limits.frames
+    }
+
+    /// Whether there is the account, or there may be one more.
+    pub fn account_fits(&self, number: AccountNo) -> bool
+        ensures { (records : List Record) (places : List ℕ) → IsBaseOf self.now records places →
+            result ≡ account_fits records number }
+    {
+        self.has_account(number) || self.accounts < MAX_ACCOUNTS
+    }
+
+    /// Whether the root is leased, or there may be one leased root more.
+    pub fn lease_fits(&self, root: PageNo) -> bool
+        ensures { (records : List Record) (places : List ℕ) → IsBaseOf self.now records places →
+            result ≡ lease_fits records root }
+    {
+        self.has_lease(root) || self.leased < MAX_LEASES
+    }
+
+    /// The record at a place in the order of absorbing, from 0. `None` exactly from the count on.
+    pub fn record_at(&self, place: u64) -> Option<&Record>
+        ensures { (records : List Record) (places : List ℕ) → IsBaseOf self.now records places →
+            option_copied result ≡ slice_get records place }
+    {
+        self.records.get(place as usize)
+    }
+
     /// An editor's last number, and the place of his last record. `None` exactly when he has none.
     pub fn last(&self, editor: AccountNo) -> Option<(u32, u64)>
         ensures { (records : List Record) (places : List ℕ) → IsBaseOf self.now records places →
@@ -183,30 +215,6 @@ impl Base {
         ensures { result ≡ has_editor self.now.records.items editor }
     {
         self.has_account(editor)
-    }
-
-    /// Whether the name has a frame, or there may be one frame more.
-    fn frame_fits(&self, name: FrameName) -> bool
-        ensures { result ≡ (is_some (frame_at self.now.records.items name)
-            || nat_lt (frame_count self.now.records.items) self.now.limits.frames) }
-    {
-        self.has_frame(name) || self.frames < self.limits.frames
-    }
-
-    /// Whether there is the account, or there may be one more.
-    fn account_fits(&self, number: AccountNo) -> bool
-        ensures { result ≡ (is_some (account_at self.now.records.items number)
-            || nat_lt (account_count self.now.records.items) MAX_ACCOUNTS) }
-    {
-        self.has_account(number) || self.accounts < MAX_ACCOUNTS
-    }
-
-    /// Whether the root is leased, or there may be one leased root more.
-    fn lease_fits(&self, root: PageNo) -> bool
-        ensures { result ≡ (is_some (last_index (leases root) self.now.records.items)
-            || nat_lt (lease_count self.now.records.items) MAX_LEASES) }
-    {
-        self.has_lease(root) || self.leased < MAX_LEASES
     }
 
     /// Whether there is room for a record.
