@@ -1,0 +1,6 @@
+pub mod Codes
+pub mod Counts
+pub mod EditList
+pub mod Judgement
+pub mod Replies
+pub mod Requests

@@ -1,0 +1,43 @@
+-- What goes down of a record, and what came up to an editor's pages.
+use Rattle.std.specs.Prelude.{ℕ, ◌==◌, Bool, false, List, drop, Option}
+use Rattle.std.specs.List.{position_from}
+use Rattle.pv_post.specs.declared.item.Item.{Item}
+use Rattle.pv_post.specs.declared.item.Item.TheVariants.{Charge, Reply, Mail}
+use Rattle.pv_edits.specs.Taken.{TakenUp}
+use Rattle.pv_edits.specs.Owner.{owner_of}
+use Rattle.pv_edits.specs.declared.record.Record.{Record}
+use Rattle.pv_edits.specs.declared.record.Record.TheVariants.{Put, Drop, Account, Lease, Taken}
+use Rattle.pv_edits.specs.declared.down.DownRecord.{DownRecord}
+use Rattle.pv_edits.specs.declared.down.DownRecord.TheVariants.{Whole, Blank}
+
+-- of the items that were taken up, letters go down, and charges and replies do not
+abbrev pub down_of_item : Item → TakenUp → DownRecord
+down_of_item (Charge line) taken = Blank
+down_of_item (Reply reply) taken = Blank
+down_of_item (Mail mail) taken = Whole (Taken taken)
+
+-- what a centre gets of a record
+abbrev pub down_of : Record → DownRecord
+down_of (Put editor q name frame) = Whole (Put editor q name frame)
+down_of (Drop editor q name) = Whole (Drop editor q name)
+down_of (Account editor q account) = Whole (Account editor q account)
+down_of (Lease editor q root account) = Whole (Lease editor q root account)
+down_of (Taken taken) = down_of_item taken.item taken
+
+-- the item is a reply to a page that is this editor's now
+abbrev pub is_reply_to : List Record → ℕ → Item → Bool
+is_reply_to records editor (Charge line) = false
+is_reply_to records editor (Reply reply) = owner_of records reply.name.page == editor
+is_reply_to records editor (Mail mail) = false
+
+-- the record brought such a reply
+abbrev pub brings_reply_to : List Record → ℕ → Record → Bool
+brings_reply_to records editor (Put other q name frame) = false
+brings_reply_to records editor (Drop other q name) = false
+brings_reply_to records editor (Account other q account) = false
+brings_reply_to records editor (Lease other q root account) = false
+brings_reply_to records editor (Taken taken) = is_reply_to records editor taken.item
+
+-- the first place, from this one on, of a record that brought a reply to a page that is this editor's now
+abbrev pub reply_place : List Record → ℕ → ℕ → Option ℕ
+reply_place records editor from = position_from (brings_reply_to records editor) from (drop from records)
