@@ -31,7 +31,7 @@ pub taken_of-push : (records : List Record) (edit : Record) (centre : ℕ)
 taken_of-push records edit centre = count_by-push (is_of_centre centre) records edit
 
 -- the places of one record more
-places_of-push : (records : List Record) (edit : Record) → places_of (records ++ edit ∷ []) ≡ places_of records ++ length records ∷ []
+pub places_of-push : (records : List Record) (edit : Record) → places_of (records ++ edit ∷ []) ≡ places_of records ++ length records ∷ []
 places_of-push records edit =
     let more : length (records ++ edit ∷ []) ≡ suc (length records) = omega (arith, length-append records (edit ∷ [])) in
     let last : 0 + length records ≡ length records = omega arith in

@@ -1,2 +1,8 @@
+mod Deciding
 mod Growing
+mod LastEdits
+mod Numbering
+mod Repeating
 mod Replying
+mod Rooms
+mod Sizes

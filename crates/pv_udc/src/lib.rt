@@ -25,12 +25,16 @@
 #![tactic(auto)]
 
 mod judging;
+mod law;
 mod refusal;
 mod reply;
 mod request;
 mod sending;
 mod state;
 
+pub use law::{
+    edits_are_numbered_from_one, repeat_is_the_same_edit, spelling_is_a_body, stored_record_has_room,
+};
 pub use refusal::Refusal;
 pub use reply::{Code, UdcReply};
 pub use request::UdcRequest;

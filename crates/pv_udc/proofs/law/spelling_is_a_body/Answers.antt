@@ -1,0 +1,5 @@
+use Rattle.pv_udc.proofs.Sizes.{IsBody-record}
+use Rattle.pv_udc.proofs.law.spelling_is_a_body.Goals as goal
+
+pub returns : goal.returns
+returns c = IsBody-record
