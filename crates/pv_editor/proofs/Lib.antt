@@ -1,0 +1,4 @@
+mod Parting
+mod Pushes
+mod SoFar
+mod Turns
