@@ -32,5 +32,6 @@ module _ (len k : ℕ) (bytes more : List ℕ) (zeroed : IsZeroed len bytes) (ma
   zeroed_more = record { within = room; whole = same_length; zeros = zeros_behind }
 
 -- what is shown of a text that fits is as long as the text, so with more it still fits
-pub still_fits : (len more : ℕ) (bytes text : List ℕ) → IsZeroed len bytes → text_in len bytes ≡ text → length text + more ≤ ROOM → len + more ≤ ROOM
+pub still_fits : (len more : ℕ) (bytes text : List ℕ) → IsZeroed len bytes → text_in len bytes ≡ text → length text + more ≤ ROOM
+    → len + more ≤ ROOM
 still_fits len more bytes text zeroed is fits = omega (arith, length-text_in len bytes zeroed, ap length is)

@@ -31,9 +31,11 @@ module _ (parts : List (List ℕ)) (numbers : List ℕ) where
 
   module _ (part : List ℕ) (left : List (List ℕ)) (so_far : AreSoFar parts numbers (part ∷ left)) where
     -- one number more
-    pub so_far-more : (n : ℕ) → IsBelow (2 ^ 16) n part → ((m : ℕ) → IsBelow (2 ^ 16) m part → n ≡ m) → AreSoFar parts (numbers ++ n ∷ []) left
+    pub so_far-more : (n : ℕ) → IsBelow (2 ^ 16) n part → ((m : ℕ) → IsBelow (2 ^ 16) m part → n ≡ m)
+        → AreSoFar parts (numbers ++ n ∷ []) left
     so_far-more n is only = record {
-      back = λ more are. subst (λ (ns : List ℕ). Are ns parts) (sym (append_assoc numbers (n ∷ []) more)) (so_far.back (n ∷ more) (is, are));
+      back = λ more are.
+          subst (λ (ns : List ℕ). Are ns parts) (sym (append_assoc numbers (n ∷ []) more)) (so_far.back (n ∷ more) (is, are));
       forth = λ all are. let f = so_far.forth all are in next all f.0 f.1 f.2;
     }
       where

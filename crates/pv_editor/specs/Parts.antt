@@ -92,7 +92,8 @@ pub record AreCells (width : ℕ) (tail cells : List ℕ) : Type 0 where
 -- ---- parts of several words
 
 -- the text is a word, and a tail that is such others
-pub record IsWordAnd {A B : Type 0} (IsFirst : A → List ℕ → Type 0) (Are : List ℕ → B → Type 0) (parts : A × B) (text : List ℕ) : Type 0 where
+pub record IsWordAnd {A B : Type 0} (IsFirst : A → List ℕ → Type 0) (Are : List ℕ → B → Type 0)
+    (parts : A × B) (text : List ℕ) : Type 0 where
   pub word : List ℕ
   pub later : List ℕ
   pub split : IsSplit text word later

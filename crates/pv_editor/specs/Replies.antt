@@ -76,7 +76,8 @@ joined_fields (first ∷ others) = first ++ barred_fields others
 -- a filled frame: its place, its name, who filled it in, and what he keyed
 abbrev pub response_reply : ℕ → Response → List ℕ
 response_reply place reply =
-    codes "OK " ++ (decimal place ++ (codes " " ++ (name_text reply.name ++ (codes " " ++ (account_text reply.account ++ (codes " " ++ joined_fields reply.fields))))))
+    let who = account_text reply.account ++ (codes " " ++ joined_fields reply.fields) in
+    codes "OK " ++ (decimal place ++ (codes " " ++ (name_text reply.name ++ (codes " " ++ who))))
 
 -- nothing was found
 abbrev pub nothing_reply : List ℕ

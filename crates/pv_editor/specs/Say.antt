@@ -160,7 +160,8 @@ turn_of seat records places (Some line) =
     turn_by (first_of (refusals seat records line)) seat (seat_after seat records line, step_of seat records places line)
 
 -- the seat and the step that a text comes to
-pub record Says (seat : EditorSeat) (text : List ℕ) (records : List Record) (places : List ℕ) (after : EditorSeat) (step : EditStep) : Type 0 where
+pub record Says (seat : EditorSeat) (text : List ℕ) (records : List Record) (places : List ℕ)
+    (after : EditorSeat) (step : EditStep) : Type 0 where
   -- what the text says; it is `None` if the text is none of an editor's lines
   pub line : Option EditLine
   pub reads : Exactly (IsLine text) line

@@ -5,6 +5,7 @@ ghost use Rattle.pv_edits.specs.declared.record.Record.{Record};
 ghost use Rattle.pv_edits.specs.Edits.{frame_at, last_of};
 ghost use Rattle.pv_frame.specs.Content.{blank_frame};
 ghost use Rattle.pv_editor.specs.declared.step.EditStep.TheVariants as steps;
+ghost use Rattle.pv_editor.specs.Replies.{refusal_reply};
 ghost use Rattle.pv_editor.specs.Say.{new_seat, Says, turn_of, refusals, open_refusals, change_refusal, log_on_refusal, needs_account, needs_frame, is_password, step_of, by_editor, store_step, last_step, last_number, seat_after, changed_working, frame_for, refused, plain};
 
 use crate::change::{FrameChange, has_all_fields, make_change};
@@ -52,6 +53,9 @@ impl EditorSeat {
     pub fn line(&mut self, text: &[u8], base: &Base) -> EditStep
         ensures says { (records : List Record) (places : List ℕ) → IsBaseOf base.now records places →
             Says self.old text.now records places self.new result }
+        // A line that is answered by a refusal leaves the seat as it was.
+        ensures refused { (code shown : ℕ) → result ≡ steps.Say (refusal_reply code shown)
+            → self.new ≡ self.old }
     {
         match line_of(text) {
             Some(line) => self.take(&line, base),

@@ -1,4 +1,4 @@
-use Rattle.std.proofs.Common.{◌≡◌, ℕ, ◌+◌, ◌≤◌, List, Option, Some, None, [], take, refl, ap, subst, sym, ◌∙◌, arith}
+use Rattle.std.proofs.Common.{Bor, ◌≡◌, ℕ, ◌+◌, ◌≤◌, List, Option, Some, None, [], take, refl, ap, subst, sym, ◌∙◌, arith}
 use Rattle.std.specs.Option.{option_map_or}
 use Rattle.std.proofs.lemmas.List.{length-set, length-take-le, take_more_set}
 use Rattle.pv_account.specs.declared.groups.TheConstants.{ACCOUNT_GROUPS}
@@ -17,6 +17,10 @@ next f parts numbers left rest others is same so_far =
 ends : {A : Type 0} (f : A → List (List ℕ)) (left : Option A) → ((a : A) → left ≡ Some a → ⊥) → option_map_or f left [] ≡ []
 ends f (Some a) none = absurd (none a refl)
 ends f None none = refl
+
+-- the texts of what is left
+abbrev parts_left : Option (Bor (List ℕ)) → List (List ℕ)
+parts_left left = option_map_or (λ rest. comma_parts rest.now) left []
 
 -- the next part is no number
 pub returns-in_err-number-clause-only : goal.returns-in_err-number-clause-only
@@ -50,7 +54,7 @@ loop-left-preserved c =
     record {
       whole = length-set c.loop-left.numbers c.loop-left.count number ∙ whole;
       fits = fits;
-      so_far = subst (λ (numbers : List ℕ). AreSoFar (comma_parts c.args.text.now) numbers (option_map_or (λ rest. comma_parts rest.now) c.first_part.result.1 []))
+      so_far = subst (λ (numbers : List ℕ). AreSoFar (comma_parts c.args.text.now) numbers (parts_left c.first_part.result.1))
           (sym (take_more_set c.loop-left.numbers c.loop-left.count number (omega (arith, whole, fits))))
           (so_far-more _ _ _ _ so_far number c.in_ok-number.ensures.found same);
     }
@@ -58,10 +62,12 @@ loop-left-preserved c =
 -- all are read
 pub returns-clause-found : goal.returns-clause-found
 returns-clause-found c =
-    (so_far-all _ _ (subst (λ (more : List (List ℕ)). AreSoFar (comma_parts c.args.text.now) (take c.loop-left.count c.loop-left.numbers) more)
+    (so_far-all _ _
+    (subst (λ (more : List (List ℕ)). AreSoFar (comma_parts c.args.text.now) (take c.loop-left.count c.loop-left.numbers) more)
     (ends (λ rest. comma_parts rest.now) c.loop-left.left c.in_default.not-Some) c.loop-left.invariant.so_far)).0
 
 pub returns-clause-only : goal.returns-clause-only
 returns-clause-only c = λ numbers are fits.
-    (so_far-all _ _ (subst (λ (more : List (List ℕ)). AreSoFar (comma_parts c.args.text.now) (take c.loop-left.count c.loop-left.numbers) more)
+    (so_far-all _ _
+    (subst (λ (more : List (List ℕ)). AreSoFar (comma_parts c.args.text.now) (take c.loop-left.count c.loop-left.numbers) more)
     (ends (λ rest. comma_parts rest.now) c.loop-left.left c.in_default.not-Some) c.loop-left.invariant.so_far)).1 numbers are
