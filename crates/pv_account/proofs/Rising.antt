@@ -125,6 +125,54 @@ module _ (list sorted : List ℕ) (moved : IsPermutation list sorted) where
         | inr equal ↦ omega (arith, occurrences-sorted equal.0, equal.1, occurrences-rises 0 equal.0 sorted up)
       ]
 
+-- two lists that rise and have the same numbers are one list
+same_rising : (last : ℕ) (a b : List ℕ) → rises last a ≡ true → rises last b ≡ true
+    → ((number : ℕ) → occurrences number a ≡ occurrences number b) → a ≡ b
+same_rising last [] [] up_a up_b same = refl
+same_rising last [] (y ∷ ys) up_a up_b same = absurd (omega (arith, same y, occurrences-same y y ys (eq-eqb y y refl)))
+same_rising last (x ∷ xs) [] up_a up_b same = absurd (omega (arith, same x, occurrences-same x x xs (eq-eqb x x refl)))
+same_rising last (x ∷ xs) (y ∷ ys) up_a up_b same =
+    heads (test_is (ltb x y)) (test_is (ltb y x)) (λ equal. same_rising y xs ys (subst (λ (n : ℕ). rises n xs ≡ true) equal rest_a) rest_b
+    (λ number. omega (
+      arith,
+      same number,
+      occurrences-cons number x xs,
+      occurrences-cons number y ys,
+      ap {B = ℕ} (λ (n : ℕ). cond (eqb n number) 1 0) equal,
+    )))
+  where
+    rest_a : rises x xs ≡ true
+    rest_a = (and_parts (ltb last x) (rises x xs) up_a).1
+
+    rest_b : rises y ys ≡ true
+    rest_b = (and_parts (ltb last y) (rises y ys) up_b).1
+
+    -- a number below the head of a rising list is not in it
+    below : (one other : ℕ) (more rest : List ℕ) → ltb one other ≡ true → rises other rest ≡ true
+        → occurrences one (one ∷ more) ≡ occurrences one (other ∷ rest) → ⊥
+    below one other more rest less up counts =
+        let rising : rises one (other ∷ rest) ≡ true = rw less up in
+        omega (
+          arith,
+          counts,
+          occurrences-same one one more (eq-eqb one one refl),
+          occurrences-low one one (other ∷ rest) rising (omega arith),
+        )
+
+    heads : (ltb x y ≡ true) ⊎ (ltb x y ≡ false) → (ltb y x ≡ true) ⊎ (ltb y x ≡ false) → (x ≡ y → xs ≡ ys) → x ∷ xs ≡ y ∷ ys
+    heads (inl less) other tails = absurd (below x y xs ys less rest_b (same x))
+    heads (inr not_less) (inl more) tails = absurd (below y x ys xs more rest_a (sym (same y)))
+    heads (inr not_less) (inr not_more) tails =
+        let equal : x ≡ y = omega (arith, ltb-false x y not_less, ltb-false y x not_more) in
+        let rest = tails equal in
+        λ i. equal i ∷ rest i
+
+module _ (list : List ℕ) where
+  -- a list has one order in which its numbers rise
+  pub one_order : (a b : List ℕ) → IsPermutation list a → IsPermutation list b → rises 0 a ≡ true → rises 0 b ≡ true → a ≡ b
+  one_order a b to_a to_b up_a up_b =
+      same_rising 0 a b up_a up_b (λ number. occurrences-sorted list a to_a number ∙ sym (occurrences-sorted list b to_b number))
+
 -- numbers of two bytes, as the elements of an array are
 pub AllByRecursion-take : (limit n : ℕ) (numbers : List ℕ) → ((i : ℕ) → get_or numbers i 0 < limit)
     → AllByRecursion (λ number. number < limit) (take n numbers)

@@ -1,4 +1,4 @@
-ghost use Rattle.std.specs.Prelude.{◌≡◌, ◌==◌, ◌<◌, ◌≤◌, ◌↔◌, ◌⊎◌, [], length, take, flat_map, Contains, IsNone, IfOk, IfSome, IsTrue};
+ghost use Rattle.std.specs.Prelude.{◌≡◌, ◌==◌, ◌<◌, ◌≤◌, ◌↔◌, ◌⊎◌, ℕ, List, [], length, take, flat_map, Contains, Some, IsNone, IfOk, IfSome, IsTrue};
 ghost use Rattle.std.specs.Int.{w16, to_be_bytes};
 ghost use Rattle.std.specs.List.{list_any};
 ghost use Rattle.std.specs.List.Sorted.{IsPermutation, IsNonDecreasing};
@@ -59,6 +59,8 @@ impl<const N: usize> Groups<N> {
     pub fn of_list(list: &[u16]) -> Option<Groups<N>>
         requires { N < 256 }
         ensures found { IfSome result (λ groups. IsPermutation list.now groups) }
+        ensures only { (groups : List ℕ) → IsPermutation list.now groups → AreGroups N groups
+            → result ≡ Some groups }
         ensures none { IsNone result ↔ (N < length list.now) ⊎ (0 < occurrences 0 list.now)
             ⊎ HasTwoEqual list.now }
     {

@@ -16,7 +16,7 @@ mod part;
 mod parts;
 mod split;
 
-pub use lines::first_line;
+pub use lines::{first_line, split_at};
 pub use number::{Below, Number, number_of};
 pub use part::{AllOf, Part};
 pub use parts::{Reader, none_as, one, one_as, three, three_as, two, two_as};

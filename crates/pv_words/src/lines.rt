@@ -16,7 +16,7 @@ pub fn first_line(text: &[u8]) -> (&[u8], &[u8])
 
 /// What stands before the first such byte of a text, and all that follows it. `None` exactly when the text has no
 /// such byte.
-fn split_at(text: &[u8], byte: u8) -> Option<(&[u8], &[u8])>
+pub fn split_at(text: &[u8], byte: u8) -> Option<(&[u8], &[u8])>
     ensures found { IfSome result (λ parts. IsSplitAt byte text.now parts.0.now parts.1.now) }
     ensures missing { IsNone result → HasNone byte text.now }
 {

@@ -1,6 +1,7 @@
-use Rattle.std.proofs.Common.{inl, inr, length, refl, arith, rules, take, ◌∙◌, sym}
+use Rattle.std.proofs.Common.{inl, inr, ℕ, List, Some, length, refl, arith, rules, take, ◌∙◌, sym, ap}
 use Rattle.std.proofs.lemmas.List.{length-take-le}
-use Rattle.pv_account.proofs.Rising.{refused, not_refused, AllByRecursion-take}
+use Rattle.std.proofs.lemmas.List.Sorted.{length_permutation}
+use Rattle.pv_account.proofs.Rising.{refused, not_refused, one_order, AllByRecursion-take}
 use Rattle.pv_account.proofs.groups.Groups.of_list.Goals as goal
 
 pub invariant_of-result : goal.invariant_of-result
@@ -46,3 +47,22 @@ returns-else-rise-clause-none g c =
           ),
       λ bad. refl,
     )
+
+-- a list that is too long has no order that is short enough
+pub returns-then-count-clause-only : goal.returns-then-count-clause-only
+returns-then-count-clause-only g c = λ groups order are.
+    absurd (omega (arith, c.if-count.true, length_permutation c.args.list.now groups order, are.fits))
+
+-- the sorted list is the one that rises
+pub returns-then-rise-clause-only : goal.returns-then-rise-clause-only
+returns-then-rise-clause-only g c = λ groups order are.
+    let sorted = take (length c.args.list.now) c.in_order-numbers.result in
+    ap (λ (list : List ℕ). Some list)
+    (one_order c.args.list.now sorted groups c.in_order-numbers.ensures.moved order (sym c.rise.ensures ∙ c.if-rise.true) are.rises)
+
+-- none rises
+pub returns-else-rise-clause-only : goal.returns-else-rise-clause-only
+returns-else-rise-clause-only g c = λ groups order are.
+    let sorted = take (length c.args.list.now) c.in_order-numbers.result in
+    absurd (not_refused c.args.list.now groups order are.rises
+    (refused c.args.list.now sorted c.in_order-numbers.ensures.moved c.in_order-numbers.ensures.sorted (sym c.rise.ensures ∙ c.if-rise.false)))

@@ -1,0 +1,6 @@
+mod Facts
+mod Parting
+mod Pushes
+mod Refusing
+mod SoFar
+mod Turns

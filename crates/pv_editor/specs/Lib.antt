@@ -1,0 +1,9 @@
+pub mod Changes
+pub mod Groups
+pub mod Lines
+pub mod Parts
+pub mod Replies
+pub mod Rows
+pub mod Say
+pub mod Texts
+pub mod Words
