@@ -23,7 +23,8 @@ added true n = refl
 added false n = omega arith
 
 -- one element more that is counted, or is not
-pub count_by-push : {X : Type 0} (test : X → Bool) (xs : List X) (x : X) → count_by test (xs ++ x ∷ []) ≡ counted_on (test x) (count_by test xs)
+pub count_by-push : {X : Type 0} (test : X → Bool) (xs : List X) (x : X)
+    → count_by test (xs ++ x ∷ []) ≡ counted_on (test x) (count_by test xs)
 count_by-push test xs x = sum_by_push (λ y. cond (test y) 1 0) xs x ∙ added (test x) (count_by test xs)
 
 pub taken_of-push : (records : List Record) (edit : Record) (centre : ℕ)

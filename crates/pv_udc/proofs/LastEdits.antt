@@ -39,23 +39,27 @@ module _ (test : Record → Bool) where
   within (x ∷ xs) i is = longer (test x) (last_index test xs) (length xs) i (within xs) is
 
   -- a record that passes is the last one that does
-  last_index-passes : (records : List Record) (edit : Record) → test edit ≡ true → last_index test (records ++ edit ∷ []) ≡ Some (length records)
+  last_index-passes : (records : List Record) (edit : Record) → test edit ≡ true
+      → last_index test (records ++ edit ∷ []) ≡ Some (length records)
   last_index-passes [] edit passes = rw passes refl
   last_index-passes (x ∷ xs) edit passes = rw (last_index-passes xs edit passes) refl
 
   -- one that does not pass changes nothing
-  last_index-fails : (records : List Record) (edit : Record) → test edit ≡ false → last_index test (records ++ edit ∷ []) ≡ last_index test records
+  last_index-fails : (records : List Record) (edit : Record) → test edit ≡ false
+      → last_index test (records ++ edit ∷ []) ≡ last_index test records
   last_index-fails [] edit fails = rw fails refl
   last_index-fails (x ∷ xs) edit fails = rw (last_index-fails xs edit fails) refl
 
   last_record-passes : (records : List Record) (edit : Record) → test edit ≡ true → last_record test (records ++ edit ∷ []) ≡ Some edit
   last_record-passes records edit passes = rw (last_index-passes records edit passes) (slice_get-last records edit)
 
-  last_record-fails : (records : List Record) (edit : Record) → test edit ≡ false → last_record test (records ++ edit ∷ []) ≡ last_record test records
+  last_record-fails : (records : List Record) (edit : Record) → test edit ≡ false
+      → last_record test (records ++ edit ∷ []) ≡ last_record test records
   last_record-fails records edit fails =
       rw (last_index-fails records edit fails) (there (last_index test records) (within records))
     where
-      there : (o : Option ℕ) → ((k : ℕ) → o ≡ Some k → k < length records) → (o >>= slice_get (records ++ edit ∷ [])) ≡ (o >>= slice_get records)
+      there : (o : Option ℕ) → ((k : ℕ) → o ≡ Some k → k < length records)
+          → (o >>= slice_get (records ++ edit ∷ [])) ≡ (o >>= slice_get records)
       there None inside = refl
       there (Some k) inside = slice_get-before records (edit ∷ []) k edit (inside k refl)
 
@@ -69,7 +73,8 @@ last_edit-his records edit editor q his numbered =
     let count : length places ≡ length records = length-range_with_len 0 (length records) in
     let last : slice_get (places ++ length records ∷ []) (length records) ≡ Some (length records) =
     ap (slice_get (places ++ length records ∷ [])) (sym count) ∙ slice_get-last places (length records) in
-    rw (last_index-passes (is_edit_of editor) records edit his, slice_get-last records edit, places_of-push records edit, last, numbered) refl
+    rw (last_index-passes (is_edit_of editor) records edit his, slice_get-last records edit, places_of-push records edit, last, numbered)
+    refl
 
 -- the number and the place of the record at an index
 abbrev numbered_at : List Record → List ℕ → ℕ → Option (ℕ × ℕ)
@@ -78,11 +83,13 @@ numbered_at records places i =
 
 -- are those in the shorter list
 numbered_at-before : (records : List Record) (edit : Record) (found : Option ℕ) → ((k : ℕ) → found ≡ Some k → k < length records)
-    → (found >>= numbered_at (records ++ edit ∷ []) (places_of records ++ length records ∷ [])) ≡ (found >>= numbered_at records (places_of records))
+    → (found >>= numbered_at (records ++ edit ∷ []) (places_of records ++ length records ∷ []))
+    ≡ (found >>= numbered_at records (places_of records))
 numbered_at-before records edit None inside = refl
 numbered_at-before records edit (Some k) inside =
     let place : k < length (places_of records) = omega (arith, inside k refl, length-range_with_len 0 (length records)) in
-    rw (slice_get-before records (edit ∷ []) k edit (inside k refl), slice_get-before (places_of records) (length records ∷ []) k 0 place) refl
+    rw (slice_get-before records (edit ∷ []) k edit (inside k refl), slice_get-before (places_of records) (length records ∷ []) k 0 place)
+    refl
 
 -- another record leaves it as it was
 pub last_edit-others : (records : List Record) (edit : Record) (editor : ℕ) → is_edit_of editor edit ≡ false

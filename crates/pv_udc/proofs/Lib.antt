@@ -1,4 +1,5 @@
 mod Deciding
+mod Facts
 mod Growing
 mod LastEdits
 mod Numbering

@@ -88,8 +88,9 @@ module _ (editor : ℕ) where
         subst (λ e. Counts (records ++ e ∷ [])) done.edit_is
         (wished records other q wish (editor == other) refl (numbered limits records other q wish done.not_refused) counts)
     stored records edit (TakeUp centre k item) reply is counts =
-        let done = is_stored (first_of (answers_of limits records (TakeUp centre k item))) (record_of (TakeUp centre k item)) edit (length records) reply is in
-        subst (λ e. Counts (records ++ e ∷ [])) done.1 (others records (record_of (TakeUp centre k item)) refl counts)
+        let asked = record_of (TakeUp centre k item) in
+        let answer = first_of (answers_of limits records (TakeUp centre k item)) in
+        subst (λ e. Counts (records ++ e ∷ [])) (is_stored answer asked edit (length records) reply is).1 (others records asked refl counts)
 
     -- and so on to the end of the list
     on : (before later records : List Record) → records ≡ before ++ later → IsJudged limits records → Counts before → Counts records

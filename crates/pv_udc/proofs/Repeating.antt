@@ -29,6 +29,7 @@ module _ (limits : Limits) where
       let done = is_done limits records editor q wish edit reply is in
       let known = has_editor-push editor records edit done.has_account in
       let asked = edit_of editor q wish in
-      let last = last_edit-his records asked editor q (is_edit_of-wish editor editor q wish ∙ eq-eqb editor editor refl) (number_in-wish editor q wish) in
+      let his = is_edit_of-wish editor editor q wish ∙ eq-eqb editor editor refl in
+      let last = last_edit-his records asked editor q his (number_in-wish editor q wish) in
       again (records ++ edit ∷ []) editor q (length records) other known
       (subst (λ e. last_edit (records ++ e ∷ []) editor ≡ Some (q, length records)) done.edit_is last)

@@ -1,5 +1,5 @@
 -- A record that is stored is within its ranges, and has room.
-use Rattle.std.proofs.Common.{◌≡◌, ℕ, Bool, true, ◌&&◌, List, None, refl, subst}
+use Rattle.std.proofs.Common.{◌≡◌, ℕ, Bool, true, ◌&&◌, List, length, None, refl, subst}
 use Rattle.pv_outside.specs.declared.limits.Limits.{Limits}
 use Rattle.pv_fields.specs.Refusals.{first_of}
 use Rattle.pv_fields.proofs.CallerLemmas.{some_if-none, option_map-none_back}
@@ -50,5 +50,6 @@ has_room-stored limits records (Edit editor q wish) edit reply ranges is =
     subst (λ e. IsRecord e × (has_room limits records e ≡ true)) done.edit_is
     (wished limits records editor q ranges.0 done.has_account wish ranges.1 done.not_refused)
 has_room-stored limits records (TakeUp centre k item) edit reply ranges is =
-    subst (λ e. IsRecord e × (has_room limits records e ≡ true))
-    (is_stored (first_of (answers_of limits records (TakeUp centre k item))) (record_of (TakeUp centre k item)) edit _ reply is).1 (ranges, refl)
+    let asked = record_of (TakeUp centre k item) in
+    let answer = first_of (answers_of limits records (TakeUp centre k item)) in
+    subst (λ e. IsRecord e × (has_room limits records e ≡ true)) (is_stored answer asked edit (length records) reply is).1 (ranges, refl)

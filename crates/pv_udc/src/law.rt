@@ -42,5 +42,6 @@ pub fn repeat_is_the_same_edit()
         → judge limits records (Edit editor q wish) ≡ Answer (replies.Again place) }
     ensures stored { (limits : Limits) (records : List Record) (editor q : ℕ) (wish other : EditWish)
         (edit : Record) (reply : UdcReply) → judge limits records (Edit editor q wish) ≡ Store edit reply
-        → judge limits (records ++ edit ∷ []) (Edit editor q other) ≡ Answer (replies.Again (length records)) }
+        → judge limits (records ++ edit ∷ []) (Edit editor q other)
+        ≡ Answer (replies.Again (length records)) }
 {}

@@ -33,10 +33,14 @@ mod sending;
 mod state;
 
 pub use law::{
-    edits_are_numbered_from_one, repeat_is_the_same_edit, spelling_is_a_body, stored_record_has_room,
+    edits_are_numbered_from_one, repeat_is_the_same_edit, spelling_is_a_body,
+    stored_record_has_room,
 };
 pub use refusal::Refusal;
 pub use reply::{Code, UdcReply};
 pub use request::UdcRequest;
 pub use sending::down;
-pub use state::{OPERATOR, UdcState};
+pub use state::{CENTRES, OPERATOR, UdcState};
+
+#[cfg(test)]
+mod tests;

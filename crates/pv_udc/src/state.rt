@@ -1,4 +1,4 @@
-ghost use Rattle.std.specs.Prelude.{◌≡◌, ℕ, ◌+◌, ◌<◌, ◌^◌, List, [], length, slice_get, slice_index_or, is_some, option_copied, IfOk, IsTrue};
+ghost use Rattle.std.specs.Prelude.{◌≡◌, ℕ, ◌+◌, ◌<◌, ◌^◌, List, [], length, slice_get, slice_index_or, nat_le, is_some, option_copied, IfOk, IsTrue};
 ghost use Rattle.pv_edits.specs.Edits.{is_of_centre, frame_at, account_at, taken_of};
 ghost use Rattle.pv_edits.specs.Owner.{owner_of};
 ghost use Rattle.pv_edits.specs.Room.{frame_fits, account_fits, lease_fits, has_room};
@@ -91,6 +91,13 @@ impl UdcState {
         ensures { result ≡ length self.now.records }
     {
         self.count
+    }
+
+    /// Whether there are as many records as the limit, so that none can be absorbed.
+    pub fn is_full(&self) -> bool
+        ensures { result ≡ nat_le self.now.limits.records (length self.now.records) }
+    {
+        u64::from(self.limits.records) <= self.count
     }
 
     /// How many items of a centre were taken up, 0 of a centre that there cannot be.

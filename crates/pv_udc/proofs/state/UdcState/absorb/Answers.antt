@@ -14,14 +14,16 @@ counted c =
 after : (c : After-count_item) → IsBaseOf c.absorb.new.self (c.self.inside.base.records.items ++ c.args.rec.now ∷ [])
     (c.self.inside.base.places.items ++ c.self.inside.count ∷ [])
 after c =
-    subst (λ n. IsBaseOf c.absorb.new.self (c.self.inside.base.records.items ++ c.args.rec.now ∷ []) (c.self.inside.base.places.items ++ n ∷ []))
-    (counted c) (c.absorb.ensures.absorbed _ _ (record { records = refl; places = refl }))
+    let base = c.self.inside.base in
+    subst (λ n. IsBaseOf c.absorb.new.self (base.records.items ++ c.args.rec.now ∷ []) (base.places.items ++ n ∷ [])) (counted c)
+    (c.absorb.ensures.absorbed _ _ (record { records = refl; places = refl }))
 
 pub invariant_of-self : goal.invariant_of-self
 invariant_of-self c =
     let within = rw (← c.self.view_is) at c.requires.within in
-    IsCounted-push c.self.inside.base c.absorb.new.self c.self.inside.limits c.self.inside.count c.self.inside.counts c.count_item.new.counts
-    c.args.rec.now c.self.invariant (after c) c.absorb.ensures.limits (omega (arith, within, counted c)) c.count_item.ensures
+    let inside = c.self.inside in
+    IsCounted-push inside.base c.absorb.new.self inside.limits inside.count inside.counts c.count_item.new.counts c.args.rec.now
+    c.self.invariant (after c) c.absorb.ensures.limits (omega (arith, within, counted c)) c.count_item.ensures
 
 pub returns : goal.returns
 returns c = rw (← c.self.view_is) (ap (λ l. record { limits = c.self.inside.limits; records = l }) (after c).records)
