@@ -16,7 +16,7 @@ use Rattle.pv_editor.specs.declared.step.EditStep.TheVariants.{Say, Close}
 use Rattle.pv_editor.specs.declared.text.TheConstants.{ROOM, LONGEST_NUMBER, LONGEST_WORDS}
 use Rattle.pv_editor.specs.declared.word.Word.TheVariants as words
 use Rattle.pv_editor.specs.Changes.{with_field, has_all_fields}
-use Rattle.pv_editor.specs.Groups.{comma_parts}
+use Rattle.pv_editor.specs.Groups.{comma, comma_parts}
 use Rattle.pv_editor.specs.Parts.{is_password_byte, dash}
 use Rattle.pv_editor.specs.Replies.{ok_reply, closing_reply, reply_of, responses_reply}
 use Rattle.pv_editor.specs.Say.{new_seat, turn_of, frame_for, is_logged_on, last_number}
@@ -86,9 +86,9 @@ pub password_bytes : (is_password_byte 33 ≡ true) × (is_password_byte 126 ≡
 password_bytes = (refl, refl, refl, refl, refl, refl, refl)
 
 -- a dash is one, and parts stand between commas
-pub parted : (dash ≡ codes "-")
+pub parted : (comma ≡ 44) × (dash ≡ codes "-")
     × (comma_parts (codes "7,300") ≡ codes "7" ∷ codes "300" ∷ []) × (comma_parts (codes "7,") ≡ codes "7" ∷ [] ∷ [])
-parted = (refl, refl, refl)
+parted = (refl, refl, refl, refl)
 
 -- ---- the seat
 

@@ -10,9 +10,13 @@ use Rattle.pv_account.specs.declared.account.TheConstants.{LAST_CENTRE}
 use Rattle.pv_account.specs.declared.groups.TheConstants.{ACCOUNT_GROUPS}
 use Rattle.pv_editor.specs.Parts.{IsAccountText, IsPasswordText, IsOrDash, IsWordAnd}
 
+-- the byte between the groups of an account
+abbrev pub comma : ℕ
+comma = 44
+
 -- the texts between the commas of a text
 abbrev pub comma_parts : List ℕ → List (List ℕ)
-comma_parts text = slice_split (λ byte. byte == 44) text
+comma_parts text = slice_split (λ byte. byte == comma) text
 
 -- the text is numbers parted by commas
 abbrev pub AreNumbers : List ℕ → List ℕ → Type 0

@@ -14,43 +14,35 @@ const LIMITS: Limits = Limits {
 
 const LOG_ON: &[u8] = b"LOGON 0000000000 0000";
 
-/// A base of three records: page 20 is leased to 2000000001, who has a frame there and a password.
-fn base(rt: &HostRuntime) -> Result<Base, Fail> {
+/// A base of one record, for which there is room.
+fn base_of(rt: &HostRuntime, record: &Record) -> Result<Base, Fail> {
     let mut base = Base::open(rt.alloc(), LIMITS)?;
-    let operator = number(0)?;
-    let provider = number(2_000_000_001)?;
-    base.absorb(
-        &Record::Account {
-            editor: operator,
-            q: 1,
-            account: Account {
-                number: provider,
-                digest: digest(provider, b"NEWS"),
-                home: 0,
-                groups: Groups::none(),
-            },
-        },
-        0,
-    );
-    base.absorb(
-        &Record::Lease {
-            editor: operator,
-            q: 2,
-            root: page(20)?,
-            account: provider,
-        },
-        1,
-    );
-    base.absorb(
-        &Record::Put {
-            editor: provider,
-            q: 1,
-            name: name(b"20a")?,
-            frame: CheckedFrame::of(Frame::blank())?,
-        },
-        2,
-    );
+    if base.has_room(record) {
+        base.absorb(record, 0);
+    }
     Ok(base)
+}
+
+/// The operator's second edit leases page 20 to an account.
+fn leased(rt: &HostRuntime) -> Result<Base, Fail> {
+    let lease = Record::Lease {
+        editor: number(0)?,
+        q: 2,
+        root: page(20)?,
+        account: number(2_000_000_001)?,
+    };
+    base_of(rt, &lease)
+}
+
+/// The operator's seventh edit puts a blank frame.
+fn stored(rt: &HostRuntime) -> Result<Base, Fail> {
+    let put = Record::Put {
+        editor: number(0)?,
+        q: 7,
+        name: name(b"20a")?,
+        frame: CheckedFrame::of(Frame::blank())?,
+    };
+    base_of(rt, &put)
 }
 
 fn number(number: u64) -> Result<AccountNo, Fail> {
@@ -86,7 +78,7 @@ fn after(before: &[&[u8]], line: &[u8], base: &Base) -> EditStep {
 
 #[test]
 fn every_line_has_its_reply_in_each_state(rt: HostRuntime) -> Result<(), Fail> {
-    let base = base(&rt)?;
+    let base = leased(&rt)?;
     // The line, and its reply with nobody logged on, with the operator, and with a working frame too.
     let lines: [(&[u8], &[u8], &[u8], &[u8]); 25] = [
         (LOG_ON, b"OK", b"OK", b"OK"),
@@ -228,7 +220,7 @@ fn every_line_has_its_reply_in_each_state(rt: HostRuntime) -> Result<(), Fail> {
 
 #[test]
 fn other_lines_are_bad_before_all_else(rt: HostRuntime) -> Result<(), Fail> {
-    let base = base(&rt)?;
+    let base = leased(&rt)?;
     let lines: [&[u8]; 48] = [
         b"",
         b" ",
@@ -280,20 +272,21 @@ fn other_lines_are_bad_before_all_else(rt: HostRuntime) -> Result<(), Fail> {
         b"QUIT NOW",
     ];
     for line in lines {
-        for before in [[].as_slice(), [LOG_ON].as_slice()] {
-            assert_eq!(rt;
-                said(&after(before, line, &base)),
-                b"NO 11 BAD LINE".as_slice(),
-                "at {line:?}"
-            );
-        }
+        let nobody = after(&[], line, &base);
+        let operator = after(&[LOG_ON], line, &base);
+        assert_eq!(rt; said(&nobody), b"NO 11 BAD LINE".as_slice(), "at {line:?}");
+        assert_eq!(rt;
+            said(&operator),
+            b"NO 11 BAD LINE".as_slice(),
+            "at {line:?}"
+        );
     }
     Ok(())
 }
 
 #[test]
 fn an_account_has_at_most_32_groups(rt: HostRuntime) -> Result<(), Fail> {
-    let base = base(&rt)?;
+    let base = leased(&rt)?;
     let fits =
         b"ACCOUNT 1 1000000001 ABCD 0 32,31,30,29,28,27,26,25,24,23,22,21,20,19,18,17,16,15,14,13,12,11,10,9,8,7,6,5,4,3,2,1";
     let long =
@@ -308,7 +301,7 @@ fn an_account_has_at_most_32_groups(rt: HostRuntime) -> Result<(), Fail> {
 
 #[test]
 fn a_line_has_at_most_512_bytes(rt: HostRuntime) -> Result<(), Fail> {
-    let base = base(&rt)?;
+    let base = leased(&rt)?;
     // A row of 40 attributes is 120 bytes; spaces do not make a row longer than a line may be.
     let mut line = [b' '; 513];
     line[..5].copy_from_slice(b"TITLE");
@@ -329,7 +322,7 @@ fn a_line_has_at_most_512_bytes(rt: HostRuntime) -> Result<(), Fail> {
 
 #[test]
 fn a_ninth_field_is_refused(rt: HostRuntime) -> Result<(), Fail> {
-    let base = base(&rt)?;
+    let base = leased(&rt)?;
     let mut seat = EditorSeat::new();
     seat.line(LOG_ON, &base);
     seat.line(b"NEW 1a", &base);
@@ -353,53 +346,31 @@ fn a_ninth_field_is_refused(rt: HostRuntime) -> Result<(), Fail> {
 
 #[test]
 fn an_editor_logs_on_with_his_password(rt: HostRuntime) -> Result<(), Fail> {
-    let base = base(&rt)?;
+    let base = stored(&rt)?;
     let mut seat = EditorSeat::new();
-    assert_eq!(rt;
-        said(&seat.line(b"LOGON 2000000001 newS", &base)),
-        b"NO 13 NOT KNOWN".as_slice()
-    );
-    assert_eq!(rt;
-        said(&seat.line(b"LOGON 2000000002 NEWS", &base)),
-        b"NO 13 NOT KNOWN".as_slice()
-    );
-    assert_eq!(rt;
-        said(&seat.line(b"LAST", &base)),
-        b"NO 1 LOG ON FIRST".as_slice()
-    );
-    assert_eq!(rt;
-        said(&seat.line(b"LOGON 2000000001 NEWS", &base)),
-        b"OK".as_slice()
-    );
-    assert_eq!(rt; said(&seat.line(b"LAST", &base)), b"OK 1".as_slice());
-    assert_eq!(rt; said(&seat.line(b"OPEN 20a", &base)), b"OK".as_slice());
-    assert_eq!(rt;
-        said(&seat.line(b"OPEN 30a", &base)),
-        b"NO 2 NOT OWNER".as_slice()
-    );
-    assert_eq!(rt;
-        said(&seat.line(b"OPEN 20b", &base)),
-        b"NO 4 NO FRAME".as_slice()
-    );
-    let kept = seat;
-    assert_eq!(rt;
-        said(&seat.line(LOG_ON_WRONG, &base)),
-        b"NO 13 NOT KNOWN".as_slice()
-    );
-    assert_eq!(rt; seat, kept);
-    assert_eq!(rt; said(&seat.line(LOG_ON, &base)), b"OK".as_slice());
-    assert_eq!(rt;
-        said(&seat.line(b"STORE 3", &base)),
-        b"NO 12 NOTHING OPEN".as_slice()
-    );
+    let lines: [(&[u8], &[u8]); 11] = [
+        (b"LOGON 0000000000 0001", b"NO 13 NOT KNOWN"),
+        (b"LOGON 2000000002 0000", b"NO 13 NOT KNOWN"),
+        (b"LAST", b"NO 1 LOG ON FIRST"),
+        (LOG_ON, b"OK"),
+        (b"LAST", b"OK 7"),
+        (b"OPEN 20a", b"OK"),
+        (b"OPEN 20b", b"NO 4 NO FRAME"),
+        (b"LOGON 0000000000 0001", b"NO 13 NOT KNOWN"),
+        (b"PRICE 7", b"OK"),
+        (LOG_ON, b"OK"),
+        (b"PRICE 7", b"NO 12 NOTHING OPEN"),
+    ];
+    for (line, reply) in lines {
+        let step = seat.line(line, &base);
+        assert_eq!(rt; said(&step), reply, "at {line:?}");
+    }
     Ok(())
 }
 
-const LOG_ON_WRONG: &[u8] = b"LOGON 0000000000 0001";
-
 #[test]
 fn a_working_frame_is_stored_as_it_was_made(rt: HostRuntime) -> Result<(), Fail> {
-    let base = base(&rt)?;
+    let base = leased(&rt)?;
     let mut seat = EditorSeat::new();
     let lines: [&[u8]; 10] = [
         LOG_ON,
@@ -446,7 +417,7 @@ fn a_working_frame_is_stored_as_it_was_made(rt: HostRuntime) -> Result<(), Fail>
 
 #[test]
 fn requests_carry_their_parts(rt: HostRuntime) -> Result<(), Fail> {
-    let base = base(&rt)?;
+    let base = leased(&rt)?;
     let editor = number(0)?;
     let caller = number(1_000_000_001)?;
     let wishes: [(&[u8], EditWish); 3] = [
