@@ -4,6 +4,7 @@ pub mod Facts
 pub mod Fours
 pub mod Inverses
 pub mod Lengths
+pub mod Meaning
 pub mod Meetings
 pub mod OneSpelling
 pub mod Parts
