@@ -1,8 +1,8 @@
-ghost use Rattle.std.specs.Prelude.{◌≡◌, [], ◌+◌, ◌*◌, ◌<◌, ◌≤◌, ◌++◌, length, OnOk, IfOk, IfErr, IfSome, None, Some, map};
+ghost use Rattle.std.specs.Prelude.{◌≡◌, [], ◌∷◌, ◌+◌, ◌*◌, ◌<◌, ◌≤◌, ◌++◌, length, OnOk, IfOk, IfErr, IfSome, None, Some, map};
 ghost use Rattle.pv_frame.specs.declared.layout.TheConstants.{TITLE_CELLS, BODY_CELLS};
 ghost use Rattle.pv_fields.specs.Reading.{Gives, same, run_at};
 ghost use Rattle.pv_frame.specs.Codes.{spells_route, route_of, spells_field, field_of, fours};
-ghost use Rattle.pv_fields.specs.Refusals.{first_of};
+ghost use Rattle.pv_fields.specs.Refusals.{first_of, unless};
 ghost use Rattle.pv_fields.specs.Padded.{padded_list};
 ghost use Rattle.pv_frame.specs.Memory.{no_field};
 ghost use Rattle.pv_frame.specs.Raw.{raw_at};
@@ -128,40 +128,33 @@ impl<'a> RawFrame<'a> {
         Ok(())
     }
 
-    /// The error of the frame whose parts these are.
-    fn check_frame(&self) -> Result<(), FrameCodecError>
+    /// The frame whose parts these are, or its error. The frame is made where the result is, so its
+    /// cells are copied once.
+    fn frame(&self) -> Result<Frame, FrameCodecError>
         requires head { first_of (head_errors self.now) ≡ None }
         requires tail { first_of (tail_errors self.now) ≡ None }
-        ensures ok { OnOk result (frame_error self.now ≡ None) }
-        ensures err { IfErr result (λ error. frame_error self.now ≡ Some error) }
+        ensures { result ≡ unless (first_of (frame_error self.now ∷ [])) (frame_of self.now) }
     {
         let title = self.title;
         let body = self.body;
         let kind = kind_of(self.kind).unwrap_or(Kind::Information);
-        let places = fields_of(self.fields);
-        let fields = &places[..usize::from(self.count)];
-        match check_parts(title, body, u16::from(self.price), kind, fields) {
-            Ok(()) => Ok(()),
-            Err(error) => Err(FrameCodecError::Invalid(error)),
+        let routes = routes_of(self.routes);
+        let price = u16::from(self.price);
+        let fields = fields_of(self.fields);
+        let first = &fields[..usize::from(self.count)];
+        if let Err(error) = check_parts(title, body, price, kind, first) {
+            return Err(FrameCodecError::Invalid(error));
         }
-    }
-
-    /// The frame whose parts these are.
-    fn frame(&self) -> Frame
-        requires head { first_of (head_errors self.now) ≡ None }
-        requires tail { first_of (tail_errors self.now) ≡ None }
-        ensures { result ≡ frame_of self.now }
-    {
-        Frame {
-            title: *self.title,
-            body: *self.body,
-            kind: kind_of(self.kind).unwrap_or(Kind::Information),
-            routes: routes_of(self.routes),
-            price: u16::from(self.price),
+        Ok(Frame {
+            title: *title,
+            body: *body,
+            kind,
+            routes,
+            price,
             group: self.group,
             count: self.count,
-            fields: fields_of(self.fields),
-        }
+            fields,
+        })
     }
 }
 
@@ -225,6 +218,5 @@ pub(crate) fn read(bytes: &[u8]) -> Result<Frame, FrameCodecError>
     let raw = RawFrame::read(&mut from)?;
     raw.check_head()?;
     raw.check_tail()?;
-    raw.check_frame()?;
-    Ok(raw.frame())
+    raw.frame()
 }
