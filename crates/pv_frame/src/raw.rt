@@ -1,8 +1,8 @@
-ghost use Rattle.std.specs.Prelude.{◌≡◌, [], ◌∷◌, ◌+◌, ◌*◌, ◌<◌, ◌≤◌, ◌++◌, length, OnOk, IfOk, IfErr, IfSome, None, Some, map};
+ghost use Rattle.std.specs.Prelude.{◌≡◌, [], ◌+◌, ◌*◌, ◌<◌, ◌≤◌, ◌++◌, length, OnOk, IfOk, IfErr, IfSome, None, Some, Ok, Err, map};
 ghost use Rattle.pv_frame.specs.declared.layout.TheConstants.{TITLE_CELLS, BODY_CELLS};
 ghost use Rattle.pv_fields.specs.Reading.{Gives, same, run_at};
 ghost use Rattle.pv_frame.specs.Codes.{spells_route, route_of, spells_field, field_of, fours};
-ghost use Rattle.pv_fields.specs.Refusals.{first_of, unless};
+ghost use Rattle.pv_fields.specs.Refusals.{first_of};
 ghost use Rattle.pv_fields.specs.Padded.{padded_list};
 ghost use Rattle.pv_frame.specs.Memory.{no_field};
 ghost use Rattle.pv_frame.specs.Raw.{raw_at};
@@ -128,33 +128,41 @@ impl<'a> RawFrame<'a> {
         Ok(())
     }
 
-    /// The frame whose parts these are, or its error. The frame is made where the result is, so its
-    /// cells are copied once.
-    fn frame(&self) -> Result<Frame, FrameCodecError>
+    /// The error of the frame whose parts these are.
+    fn check_frame(&self) -> Result<(), FrameCodecError>
         requires head { first_of (head_errors self.now) ≡ None }
         requires tail { first_of (tail_errors self.now) ≡ None }
-        ensures { result ≡ unless (first_of (frame_error self.now ∷ [])) (frame_of self.now) }
+        ensures ok { OnOk result (frame_error self.now ≡ None) }
+        ensures err { IfErr result (λ error. frame_error self.now ≡ Some error) }
     {
         let title = self.title;
         let body = self.body;
         let kind = kind_of(self.kind).unwrap_or(Kind::Information);
-        let routes = routes_of(self.routes);
-        let price = u16::from(self.price);
-        let fields = fields_of(self.fields);
-        let first = &fields[..usize::from(self.count)];
-        if let Err(error) = check_parts(title, body, price, kind, first) {
-            return Err(FrameCodecError::Invalid(error));
+        let places = fields_of(self.fields);
+        let fields = &places[..usize::from(self.count)];
+        match check_parts(title, body, u16::from(self.price), kind, fields) {
+            Ok(()) => Ok(()),
+            Err(error) => Err(FrameCodecError::Invalid(error)),
         }
-        Ok(Frame {
-            title: *title,
-            body: *body,
-            kind,
-            routes,
-            price,
+    }
+
+    /// The frame whose parts these are.
+    #[inline(always)]
+    pub(crate) fn frame(&self) -> Frame
+        requires head { first_of (head_errors self.now) ≡ None }
+        requires tail { first_of (tail_errors self.now) ≡ None }
+        ensures { result ≡ frame_of self.now }
+    {
+        Frame {
+            title: *self.title,
+            body: *self.body,
+            kind: kind_of(self.kind).unwrap_or(Kind::Information),
+            routes: routes_of(self.routes),
+            price: u16::from(self.price),
             group: self.group,
             count: self.count,
-            fields,
-        })
+            fields: fields_of(self.fields),
+        }
     }
 }
 
@@ -207,9 +215,12 @@ fn fields_of(bytes: &[u8]) -> [Field; FIELDS]
     fields
 }
 
-/// The frame that the bytes are read as, or the first error.
-pub(crate) fn read(bytes: &[u8]) -> Result<Frame, FrameCodecError>
-    ensures { result ≡ decode_of bytes.now }
+/// What is in the bytes of a frame, or their first error.
+pub(crate) fn read(bytes: &[u8]) -> Result<RawFrame<'_>, FrameCodecError>
+    ensures head { IfOk result (λ raw. first_of (head_errors raw) ≡ None) }
+    ensures tail { IfOk result (λ raw. first_of (tail_errors raw) ≡ None) }
+    ensures ok { IfOk result (λ raw. decode_of bytes.now ≡ Ok (frame_of raw)) }
+    ensures err { IfErr result (λ error. decode_of bytes.now ≡ Err error) }
 {
     let mut from = In::new(bytes);
     if from.u8()? != VERSION {
@@ -218,5 +229,6 @@ pub(crate) fn read(bytes: &[u8]) -> Result<Frame, FrameCodecError>
     let raw = RawFrame::read(&mut from)?;
     raw.check_head()?;
     raw.check_tail()?;
-    raw.frame()
+    raw.check_frame()?;
+    Ok(raw)
 }
