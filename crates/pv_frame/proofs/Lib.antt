@@ -5,10 +5,8 @@ pub mod Fours
 pub mod Inverses
 pub mod Lengths
 pub mod Meaning
-pub mod Meetings
 pub mod OneSpelling
 pub mod Parts
-pub mod Ranges
 pub mod RoundTrip
 pub mod Rows
 pub mod Searching

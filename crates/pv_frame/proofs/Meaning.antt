@@ -24,6 +24,7 @@ use Rattle.pv_frame.specs.Content.{Content}
 use Rattle.pv_frame.specs.Errors.{is_cell, end_of, lies_in_body, meets, ShareCell, first_meeting, is_digits, takes_text, has_shape, price_error, meeting_error, shape_error, field_errors, error_of, IsValid, HasRanges}
 use Rattle.pv_frame.specs.Meaning.{LiesInBody, HasShape, IsWellFormed, field_at, IsBefore, IsFirstMeeting, Says}
 use Rattle.pv_frame.specs.Memory.{no_field}
+use Rattle.pv_frame.proofs.Cells.{Decides-cells}
 use Rattle.pv_frame.proofs.Searching.{all_fail}
 
 -- ---- what each test decides
@@ -65,9 +66,6 @@ Decides-shape Mail (account ∷ texts) =
     (Decides-and _ _ (Decides-and _ _ (Decides-digits account.kind) (Decides-eqb account.length ACCOUNT_DIGITS))
     (Decides-range 1 MAIL_TEXTS (length texts)))
     (Decides-by_and takes_text (λ text. text.kind ≡ Words) (list_all takes_text) (λ text. Decides-words text.kind) refl (λ _ _. refl) texts)
-
-Decides-cells : (cells : List ℕ) → Decides (list_all is_cell cells) (All IsCell cells)
-Decides-cells = Decides-by_and is_cell IsCell (list_all is_cell) (λ cell. Decides-leb cell LAST_CELL) refl (λ _ _. refl)
 
 -- ---- two fields that meet
 
@@ -193,3 +191,7 @@ no_error frame (Some (Code at)) is it = absurd it
 
 pub valid : (frame : Content) → IsValid frame ↔ IsWellFormed frame
 valid frame = (λ none. subst (Says frame) none (says frame), λ is. no_error frame (error_of frame) is (says frame))
+
+-- a valid frame has its cells and its price in range
+pub HasRanges-valid : (frame : Content) → IsValid frame → HasRanges frame
+HasRanges-valid frame is = ((valid frame).0 is).ranges

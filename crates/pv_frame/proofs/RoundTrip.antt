@@ -8,7 +8,7 @@ use Rattle.pv_fields.specs.Padded.{IsPadded, padded_list}
 use Rattle.pv_fields.specs.Refusals.{first_of}
 use Rattle.pv_fields.specs.Reading.{whole, IsBytes}
 use Rattle.pv_fields.proofs.Readings.{all_found}
-use Rattle.pv_fields.proofs.CallerLemmas.{first_of-none, none_of, none_of_both, some_if-false, some_if-none, option_map-none, option_map-none_back, unless_ok, IsPadded-padded_list, take-padded_list}
+use Rattle.pv_fields.proofs.CallerLemmas.{first_of-none, none_of, none_of_both, some_if-false, some_if-none, option_map-none, option_map-none_back, unless_ok, IsPadded-padded_list, take-padded_list, IsBytes-drop, IsBytes-take}
 use Rattle.pv_frame.specs.declared.kind.Kind.{Kind}
 use Rattle.pv_frame.specs.declared.kind.Kind.TheVariants.{Information, Response, Mail}
 use Rattle.pv_frame.specs.declared.codec_error.FrameCodecError.{FrameCodecError}
@@ -26,7 +26,7 @@ use Rattle.pv_frame.proofs.Fours.{fours_again, fours_found, length-read}
 use Rattle.pv_frame.proofs.Inverses.{kind_again, kind_found, route_again, route_found, pages_of, field_again, field_found}
 use Rattle.pv_frame.proofs.Lengths.{length-route, length-routes, length-fields}
 use Rattle.pv_frame.proofs.Parts.{Reads-raw}
-use Rattle.pv_frame.proofs.Ranges.{HasRanges-valid}
+use Rattle.pv_frame.proofs.Meaning.{HasRanges-valid}
 
 -- ---- what is spelled
 
@@ -34,16 +34,6 @@ IsBytes-append : (xs ys : List ℕ) → IsBytes xs → IsBytes ys → IsBytes (x
 IsBytes-append [] ys first rest i = rest i
 IsBytes-append (x ∷ xs) ys first rest zero = first 0
 IsBytes-append (x ∷ xs) ys first rest (suc i) = IsBytes-append xs ys (λ i. first (suc i)) rest i
-
-IsBytes-drop : (n : ℕ) (bytes : List ℕ) → IsBytes bytes → IsBytes (drop n bytes)
-IsBytes-drop n bytes fits i = rw get_or-drop (fits (n + i))
-
-IsBytes-take : (n : ℕ) (bytes : List ℕ) → IsBytes bytes → IsBytes (take n bytes)
-IsBytes-take n bytes fits i =
-    elim (cases_lt i n) [
-      | inl lt ↦ rw (get_or-take n bytes i 0 lt) (fits i)
-      | inr le ↦ rw (get_or_past (take n bytes) i 0 (omega (arith, length-take n bytes))) (omega arith)
-    ]
 
 -- a number of four bytes
 IsBytes-four : (n : ℕ) → IsBytes (to_be_bytes w32 n)

@@ -7,7 +7,7 @@ use Rattle.pv_frame.specs.Codes.{kind_code, field_bytes}
 use Rattle.pv_frame.specs.Content.{Content}
 use Rattle.pv_frame.specs.Memory.{no_field}
 use Rattle.pv_frame.specs.declared.layout.TheConstants.{FIELDS}
-use Rattle.pv_frame.proofs.Ranges.{HasRanges-valid}
+use Rattle.pv_frame.proofs.Meaning.{HasRanges-valid}
 use Rattle.pv_frame.proofs.frame.Frame.put.Goals as goal
 
 pub overflow_cast-self-inside : goal.overflow_cast-self-inside
