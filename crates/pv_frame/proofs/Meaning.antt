@@ -9,21 +9,7 @@ use Rattle.std.proofs.lemmas.Bool.Decides.{Decides-and, Decides-eqb, Decides-ltb
 use Rattle.std.proofs.lemmas.List.Elements.{All-append}
 use Rattle.std.proofs.lemmas.List.Folds.{list_all-append}
 use Rattle.std.proofs.lemmas.List.Quantifiers.{position-Some}
-use Rattle.pv_cells.specs.declared.reading.TheConstants.{LAST_CELL, ROW_LENGTH}
-use Rattle.pv_cells.specs.Row.{IsCell}
-use Rattle.pv_fields.specs.Refusals.{first_of, some_if}
-use Rattle.pv_frame.specs.declared.kind.Kind.{Kind}
-use Rattle.pv_frame.specs.declared.kind.Kind.TheVariants.{Information, Response, Mail}
-use Rattle.pv_frame.specs.declared.field.Field.{Field}
-use Rattle.pv_frame.specs.declared.field.FieldKind.{FieldKind}
-use Rattle.pv_frame.specs.declared.field.FieldKind.TheVariants.{Digits, Words}
-use Rattle.pv_frame.specs.declared.frame_error.FrameError.{FrameError}
-use Rattle.pv_frame.specs.declared.frame_error.FrameError.TheVariants.{Cell, Price, FieldRange, FieldsMeet, Shape, Code}
-use Rattle.pv_frame.specs.declared.layout.TheConstants.{LAST_PRICE, FIRST_ROW, LAST_ROW, ACCOUNT_DIGITS, MAIL_TEXTS}
-use Rattle.pv_frame.specs.Content.{Content}
-use Rattle.pv_frame.specs.Errors.{is_cell, end_of, lies_in_body, meets, ShareCell, first_meeting, is_digits, takes_text, has_shape, price_error, meeting_error, shape_error, field_errors, error_of, IsValid, HasRanges}
-use Rattle.pv_frame.specs.Meaning.{LiesInBody, HasShape, IsWellFormed, field_at, IsBefore, IsFirstMeeting, Says}
-use Rattle.pv_frame.specs.Memory.{no_field}
+use Rattle.pv_frame.proofs.Words.{LAST_CELL, ROW_LENGTH, IsCell, first_of, some_if, Kind, Information, Response, Mail, Field, FieldKind, Digits, Words, FrameError, Cell, Price, FieldRange, FieldsMeet, Shape, Code, LAST_PRICE, FIRST_ROW, LAST_ROW, ACCOUNT_DIGITS, MAIL_TEXTS, Content, is_cell, end_of, lies_in_body, meets, ShareCell, first_meeting, is_digits, takes_text, has_shape, price_error, meeting_error, shape_error, field_errors, error_of, IsValid, HasRanges, LiesInBody, HasShape, IsWellFormed, field_at, IsBefore, IsFirstMeeting, Says, no_field}
 use Rattle.pv_frame.proofs.Cells.{Decides-cells}
 use Rattle.pv_frame.proofs.Searching.{all_fail}
 

@@ -2,7 +2,6 @@ mod Bytes
 mod Displays
 mod Facts
 mod Grids
-mod Overwriting
 mod Placing
 mod Runs
 mod Shows

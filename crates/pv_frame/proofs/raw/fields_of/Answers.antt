@@ -1,11 +1,7 @@
-use Rattle.std.proofs.Common.{◌<◌, ◌∷◌, ◌++◌, [], length, get_or, map, take, refl, arith, ap, sym, ◌∙◌}
-use Rattle.std.proofs.lemmas.List.{take_all, take_more, map-append}
-use Rattle.pv_fields.proofs.CallerLemmas.{IsPadded-set, IsPadded-none, take-set, padded_list-take}
-use Rattle.pv_fields.specs.Padded.{padded_list}
-use Rattle.pv_frame.specs.declared.field.Field.{Field}
-use Rattle.pv_frame.specs.declared.layout.TheConstants.{FIELDS}
-use Rattle.pv_frame.specs.Codes.{field_of}
-use Rattle.pv_frame.specs.Memory.{no_field}
+use Rattle.std.proofs.Common.{◌<◌, ◌∷◌, ◌++◌, [], length, get_or, map, take, arith, ap, sym, ◌∙◌}
+use Rattle.std.proofs.lemmas.List.{take_more, map-append}
+use Rattle.pv_fields.proofs.CallerLemmas.{IsPadded-set, take-set}
+use Rattle.pv_frame.proofs.Words.{Field, FIELDS, field_of, no_field}
 use Rattle.pv_frame.proofs.raw.fields_of.Goals as goal
 
 pub loop-i-preserved : goal.loop-i-preserved
