@@ -7,7 +7,7 @@ use Rattle.std.proofs.lemmas.Bool.{cases_lt, leb-true, le-leb, lt-leb}
 use Rattle.std.proofs.lemmas.Bool.Decides.{Decides-by_and}
 use Rattle.std.proofs.lemmas.List.{get_or_past, get_or_default}
 use Rattle.std.proofs.lemmas.List.Folds.{list_all_at}
-use Rattle.pv_frame.proofs.Words.{IsCell, is_cell}
+use Rattle.pv_frame.proofs.Vocabulary.{IsCell, is_cell}
 
 -- bytes are cells exactly if they pass
 pub Decides-cells : (cells : List ℕ) → Decides (list_all is_cell cells) (All IsCell cells)

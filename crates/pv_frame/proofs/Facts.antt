@@ -1,7 +1,7 @@
 -- Frames and bytes worked out by hand, computed from the definitions. A constant is pinned by the last value that fits and the next.
 use Rattle.std.proofs.Common.{◌≡◌, ℕ, true, false, [], ◌∷◌, ◌++◌, length, take, replicate, Some, None, Err, refl}
 use Rattle.std.specs.Prelude.{slice_index}
-use Rattle.pv_frame.proofs.Words.{Short, Version, Trailing, Invalid, Field, FieldKind, Digits, Words, Cell, Price, Code, Information, Response, Mail, blank_frame, with_row, is_route, page_of, route_bytes, field_bytes, is_cell, lies_in_body, meets, first_meeting, has_shape, error_of, raw_at, kind_error, route_error, count_error, field_error, decode_of, raw_of, spelling_of}
+use Rattle.pv_frame.proofs.Vocabulary.{Short, Version, Trailing, Invalid, Field, FieldKind, Digits, Words, Cell, Price, Code, Information, Response, Mail, blank_frame, with_row, is_route, page_of, route_bytes, field_bytes, is_cell, lies_in_body, meets, first_meeting, has_shape, error_of, raw_at, kind_error, route_error, count_error, field_error, decode_of, raw_of, spelling_of}
 
 -- a blank frame is valid; the last cell is 127, and a frame may cost 99 pence
 pub valid-frames : (error_of blank_frame ≡ None)

@@ -10,4 +10,4 @@ pub mod Parts
 pub mod RoundTrip
 pub mod Rows
 pub mod Searching
-pub mod Words
+pub mod Vocabulary

@@ -4,7 +4,7 @@ use Rattle.std.specs.Prelude.{flat_map, is_none, unwrap_or, ◌==◌}
 use Rattle.std.specs.Int.{w32, to_be_bytes}
 use Rattle.std.proofs.lemmas.Bool.{cases_Bool, le-ltb, ltb-false, eqb-true}
 use Rattle.std.proofs.lemmas.List.{append-nil, take_all}
-use Rattle.pv_frame.proofs.Words.{IsPadded, padded_list, first_of, whole, IsBytes, Kind, Information, Response, Mail, FrameCodecError, Short, Version, Invalid, Trailing, FIELDS, VERSION, NO_ROUTE, Content, IsFrame, kind_code, kind_of, route_bytes, route_of, spells_route, field_bytes, field_of, spells_field, fours, error_of, no_field, Field, Raw, IsRaw, raw_bytes, raw_at, frame_of, field_size, first_bad, head_errors, tail_errors, kind_error, route_error, count_error, short_error, field_error, trailing_error, frame_error, raw_error, frame_read, decode_of, raw_of, spelling_of, HasSpelling}
+use Rattle.pv_frame.proofs.Vocabulary.{IsPadded, padded_list, first_of, whole, IsBytes, Kind, Information, Response, Mail, FrameCodecError, Short, Version, Invalid, Trailing, FIELDS, VERSION, NO_ROUTE, Content, IsFrame, kind_code, kind_of, route_bytes, route_of, spells_route, field_bytes, field_of, spells_field, fours, error_of, no_field, Field, Raw, IsRaw, raw_bytes, raw_at, frame_of, field_size, first_bad, head_errors, tail_errors, kind_error, route_error, count_error, short_error, field_error, trailing_error, frame_error, raw_error, frame_read, decode_of, raw_of, spelling_of, HasSpelling}
 use Rattle.pv_fields.proofs.Readings.{all_found}
 use Rattle.pv_fields.proofs.CallerLemmas.{first_of-none, none_of, none_of_both, some_if-false, some_if-none, option_map-none, option_map-none_back, unless_ok, IsPadded-padded_list, take-padded_list, IsBytes-drop, IsBytes-take}
 use Rattle.pv_frame.proofs.Fours.{fours_again, fours_found, length-read}

@@ -3,7 +3,7 @@ use Rattle.std.proofs.Common.{◌≡◌, ℕ, ◌-◌, true, List, ◌++◌, len
 use Rattle.std.specs.List.{list_all}
 use Rattle.std.proofs.lemmas.List.{drop-replicate}
 use Rattle.std.proofs.lemmas.List.Elements.{All-append, All-replicate}
-use Rattle.pv_frame.proofs.Words.{IsCell, blank_frame, frame_of_row, is_cell, IsValid}
+use Rattle.pv_frame.proofs.Vocabulary.{IsCell, blank_frame, frame_of_row, is_cell, IsValid}
 use Rattle.pv_frame.proofs.Cells.{Decides-cells}
 
 -- the row in place of the first 40 blank cells

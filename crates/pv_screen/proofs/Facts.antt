@@ -3,11 +3,7 @@ use Rattle.std.proofs.Common.{◌≡◌, [], ◌∷◌, ◌++◌, List, ℕ, zer
 use Rattle.std.specs.Prelude.{codes}
 use Rattle.std.specs.Fmt.{digits}
 use Rattle.pv_frame.specs.Content as frames
-use Rattle.pv_screen.specs.declared.codes.TheConstants.{CURSOR_ON, CURSOR_OFF}
-use Rattle.pv_screen.specs.declared.attributes.TheConstants.{ALPHA_RED, ALPHA_GREEN, ALPHA_YELLOW, ALPHA_BLUE, ALPHA_MAGENTA, ALPHA_CYAN, ALPHA_WHITE, MOSAIC_RED, MOSAIC_GREEN, MOSAIC_YELLOW, MOSAIC_BLUE, MOSAIC_MAGENTA, MOSAIC_CYAN, MOSAIC_WHITE, FLASH, STEADY, NORMAL_HEIGHT, DOUBLE_HEIGHT, CONCEAL, CONTIGUOUS, SEPARATED, BLACK_BACKGROUND, NEW_BACKGROUND, HOLD, RELEASE}
-use Rattle.pv_screen.specs.Composing.{heading, composed_grid}
-use Rattle.pv_screen.specs.Terminal.{new_display, terminal_after}
-use Rattle.pv_screen.specs.Painting.{line_bytes, painting_of, message_text}
+use Rattle.pv_screen.proofs.Vocabulary.{CURSOR_ON, CURSOR_OFF, ALPHA_RED, ALPHA_GREEN, ALPHA_YELLOW, ALPHA_BLUE, ALPHA_MAGENTA, ALPHA_CYAN, ALPHA_WHITE, MOSAIC_RED, MOSAIC_GREEN, MOSAIC_YELLOW, MOSAIC_BLUE, MOSAIC_MAGENTA, MOSAIC_CYAN, MOSAIC_WHITE, FLASH, STEADY, NORMAL_HEIGHT, DOUBLE_HEIGHT, CONCEAL, CONTIGUOUS, SEPARATED, BLACK_BACKGROUND, NEW_BACKGROUND, HOLD, RELEASE, heading, composed_grid, new_display, terminal_after, line_bytes, painting_of, message_text}
 
 -- n line ends
 abbrev line_ends : ℕ → List ℕ

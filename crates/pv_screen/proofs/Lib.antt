@@ -6,3 +6,4 @@ mod Placing
 mod Runs
 mod Shows
 mod Spaces
+mod Vocabulary

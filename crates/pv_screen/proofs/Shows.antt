@@ -9,10 +9,7 @@ use Rattle.std.proofs.lemmas.List.{append-nil, append_assoc, length-append, take
 use Rattle.std.proofs.lemmas.Simd.{splat_is_map}
 use Rattle.std.proofs.lemmas.List.Sums.{fold-append, suffix_len-le-length, prefix_len_passes}
 use Rattle.std.proofs.lemmas.List.Elements.{All-head, All-tail, All-take, All-get_or, All-set}
-use Rattle.pv_cells.specs.Row.{IsCell}
-use Rattle.pv_screen.specs.Grid.{IsGrid, IsRow}
-use Rattle.pv_screen.specs.Painting.{cell_bytes, cells_bytes, shown_cells, row_bytes, line_end, line_bytes, painting_of, message_text}
-use Rattle.pv_screen.specs.Terminal.{Display, IsReady, new_display, row_below, with_cell, after_cell, after_byte, terminal_after}
+use Rattle.pv_screen.proofs.Vocabulary.{IsCell, IsGrid, IsRow, cell_bytes, cells_bytes, shown_cells, row_bytes, line_end, line_bytes, painting_of, message_text, Display, IsReady, new_display, row_below, with_cell, after_cell, after_byte, terminal_after}
 use Rattle.pv_screen.proofs.Grids.{IsGrid-blank}
 use Rattle.pv_screen.proofs.Bytes.{line_end_short, line_end_full, length-shown-le}
 

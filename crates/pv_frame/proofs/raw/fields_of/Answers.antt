@@ -1,7 +1,7 @@
 use Rattle.std.proofs.Common.{◌<◌, ◌∷◌, ◌++◌, [], length, get_or, map, take, arith, ap, sym, ◌∙◌}
 use Rattle.std.proofs.lemmas.List.{take_more, map-append}
 use Rattle.pv_fields.proofs.CallerLemmas.{IsPadded-set, take-set}
-use Rattle.pv_frame.proofs.Words.{Field, FIELDS, field_of, no_field}
+use Rattle.pv_frame.proofs.Vocabulary.{Field, FIELDS, field_of, no_field}
 use Rattle.pv_frame.proofs.raw.fields_of.Goals as goal
 
 pub loop-i-preserved : goal.loop-i-preserved

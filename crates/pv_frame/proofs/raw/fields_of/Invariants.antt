@@ -1,5 +1,5 @@
 use Rattle.std.proofs.Common.{◌≡◌, map, take}
-use Rattle.pv_frame.proofs.Words.{IsPadded, FIELDS, field_of, no_field}
+use Rattle.pv_frame.proofs.Vocabulary.{IsPadded, FIELDS, field_of, no_field}
 use Rattle.pv_frame.proofs.raw.fields_of.Given as goal
 
 -- the fields so far are read, and the other places are empty

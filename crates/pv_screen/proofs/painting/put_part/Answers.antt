@@ -1,7 +1,6 @@
 use Rattle.std.proofs.Common.{subst, sym, ◌∙◌}
 use Rattle.std.proofs.lemmas.List.Sums.{AllPass-from_list_all}
-use Rattle.pv_fields.specs.Out.{Appends}
-use Rattle.pv_screen.specs.Painting.{is_ordinary}
+use Rattle.pv_screen.proofs.Vocabulary.{Appends, is_ordinary}
 use Rattle.pv_screen.proofs.Spaces.{plain_bytes}
 use Rattle.pv_screen.proofs.painting.put_part.Goals as goal
 

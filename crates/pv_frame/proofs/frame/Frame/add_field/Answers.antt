@@ -1,5 +1,5 @@
 use Rattle.std.proofs.Common.{ℕ, ◌+◌, ◌<◌, length, set, sym, ap, subst, arith}
-use Rattle.pv_frame.proofs.Words.{IsPadded, Content, no_field, FIELDS}
+use Rattle.pv_frame.proofs.Vocabulary.{IsPadded, Content, no_field, FIELDS}
 use Rattle.pv_fields.proofs.CallerLemmas.{length-items, IsPadded-set}
 use Rattle.pv_frame.proofs.frame.Frame.add_field.Goals as goal
 

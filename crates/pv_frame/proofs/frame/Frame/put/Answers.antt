@@ -1,7 +1,7 @@
 use Rattle.std.proofs.Common.{◌≡◌, ◌≤◌, [], ◌∷◌, ◌++◌, length, take, subst, sym, ap, rules, arith, ◌∙◌}
 use Rattle.std.proofs.lemmas.List.{append-nil}
 use Rattle.std.specs.Prelude.{flat_map}
-use Rattle.pv_frame.proofs.Words.{Appends, kind_code, field_bytes, Content, no_field, FIELDS}
+use Rattle.pv_frame.proofs.Vocabulary.{Appends, kind_code, field_bytes, Content, no_field, FIELDS}
 use Rattle.pv_fields.proofs.CallerLemmas.{appends_then, length-items}
 use Rattle.pv_frame.proofs.Meaning.{HasRanges-valid}
 use Rattle.pv_frame.proofs.frame.Frame.put.Goals as goal

@@ -1,6 +1,6 @@
 use Rattle.std.proofs.Common.{rules, arith}
 use Rattle.pv_fields.proofs.CallerLemmas.{length-items}
-use Rattle.pv_frame.proofs.Words.{fours, no_field, FIELDS}
+use Rattle.pv_frame.proofs.Vocabulary.{fours, no_field, FIELDS}
 use Rattle.pv_frame.proofs.Inverses.{pages_of}
 use Rattle.pv_frame.proofs.raw.RawFrame.frame.Goals as goal
 
