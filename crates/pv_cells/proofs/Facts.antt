@@ -33,21 +33,15 @@ reads-escapes = (codes "\\fF", refl, ([], refl, refl))
 pub cells : IsCell 127 × ¬ IsCell 128
 cells = (lit≤ tt, λ is. omega (arith, is))
 
--- forty cells are a row, and blanks fill it up
+-- forty cells are a row, and blanks fill it up; a 41st is too long, whatever it is
 pub rows : (row_of_text ROW_LENGTH (replicate 40 65) ≡ Ok (replicate 40 65)) × (row_of_text 4 (codes "A\\03") ≡ Ok (65 ∷ 3 ∷ 32 ∷ 32 ∷ []))
-rows = (refl, refl)
+    × (row_of_text ROW_LENGTH (replicate 41 65) ≡ Err TooLong) × (row_of_text 1 (65 ∷ 128 ∷ []) ≡ Err TooLong)
+rows = (refl, refl, refl, refl)
 
--- a 41st is too long, whatever it is
-pub too-long : (row_of_text ROW_LENGTH (replicate 41 65) ≡ Err TooLong) × (row_of_text 1 (65 ∷ 128 ∷ []) ≡ Err TooLong)
-too-long = (refl, refl)
-
--- a backslash before less than two digits, or before a number over 127, is a bad escape
-pub bad-escapes : (row_of_text 4 (codes "A\\8") ≡ Err (BadEscape 1)) × (row_of_text 4 (codes "\\41\\80") ≡ Err (BadEscape 3))
-bad-escapes = (refl, refl)
-
--- a byte that cannot be printed is a bad byte
-pub bad-bytes : (row_of_text 4 (codes "A" ++ 31 ∷ []) ≡ Err (BadByte 1)) × (row_of_text 4 (127 ∷ []) ≡ Err (BadByte 0))
-bad-bytes = (refl, refl)
+-- a backslash before less than two digits, or before a number over 127, is a bad escape; what cannot be printed is a bad byte
+pub bad-texts : (row_of_text 4 (codes "A\\8") ≡ Err (BadEscape 1)) × (row_of_text 4 (codes "\\41\\80") ≡ Err (BadEscape 3))
+    × (row_of_text 4 (codes "A" ++ 31 ∷ []) ≡ Err (BadByte 1)) × (row_of_text 4 (127 ∷ []) ≡ Err (BadByte 0))
+bad-texts = (refl, refl, refl, refl)
 
 -- ---- mosaics
 

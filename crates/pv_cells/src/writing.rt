@@ -32,8 +32,8 @@ pub fn notation(cells: &[u8], out: &mut Out) -> Result<(), NoRoom>
     Ok(())
 }
 
-/// Appends the canonical notation of the bytes to a text, as [`notation`] does to a slice. An error
-/// leaves the text with a prefix of that notation.
+/// Appends the canonical notation of the bytes to a text, as [`notation`] does to a slice. What the text
+/// holds after an error is not specified.
 pub fn push_notation(bytes: &[u8], text: &mut Vec<u8>) -> Result<(), AllocError>
     ensures ok { OnOk result (text.new.items ≡ text.old.items ++ notation_of bytes.now) }
 {

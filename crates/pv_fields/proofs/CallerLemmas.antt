@@ -2,11 +2,13 @@
 use Rattle.std.proofs.Common.{◌≡◌, ◌⊎◌, inl, inr, ℕ, ◌+◌, ◌-◌, ◌*◌, ◌<◌, ◌≤◌, Bool, true, false, Option, Some, None, Result, Ok, Err, List, [], ◌∷◌, ◌++◌, length, get_or, set, take, drop, replicate, arith, refl, sym, ap, ◌∙◌, subst, append_assoc, length-append}
 use Rattle.std.specs.Prelude.{flat_map, option_map}
 use Rattle.std.proofs.Math.Nat.{mul-zero, mul-suc, mul-le-mul_left}
-use Rattle.std.proofs.lemmas.List.{append-nil, drop-drop, take_more, length-take-le, length-replicate, length-set, take-append-drop, take_at, drop_at, drop-replicate, drop-set-lt, take_more_set}
+use Rattle.std.proofs.lemmas.Bool.{cases_lt}
+use Rattle.std.proofs.lemmas.List.{append-nil, drop-drop, get_or-drop, get_or-take, get_or_past, length-take, take_more, length-take-le, length-replicate, length-set, take-append-drop, take_at, drop_at, drop-replicate, drop-set-lt, take_more_set}
 use Rattle.std.proofs.lemmas.List.Concat.{flat_map-append}
 use Rattle.std.proofs.lemmas.List.Folds.{length-flat_map-take}
 use Rattle.pv_fields.specs.Out.{written_of, rest_of, room_of, Appends, Puts}
 use Rattle.pv_fields.specs.Padded.{padded_list, IsPadded}
+use Rattle.pv_fields.specs.Reading.{IsBytes}
 use Rattle.pv_fields.specs.Refusals.{first_of, some_if, unless}
 use Rattle.pv_fields.specs.declared.writing.Out.{Out}
 
@@ -240,3 +242,16 @@ module _ {X : Type 0} (filler : X) (size : ℕ) where
       -- the items are then one more
       pub take-set : take (count + 1) (set list count item) ≡ take count list ++ item ∷ []
       take-set = take_more_set list count item (omega (arith, padded.len))
+
+-- ---- bytes
+
+-- the first n of some bytes, and those after them, are bytes
+pub IsBytes-drop : (n : ℕ) (bytes : List ℕ) → IsBytes bytes → IsBytes (drop n bytes)
+IsBytes-drop n bytes h i = rw get_or-drop (h (n + i))
+
+pub IsBytes-take : (n : ℕ) (bytes : List ℕ) → IsBytes bytes → IsBytes (take n bytes)
+IsBytes-take n bytes h i =
+    elim (cases_lt i n) [
+      | inl lt ↦ rw (get_or-take n bytes i 0 lt) (h i)
+      | inr le ↦ rw (get_or_past (take n bytes) i 0 (omega (arith, length-take n bytes))) (omega arith)
+    ]

@@ -7,6 +7,7 @@ use Rattle.std.proofs.lemmas.Bool.{cases_lt, ltb-false, le-ltb, eqb-true, leb-tr
 use Rattle.std.proofs.lemmas.List.{take_at, drop_at, append-nil, nil_from_length, take-append-drop, length-append, length-take, get_or-drop, get_or-take, get_or_past, get_or-append-add}
 use Rattle.std.proofs.lemmas.List.Concat.{flat_map-cons}
 use Rattle.std.proofs.lemmas.Nat.{be_bytes_2, be_bytes_4, be_bytes_8, from_be_bytes-to_be_bytes_2, from_be_bytes-to_be_bytes_4, from_be_bytes-to_be_bytes_8}
+use Rattle.pv_fields.proofs.CallerLemmas.{IsBytes-drop, IsBytes-take}
 use Rattle.pv_fields.specs.Reading.{Parser, ◌>>=◌, Gives, byte_at, number_at, run_at, nothing_at, passing, ◌⊗◌, map_at, chain_at, rest_at, list_at, text_at, with_prefix, times, many_at, whole, GivesAll, within, at_most, IsBytes, ReadsBefore, ReadsLast, Reads, ReadsBack, Missing}
 
 -- a step that found a value
@@ -32,16 +33,6 @@ some_is x y e = cc
 IsBytes-after : (prefix bytes rest : List ℕ) → bytes ≡ prefix ++ rest → IsBytes bytes → IsBytes rest
 IsBytes-after prefix bytes rest e h i = subst (λ n. n < 256)
     (ap (λ b. get_or b (length prefix + i) 0) e ∙ get_or-append-add prefix rest i 0) (h (length prefix + i))
-
-IsBytes-drop : (n : ℕ) (bytes : List ℕ) → IsBytes bytes → IsBytes (drop n bytes)
-IsBytes-drop n bytes h i = rw get_or-drop (h (n + i))
-
-IsBytes-take : (n : ℕ) (bytes : List ℕ) → IsBytes bytes → IsBytes (take n bytes)
-IsBytes-take n bytes h i =
-    elim (cases_lt i n) [
-      | inl lt ↦ rw (get_or-take n bytes i 0 lt) (h i)
-      | inr le ↦ rw (get_or_past (take n bytes) i 0 (omega (arith, length-take n bytes))) (omega arith)
-    ]
 
 -- ---- what a call gave
 

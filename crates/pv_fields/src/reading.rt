@@ -8,8 +8,8 @@ use std::marker::Model;
 /// Reads from a slice, from its beginning on. Contracts see it as the list of the bytes that are left.
 ///
 /// A call that takes a number of bytes either takes all of them or returns [`Short`] and changes
-/// nothing. A call that takes a number within a range returns [`NoSpelling`] if there is none, and has
-/// then taken its bytes or nothing.
+/// nothing. A call that takes a number within a range returns [`NoSpelling`] if there is none; what is
+/// left then is not specified.
 #[derive(Drop)]
 pub struct In<'a> {
     from: &'a [u8],

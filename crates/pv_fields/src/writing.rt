@@ -48,7 +48,11 @@ impl<'a> Out<'a> {
         ensures puts { Puts result self.old self.new (byte ∷ []) }
         ensures err { OnErr result (self.new ≡ self.old) }
     {
-        self.run(&[byte])
+        if self.room() < 1 {
+            return Err(NoRoom);
+        }
+        self.put_u8(byte);
+        Ok(())
     }
 
     /// Appends a number as two bytes, the higher one first.
@@ -100,7 +104,8 @@ impl<'a> Out<'a> {
         requires { 1 ≤ room_of self.old }
         ensures appends { Appends self.old self.new (byte ∷ []) }
     {
-        self.put_run(&[byte]);
+        self.into[self.count] = byte;
+        self.count += 1;
     }
 
     /// Appends a number as two bytes, the higher one first. There is room for them.

@@ -7,8 +7,7 @@ use Rattle.std.proofs.lemmas.List.{take_at, drop_at, length-drop, length-take, t
 use Rattle.std.proofs.lemmas.List.Concat.{flat_map-cons}
 use Rattle.std.proofs.lemmas.List.Elements.{All-nil, All-cons, All-head, All-tail}
 use Rattle.pv_fields.proofs.CallerLemmas.{length-pieces}
-use Rattle.pv_frame.specs.Codes.{fours}
-use Rattle.pv_frame.specs.Reading.{first_bad}
+use Rattle.pv_frame.proofs.Vocabulary.{fours, first_bad}
 use Rattle.pv_frame.proofs.Searching.{all_fail, position-none}
 
 -- there are as many groups as asked for

@@ -5,16 +5,7 @@ use Rattle.std.specs.Int.{w32, from_be_bytes, to_be_bytes}
 use Rattle.std.proofs.lemmas.Bool.{cases_Bool, leb-true, le-leb, eqb-true, or_left}
 use Rattle.std.proofs.lemmas.Nat.{be_bytes_4, from_be_bytes-to_be_bytes_4}
 use Rattle.std.proofs.lemmas.List.Elements.{All-nil, All-cons}
-use Rattle.pv_fields.specs.Reading.{IsBytes}
-use Rattle.pv_page.specs.Names.{IsPage}
-use Rattle.pv_page.specs.declared.page_no.TheConstants.{LAST_PAGE}
-use Rattle.pv_frame.specs.declared.kind.Kind.{Kind}
-use Rattle.pv_frame.specs.declared.kind.Kind.TheVariants.{Information, Response, Mail}
-use Rattle.pv_frame.specs.declared.field.Field.{Field}
-use Rattle.pv_frame.specs.declared.field.FieldKind.{FieldKind}
-use Rattle.pv_frame.specs.declared.field.FieldKind.TheVariants.{Digits, Words}
-use Rattle.pv_frame.specs.declared.layout.TheConstants.{NO_ROUTE}
-use Rattle.pv_frame.specs.Codes.{kind_code, kind_of, field_code, field_kind_of, route_bytes, is_route, page_of, spells_route, route_of, field_bytes, spells_field, field_of}
+use Rattle.pv_frame.proofs.Vocabulary.{IsBytes, IsPage, LAST_PAGE, Kind, Information, Response, Mail, Field, FieldKind, Digits, Words, NO_ROUTE, kind_code, kind_of, field_code, field_kind_of, route_bytes, is_route, page_of, spells_route, route_of, field_bytes, spells_field, field_of}
 
 -- the kind of a frame
 pub kind_again : (kind : Kind) → kind_of (kind_code kind) ≡ Some kind

@@ -4,11 +4,7 @@ use Rattle.std.specs.Prelude.{flat_map}
 use Rattle.std.specs.Int.{w16, to_be_bytes}
 use Rattle.std.proofs.lemmas.List.{length-append}
 use Rattle.pv_fields.proofs.CallerLemmas.{length-pieces}
-use Rattle.pv_frame.specs.declared.field.Field.{Field}
-use Rattle.pv_frame.specs.declared.layout.TheConstants.{FIELDS_AT, FIELD_BYTES}
-use Rattle.pv_frame.specs.Codes.{route_bytes, field_bytes, kind_code}
-use Rattle.pv_frame.specs.Content.{Content, IsFrame}
-use Rattle.pv_frame.specs.Spelling.{spelling_of}
+use Rattle.pv_frame.proofs.Vocabulary.{Field, FIELDS_AT, FIELD_BYTES, route_bytes, field_bytes, kind_code, Content, IsFrame, spelling_of}
 
 -- a route takes four bytes
 pub length-route : (route : Option ℕ) → length (route_bytes route) ≡ 4

@@ -4,10 +4,10 @@ pub mod Facts
 pub mod Fours
 pub mod Inverses
 pub mod Lengths
-pub mod Meetings
+pub mod Meaning
 pub mod OneSpelling
 pub mod Parts
-pub mod Ranges
 pub mod RoundTrip
 pub mod Rows
 pub mod Searching
+pub mod Vocabulary

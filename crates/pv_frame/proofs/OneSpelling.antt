@@ -2,13 +2,7 @@
 use Rattle.std.proofs.Common.{◌≡◌, ℕ, List, [], ◌∷◌, ◌++◌, length, take, drop, Option, Some, Result, Ok, refl, sym, ap, ◌∙◌, append_assoc, arith}
 use Rattle.std.specs.Prelude.{flat_map}
 use Rattle.std.proofs.lemmas.List.{append-nil, take_at, drop_at}
-use Rattle.pv_fields.specs.Reading.{ReadsBack}
-use Rattle.pv_frame.specs.declared.codec_error.FrameCodecError.{FrameCodecError}
-use Rattle.pv_frame.specs.Codes.{field_bytes}
-use Rattle.pv_frame.specs.Content.{Content}
-use Rattle.pv_frame.specs.Raw.{Raw, IsRaw, raw_bytes, raw_at}
-use Rattle.pv_frame.specs.Reading.{decode_of}
-use Rattle.pv_frame.specs.Spelling.{raw_of, spelling_of, HasSpelling}
+use Rattle.pv_frame.proofs.Vocabulary.{ReadsBack, FrameCodecError, field_bytes, Content, Raw, IsRaw, raw_bytes, raw_at, decode_of, raw_of, spelling_of, HasSpelling}
 use Rattle.pv_frame.proofs.Lengths.{length-fields}
 use Rattle.pv_frame.proofs.Parts.{Reads-raw}
 use Rattle.pv_frame.proofs.RoundTrip.{IsRaw-raw_of, decode_of-spelling}

@@ -2,10 +2,8 @@
 use Rattle.std.proofs.Common.{◌≡◌, ℕ, ◌++◌, length, Some, refl, arith, length-append}
 use Rattle.std.proofs.lemmas.Bool.{le-ltb}
 use Rattle.std.proofs.lemmas.List.{append-nil, take_at, drop_at}
-use Rattle.pv_fields.specs.Reading.{Reads, ReadsLast, run_at}
+use Rattle.pv_frame.proofs.Vocabulary.{Reads, ReadsLast, run_at, TITLE_CELLS, BODY_CELLS, ROUTES_SIZE, IsRaw, raw_bytes, raw_at, all_at}
 use Rattle.pv_fields.proofs.Readings.{Reads-byte, Reads-two, Reads-run, Reads-rest, Reads-map, ◌&◌}
-use Rattle.pv_frame.specs.declared.layout.TheConstants.{TITLE_CELLS, BODY_CELLS, ROUTES_SIZE}
-use Rattle.pv_frame.specs.Raw.{IsRaw, raw_bytes, raw_at, all_at}
 
 -- cells of a fixed length, whatever they are
 Reads-cells : (n : ℕ) → Reads (λ cells. length cells ≡ n) (λ cells. cells) (run_at n)

@@ -1,32 +1,17 @@
 -- What is spelled is read again, and what is read is spelled so.
-use Rattle.std.proofs.Common.{◌≡◌, ℕ, zero, suc, ◌<◌, ◌≤◌, false, List, [], ◌∷◌, ◌++◌, length, take, drop, ◌+◌, map, Option, Some, None, Result, Ok, Err, refl, sym, ap, subst, ◌∙◌, inl, inr, arith}
+use Rattle.std.proofs.Common.{◌≡◌, ℕ, zero, suc, ◌<◌, ◌≤◌, false, List, [], ◌∷◌, ◌++◌, length, take, map, Option, Some, None, Result, Ok, Err, refl, sym, ap, subst, ◌∙◌, inl, inr, arith}
 use Rattle.std.specs.Prelude.{flat_map, is_none, unwrap_or, ◌==◌}
 use Rattle.std.specs.Int.{w32, to_be_bytes}
-use Rattle.std.proofs.lemmas.Bool.{cases_Bool, cases_lt, le-ltb, ltb-false, eqb-true}
-use Rattle.std.proofs.lemmas.List.{append-nil, take_all, get_or-drop, get_or-take, get_or_past, length-take}
-use Rattle.pv_fields.specs.Padded.{IsPadded, padded_list}
-use Rattle.pv_fields.specs.Refusals.{first_of}
-use Rattle.pv_fields.specs.Reading.{whole, IsBytes}
+use Rattle.std.proofs.lemmas.Bool.{cases_Bool, le-ltb, ltb-false, eqb-true}
+use Rattle.std.proofs.lemmas.List.{append-nil, take_all}
+use Rattle.pv_frame.proofs.Vocabulary.{IsPadded, padded_list, first_of, whole, IsBytes, Kind, Information, Response, Mail, FrameCodecError, Short, Version, Invalid, Trailing, FIELDS, VERSION, NO_ROUTE, Content, IsFrame, kind_code, kind_of, route_bytes, route_of, spells_route, field_bytes, field_of, spells_field, fours, error_of, no_field, Field, Raw, IsRaw, raw_bytes, raw_at, frame_of, field_size, first_bad, head_errors, tail_errors, kind_error, route_error, count_error, short_error, field_error, trailing_error, frame_error, raw_error, frame_read, decode_of, raw_of, spelling_of, HasSpelling}
 use Rattle.pv_fields.proofs.Readings.{all_found}
-use Rattle.pv_fields.proofs.CallerLemmas.{first_of-none, none_of, none_of_both, some_if-false, some_if-none, option_map-none, option_map-none_back, unless_ok, IsPadded-padded_list, take-padded_list}
-use Rattle.pv_frame.specs.declared.kind.Kind.{Kind}
-use Rattle.pv_frame.specs.declared.kind.Kind.TheVariants.{Information, Response, Mail}
-use Rattle.pv_frame.specs.declared.codec_error.FrameCodecError.{FrameCodecError}
-use Rattle.pv_frame.specs.declared.codec_error.FrameCodecError.TheVariants.{Short, Version, Invalid, Trailing}
-use Rattle.pv_frame.specs.declared.layout.TheConstants.{FIELDS, VERSION, NO_ROUTE}
-use Rattle.pv_frame.specs.Content.{Content, IsFrame}
-use Rattle.pv_frame.specs.Codes.{kind_code, kind_of, route_bytes, route_of, spells_route, field_bytes, field_of, spells_field, fours}
-use Rattle.pv_frame.specs.Errors.{error_of}
-use Rattle.pv_frame.specs.Memory.{no_field}
-use Rattle.pv_frame.specs.declared.field.Field.{Field}
-use Rattle.pv_frame.specs.Raw.{Raw, IsRaw, raw_bytes, raw_at}
-use Rattle.pv_frame.specs.Reading.{frame_of, field_size, first_bad, head_errors, tail_errors, kind_error, route_error, count_error, short_error, field_error, trailing_error, frame_error, raw_error, frame_read, decode_of}
-use Rattle.pv_frame.specs.Spelling.{raw_of, spelling_of, HasSpelling}
+use Rattle.pv_fields.proofs.CallerLemmas.{first_of-none, none_of, none_of_both, some_if-false, some_if-none, option_map-none, option_map-none_back, unless_ok, IsPadded-padded_list, take-padded_list, IsBytes-drop, IsBytes-take}
 use Rattle.pv_frame.proofs.Fours.{fours_again, fours_found, length-read}
 use Rattle.pv_frame.proofs.Inverses.{kind_again, kind_found, route_again, route_found, pages_of, field_again, field_found}
 use Rattle.pv_frame.proofs.Lengths.{length-route, length-routes, length-fields}
 use Rattle.pv_frame.proofs.Parts.{Reads-raw}
-use Rattle.pv_frame.proofs.Ranges.{HasRanges-valid}
+use Rattle.pv_frame.proofs.Meaning.{HasRanges-valid}
 
 -- ---- what is spelled
 
@@ -34,16 +19,6 @@ IsBytes-append : (xs ys : List ℕ) → IsBytes xs → IsBytes ys → IsBytes (x
 IsBytes-append [] ys first rest i = rest i
 IsBytes-append (x ∷ xs) ys first rest zero = first 0
 IsBytes-append (x ∷ xs) ys first rest (suc i) = IsBytes-append xs ys (λ i. first (suc i)) rest i
-
-IsBytes-drop : (n : ℕ) (bytes : List ℕ) → IsBytes bytes → IsBytes (drop n bytes)
-IsBytes-drop n bytes fits i = rw get_or-drop (fits (n + i))
-
-IsBytes-take : (n : ℕ) (bytes : List ℕ) → IsBytes bytes → IsBytes (take n bytes)
-IsBytes-take n bytes fits i =
-    elim (cases_lt i n) [
-      | inl lt ↦ rw (get_or-take n bytes i 0 lt) (fits i)
-      | inr le ↦ rw (get_or_past (take n bytes) i 0 (omega (arith, length-take n bytes))) (omega arith)
-    ]
 
 -- a number of four bytes
 IsBytes-four : (n : ℕ) → IsBytes (to_be_bytes w32 n)

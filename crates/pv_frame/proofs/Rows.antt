@@ -3,10 +3,8 @@ use Rattle.std.proofs.Common.{◌≡◌, ℕ, ◌-◌, true, List, ◌++◌, len
 use Rattle.std.specs.List.{list_all}
 use Rattle.std.proofs.lemmas.List.{drop-replicate}
 use Rattle.std.proofs.lemmas.List.Elements.{All-append, All-replicate}
-use Rattle.pv_cells.specs.Row.{IsCell}
-use Rattle.pv_frame.specs.Content.{blank_frame, frame_of_row}
-use Rattle.pv_frame.specs.Errors.{is_cell, IsValid}
-use Rattle.pv_frame.proofs.Cells.{all_cells}
+use Rattle.pv_frame.proofs.Vocabulary.{IsCell, blank_frame, frame_of_row, is_cell, IsValid}
+use Rattle.pv_frame.proofs.Cells.{Decides-cells}
 
 -- the row in place of the first 40 blank cells
 pub row_written : (row : List ℕ) → length row ≡ 40 → record blank_frame { body = row ++ drop 40 blank_frame.body } ≡ frame_of_row row
@@ -20,5 +18,5 @@ unfolding frame_of_row
 IsValid-frame_of_row row are_cells =
     let blanks = All-replicate IsCell (880 - length row) 32 (omega arith) in
     let body : list_all is_cell (row ++ replicate (880 - length row) 32) ≡ true =
-    all_cells (row ++ replicate (880 - length row) 32) (All-append IsCell row (replicate (880 - length row) 32) are_cells blanks) in
+    (Decides-cells (row ++ replicate (880 - length row) 32)).1 (All-append IsCell row (replicate (880 - length row) 32) are_cells blanks) in
     rw body refl

@@ -1,4 +1,4 @@
-ghost use Rattle.std.specs.Prelude.{◌≡◌, not, position, None, Some, OnOk, IfErr};
+ghost use Rattle.std.specs.Prelude.{◌≡◌, ◌+◌, ◌≤◌, length, not, position, None, Some, OnOk, IfErr};
 ghost use Rattle.std.specs.List.{list_all};
 ghost use Rattle.pv_fields.specs.Refusals.{first_of};
 ghost use Rattle.pv_frame.specs.Errors.{is_cell, lies_in_body, meets, first_meeting, takes_text, has_shape, field_errors, parts_error};
@@ -6,7 +6,7 @@ ghost use Rattle.pv_frame.specs.Errors.{is_cell, lies_in_body, meets, first_meet
 use crate::field::Field;
 use crate::frame_error::FrameError;
 use crate::kind::Kind;
-use crate::layout::{LAST_PRICE, MAIL_TEXTS};
+use crate::layout::{FIELDS, LAST_PRICE, MAIL_TEXTS};
 
 /// Whether all bytes are cells.
 fn are_cells(bytes: &[u8]) -> bool
@@ -29,16 +29,19 @@ fn first_met(field: &Field, others: &[Field]) -> Option<usize>
     others.iter().position(|other| field.meets(other))
 }
 
-/// The index of the first field that shares a cell with a later one, and that of the first such.
-fn first_meeting(fields: &[Field]) -> Option<(usize, usize)>
-    ensures { result ≡ first_meeting 0 fields.now }
+/// The index, counted from `i`, of the first field that shares a cell with a later one, and that of the
+/// first such.
+fn first_meeting(i: usize, fields: &[Field]) -> Option<(usize, usize)>
+    requires { i + length fields.now ≤ FIELDS }
+    ensures { result ≡ first_meeting i fields.now }
 {
-    for (i, field) in fields.iter().enumerate() {
-        if let Some(k) = first_met(field, &fields[i + 1..]) {
-            return Some((i, i + 1 + k));
-        }
+    let [field, others @ ..] = fields else {
+        return None;
+    };
+    match first_met(field, others) {
+        Some(k) => Some((i, i + 1 + k)),
+        None => first_meeting(i + 1, others),
     }
-    None
 }
 
 /// Whether the fields are those of a frame of this kind.
@@ -72,13 +75,14 @@ fn are_texts(fields: &[Field]) -> bool
 
 /// The first error of the fields of a frame of this kind.
 fn check_fields(kind: Kind, fields: &[Field]) -> Result<(), FrameError>
+    requires { length fields.now ≤ FIELDS }
     ensures ok { OnOk result (first_of (field_errors kind fields.now) ≡ None) }
     ensures err { IfErr result (λ error. first_of (field_errors kind fields.now) ≡ Some error) }
 {
     if let Some(i) = first_outside(fields) {
         return Err(FrameError::FieldRange { i });
     }
-    if let Some((i, j)) = first_meeting(fields) {
+    if let Some((i, j)) = first_meeting(0, fields) {
         return Err(FrameError::FieldsMeet { i, j });
     }
     if !has_shape(kind, fields) {
@@ -95,6 +99,7 @@ pub(crate) fn check_parts(
     kind: Kind,
     fields: &[Field],
 ) -> Result<(), FrameError>
+    requires { length fields.now ≤ FIELDS }
     ensures ok { OnOk result (parts_error title.now body.now price kind fields.now ≡ None) }
     ensures err { IfErr result (λ error.
         parts_error title.now body.now price kind fields.now ≡ Some error) }

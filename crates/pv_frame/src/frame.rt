@@ -160,6 +160,7 @@ impl Frame {
     /// 6. `Code` for the first kind of a field without a meaning;
     /// 7. [`FrameCodecError::Trailing`] for bytes after the fields;
     /// 8. what [`Frame::check`] refuses.
+    #[inline(never)]
     pub fn decode(bytes: &[u8]) -> Result<Frame, FrameCodecError>
         // A frame is read exactly from its spelling.
         ensures found { IfOk result (λ frame.
@@ -170,7 +171,8 @@ impl Frame {
         // From any other bytes the first error is returned.
         ensures exact { result ≡ decode_of bytes.now }
     {
-        read(bytes)
+        let raw = read(bytes)?;
+        Ok(raw.frame())
     }
 
     /// Appends the spelling, which fits.

@@ -1,7 +1,9 @@
 ghost use Rattle.std.specs.Prelude.{◌↔◌, IsTrue};
 ghost use Rattle.pv_fields.specs.Reading.{ReadsBack};
 ghost use Rattle.pv_frame.specs.declared.field.Field.{Field};
-ghost use Rattle.pv_frame.specs.Errors.{meets, ShareCell};
+ghost use Rattle.pv_frame.specs.Content.{Content};
+ghost use Rattle.pv_frame.specs.Errors.{meets, ShareCell, error_of, IsValid};
+ghost use Rattle.pv_frame.specs.Meaning.{Says, IsWellFormed};
 ghost use Rattle.pv_frame.specs.Spelling.{HasSpelling, spelling_of};
 
 /// A law: if two spellings begin the same bytes, they are of one frame, and the same bytes follow.
@@ -10,7 +12,10 @@ pub fn no_spelling_begins_another()
     ensures { ReadsBack HasSpelling spelling_of }
 {}
 
-/// A law: two fields meet exactly if some cell lies in both.
-pub fn fields_meet_in_a_cell()
-    ensures { (a b : Field) → IsTrue (meets a b) ↔ ShareCell a b }
+/// A law: the error of a frame says what is wrong with it, the first place where it is, and that nothing
+/// earlier in the order of [`FrameError`](crate::FrameError) is. A frame without error is well formed.
+pub fn errors_are_what_they_say()
+    ensures says { (frame : Content) → Says frame (error_of frame) }
+    ensures valid { (frame : Content) → IsValid frame ↔ IsWellFormed frame }
+    ensures meeting { (a b : Field) → IsTrue (meets a b) ↔ ShareCell a b }
 {}

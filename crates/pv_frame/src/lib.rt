@@ -47,7 +47,7 @@ pub use field::{Field, FieldKind};
 pub use frame::Frame;
 pub use frame_error::FrameError;
 pub use kind::Kind;
-pub use law::{fields_meet_in_a_cell, no_spelling_begins_another};
+pub use law::{errors_are_what_they_say, no_spelling_begins_another};
 pub use layout::{
     ACCOUNT_DIGITS, BODY_CELLS, BODY_ROWS, FIELD_BYTES, FIELDS, FIELDS_AT, FIRST_ROW, LAST_PRICE,
     LAST_ROW, MAIL_TEXTS, ROUTES, TITLE_CELLS, VERSION,

@@ -1,9 +1,9 @@
-ghost use Rattle.std.specs.Prelude.{◌≡◌, [], ◌+◌, ◌*◌, ◌<◌, ◌≤◌, ◌++◌, length, OnOk, IfOk, IfErr, IfSome, None, Some, map};
+ghost use Rattle.std.specs.Prelude.{◌≡◌, [], ◌+◌, ◌*◌, ◌<◌, ◌≤◌, ◌++◌, length, OnOk, IfOk, IfErr, IfSome, None, Some, Ok, Err, map, take};
 ghost use Rattle.pv_frame.specs.declared.layout.TheConstants.{TITLE_CELLS, BODY_CELLS};
 ghost use Rattle.pv_fields.specs.Reading.{Gives, same, run_at};
 ghost use Rattle.pv_frame.specs.Codes.{spells_route, route_of, spells_field, field_of, fours};
 ghost use Rattle.pv_fields.specs.Refusals.{first_of};
-ghost use Rattle.pv_fields.specs.Padded.{padded_list};
+ghost use Rattle.pv_fields.specs.Padded.{IsPadded, padded_list};
 ghost use Rattle.pv_frame.specs.Memory.{no_field};
 ghost use Rattle.pv_frame.specs.Raw.{raw_at};
 ghost use Rattle.pv_frame.specs.Reading.{bad_code, first_bad, head_errors, tail_errors, frame_error, frame_of, decode_of};
@@ -128,6 +128,23 @@ impl<'a> RawFrame<'a> {
         Ok(())
     }
 
+    /// The kind of the frame.
+    fn kind(&self) -> Kind
+        ensures { result ≡ (frame_of self.now).kind }
+    {
+        kind_of(self.kind).unwrap_or(Kind::Information)
+    }
+
+    /// The fields of the frame, and after them [`Field::NONE`].
+    fn fields(&self) -> [Field; FIELDS]
+        requires head { first_of (head_errors self.now) ≡ None }
+        requires tail { first_of (tail_errors self.now) ≡ None }
+        ensures places { IsPadded no_field FIELDS self.now.count result }
+        ensures fields { take self.now.count result ≡ (frame_of self.now).fields }
+    {
+        fields_of(self.fields)
+    }
+
     /// The error of the frame whose parts these are.
     fn check_frame(&self) -> Result<(), FrameCodecError>
         requires head { first_of (head_errors self.now) ≡ None }
@@ -137,17 +154,17 @@ impl<'a> RawFrame<'a> {
     {
         let title = self.title;
         let body = self.body;
-        let kind = kind_of(self.kind).unwrap_or(Kind::Information);
-        let places = fields_of(self.fields);
+        let places = self.fields();
         let fields = &places[..usize::from(self.count)];
-        match check_parts(title, body, u16::from(self.price), kind, fields) {
+        match check_parts(title, body, u16::from(self.price), self.kind(), fields) {
             Ok(()) => Ok(()),
             Err(error) => Err(FrameCodecError::Invalid(error)),
         }
     }
 
     /// The frame whose parts these are.
-    fn frame(&self) -> Frame
+    #[inline(always)]
+    pub(crate) fn frame(&self) -> Frame
         requires head { first_of (head_errors self.now) ≡ None }
         requires tail { first_of (tail_errors self.now) ≡ None }
         ensures { result ≡ frame_of self.now }
@@ -155,12 +172,12 @@ impl<'a> RawFrame<'a> {
         Frame {
             title: *self.title,
             body: *self.body,
-            kind: kind_of(self.kind).unwrap_or(Kind::Information),
+            kind: self.kind(),
             routes: routes_of(self.routes),
             price: u16::from(self.price),
             group: self.group,
             count: self.count,
-            fields: fields_of(self.fields),
+            fields: self.fields(),
         }
     }
 }
@@ -214,9 +231,12 @@ fn fields_of(bytes: &[u8]) -> [Field; FIELDS]
     fields
 }
 
-/// The frame that the bytes are read as, or the first error.
-pub(crate) fn read(bytes: &[u8]) -> Result<Frame, FrameCodecError>
-    ensures { result ≡ decode_of bytes.now }
+/// What is in the bytes of a frame, or their first error.
+pub(crate) fn read(bytes: &[u8]) -> Result<RawFrame<'_>, FrameCodecError>
+    ensures head { IfOk result (λ raw. first_of (head_errors raw) ≡ None) }
+    ensures tail { IfOk result (λ raw. first_of (tail_errors raw) ≡ None) }
+    ensures ok { IfOk result (λ raw. decode_of bytes.now ≡ Ok (frame_of raw)) }
+    ensures err { IfErr result (λ error. decode_of bytes.now ≡ Err error) }
 {
     let mut from = In::new(bytes);
     if from.u8()? != VERSION {
@@ -226,5 +246,5 @@ pub(crate) fn read(bytes: &[u8]) -> Result<Frame, FrameCodecError>
     raw.check_head()?;
     raw.check_tail()?;
     raw.check_frame()?;
-    Ok(raw.frame())
+    Ok(raw)
 }

@@ -1,3 +1,5 @@
+use crate::codec_error::FrameCodecError::{Invalid, Short, Trailing, Version};
+use crate::frame_error::FrameError::{Cell, Code, FieldRange, FieldsMeet, Price, Shape};
 use crate::{CheckedFrame, FIELDS, Field, FieldKind, Frame, FrameCodecError, FrameError, Kind};
 use pv_cells::row_of;
 use pv_fields::{NoRoom, Out};
@@ -185,72 +187,68 @@ fn errors_have_their_numbers(rt: HostRuntime) {
     }
 }
 
+/// A byte of the spelled frame, another value for it, and the error that it then has.
+const CHANGES: [(usize, u8, Option<FrameCodecError>); 45] = [
+    // the version
+    (0, 0, Some(Version)),
+    (0, 2, Some(Version)),
+    // the first and the last cell of the title and of the body
+    (1, 127, None),
+    (1, 128, Some(Invalid(Cell))),
+    (24, 200, Some(Invalid(Cell))),
+    (25, 128, Some(Invalid(Cell))),
+    (904, 255, Some(Invalid(Cell))),
+    // the kind: another one has other fields
+    (905, 0, Some(Invalid(Shape))),
+    (905, 1, None),
+    (905, 3, Some(Invalid(Code { at: 905 }))),
+    // the routes: 0xFEFFFFFF and 0xFFFFFF00 are no pages, nor is 0x3C00000C, but 0x3B00000C is
+    (906, 0xfe, Some(Invalid(Code { at: 906 }))),
+    (909, 0x00, Some(Invalid(Code { at: 906 }))),
+    (910, 0x3c, Some(Invalid(Code { at: 910 }))),
+    (910, 0x3b, None),
+    (945, 0xfe, Some(Invalid(Code { at: 942 }))),
+    // the price and the group
+    (946, 99, None),
+    (946, 100, Some(Invalid(Price))),
+    (947, 255, None),
+    (948, 0, None),
+    // the number of fields
+    (949, 0, Some(Trailing)),
+    (949, 2, Some(Trailing)),
+    (949, 4, Some(Short)),
+    (949, 8, Some(Short)),
+    (949, 9, Some(Invalid(Code { at: 949 }))),
+    // the field of the account
+    (950, 1, Some(Invalid(FieldRange { i: 0 }))),
+    (950, 23, None),
+    (950, 24, Some(Invalid(FieldRange { i: 0 }))),
+    (950, 5, Some(Invalid(FieldsMeet { i: 0, j: 1 }))),
+    (951, 30, None),
+    (951, 31, Some(Invalid(FieldRange { i: 0 }))),
+    (952, 0, Some(Invalid(FieldRange { i: 0 }))),
+    (952, 11, Some(Invalid(Shape))),
+    (952, 41, Some(Invalid(FieldRange { i: 0 }))),
+    (953, 1, Some(Invalid(Shape))),
+    (953, 2, Some(Invalid(Code { at: 953 }))),
+    // the field of the first text
+    (954, 3, Some(Invalid(FieldsMeet { i: 0, j: 1 }))),
+    (954, 6, Some(Invalid(FieldsMeet { i: 1, j: 2 }))),
+    (955, 1, Some(Invalid(FieldRange { i: 1 }))),
+    (957, 0, Some(Invalid(Shape))),
+    (957, 2, Some(Invalid(Code { at: 957 }))),
+    // the field of the second text
+    (958, 3, Some(Invalid(FieldsMeet { i: 0, j: 2 }))),
+    (958, 5, Some(Invalid(FieldsMeet { i: 1, j: 2 }))),
+    (960, 38, None),
+    (960, 39, Some(Invalid(FieldRange { i: 2 }))),
+    (961, 7, Some(Invalid(Code { at: 961 }))),
+];
+
 #[test]
 fn one_changed_byte_has_the_error_of_what_it_breaks(rt: HostRuntime) {
-    let code = |at| Some(FrameCodecError::Invalid(FrameError::Code { at }));
-    let range = |i| Some(FrameCodecError::Invalid(FrameError::FieldRange { i }));
-    let meet = |i, j| Some(FrameCodecError::Invalid(FrameError::FieldsMeet { i, j }));
-    let cell = Some(FrameCodecError::Invalid(FrameError::Cell));
-    let price = Some(FrameCodecError::Invalid(FrameError::Price));
-    let shape = Some(FrameCodecError::Invalid(FrameError::Shape));
-    let cases = [
-        // the version
-        (0, 0, Some(FrameCodecError::Version)),
-        (0, 2, Some(FrameCodecError::Version)),
-        // the first and the last cell of the title and of the body
-        (1, 127, None),
-        (1, 128, cell),
-        (24, 200, cell),
-        (25, 128, cell),
-        (904, 255, cell),
-        // the kind: another one has other fields
-        (905, 0, shape),
-        (905, 1, None),
-        (905, 3, code(905)),
-        // the routes: 0xFEFFFFFF and 0xFFFFFF00 are no pages, nor is 0x3C00000C, but 0x3B00000C is
-        (906, 0xfe, code(906)),
-        (909, 0x00, code(906)),
-        (910, 0x3c, code(910)),
-        (910, 0x3b, None),
-        (945, 0xfe, code(942)),
-        // the price and the group
-        (946, 99, None),
-        (946, 100, price),
-        (947, 255, None),
-        (948, 0, None),
-        // the number of fields
-        (949, 0, Some(FrameCodecError::Trailing)),
-        (949, 2, Some(FrameCodecError::Trailing)),
-        (949, 4, Some(FrameCodecError::Short)),
-        (949, 8, Some(FrameCodecError::Short)),
-        (949, 9, code(949)),
-        // the field of the account
-        (950, 1, range(0)),
-        (950, 23, None),
-        (950, 24, range(0)),
-        (950, 5, meet(0, 1)),
-        (951, 30, None),
-        (951, 31, range(0)),
-        (952, 0, range(0)),
-        (952, 11, shape),
-        (952, 41, range(0)),
-        (953, 1, shape),
-        (953, 2, code(953)),
-        // the field of the first text
-        (954, 3, meet(0, 1)),
-        (954, 6, meet(1, 2)),
-        (955, 1, range(1)),
-        (957, 0, shape),
-        (957, 2, code(957)),
-        // the field of the second text
-        (958, 3, meet(0, 2)),
-        (958, 5, meet(1, 2)),
-        (960, 38, None),
-        (960, 39, range(2)),
-        (961, 7, code(961)),
-    ];
     assert_eq!(rt; error_of(&spelled()), None);
-    for (at, value, wanted) in cases {
+    for (at, value, wanted) in CHANGES {
         assert_eq!(rt; changed(&[(at, value)]), wanted, "{value} at {at}");
     }
 }

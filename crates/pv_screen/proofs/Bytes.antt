@@ -4,8 +4,7 @@ use Rattle.std.specs.List.{flat_map}
 use Rattle.std.proofs.lemmas.Bool.{cases_lt, lt-ltb, le-ltb}
 use Rattle.std.proofs.lemmas.List.{length-append, length-take, length-take-le}
 use Rattle.std.proofs.lemmas.List.Elements.{All-head, All-tail, All-take, All-get_or}
-use Rattle.pv_screen.specs.Grid.{IsRow, IsGrid}
-use Rattle.pv_screen.specs.Painting.{cell_bytes, cells_bytes, shown_cells, row_bytes, line_end, line_bytes, painting_of}
+use Rattle.pv_screen.proofs.Vocabulary.{IsRow, IsGrid, cell_bytes, cells_bytes, shown_cells, row_bytes, line_end, line_bytes, painting_of}
 
 -- a cell is sent as at most two bytes
 length-cell_bytes-le : (cell : ℕ) → length (cell_bytes cell) ≤ 2

@@ -4,9 +4,7 @@ use Rattle.std.proofs.lemmas.List.{length-set}
 use Rattle.std.proofs.lemmas.List.Elements.{All-set, All-get_or}
 use Rattle.std.proofs.lemmas.Bool.Decides.{nat_tests}
 use Rattle.std.proofs.lemmas.Bool.{leb-true, and_parts, cond_both}
-use Rattle.pv_cells.specs.Row.{IsCell}
-use Rattle.pv_screen.specs.Grid.{IsGrid, IsRow}
-use Rattle.pv_screen.specs.Terminal.{Display, IsDisplay, down, up, row_start, home, forward, back, clear, with_cell, after_cell, after_first, after_second, after_byte, terminal_after}
+use Rattle.pv_screen.proofs.Vocabulary.{IsCell, IsGrid, IsRow, Display, IsDisplay, down, up, row_start, home, forward, back, clear, with_cell, after_cell, after_first, after_second, after_byte, terminal_after}
 use Rattle.pv_screen.proofs.Grids.{IsGrid-blank}
 
 -- a number that passes the test of a range is at most its end

@@ -1,8 +1,7 @@
 -- The blank grid is a grid.
 use Rattle.std.proofs.Common.{refl, lit≤, replicate}
 use Rattle.std.proofs.lemmas.List.Elements.{All-replicate}
-use Rattle.pv_cells.specs.Row.{IsCell}
-use Rattle.pv_screen.specs.Grid.{IsGrid, IsRow, blank_grid}
+use Rattle.pv_screen.proofs.Vocabulary.{IsCell, IsGrid, IsRow, blank_grid}
 
 -- forty spaces are a row
 pub IsRow-blank : IsRow (replicate 40 32)

@@ -2,8 +2,8 @@ mod Bytes
 mod Displays
 mod Facts
 mod Grids
-mod Overwriting
 mod Placing
 mod Runs
 mod Shows
 mod Spaces
+mod Vocabulary

@@ -6,13 +6,8 @@ use Rattle.std.proofs.Math.Seq.{take-append_seam}
 use Rattle.std.proofs.lemmas.List.{nil_from_length, get_or_default, take_at, drop_at, length-append, length-drop, length-take-le, take-append-drop, length-replicate}
 use Rattle.std.proofs.lemmas.List.Elements.{All-nil, All-cons, All-take, All-drop, All-append, All-replicate}
 use Rattle.std.proofs.lemmas.Fmt.{length-decimal-le, IsAscii-decimal}
-use Rattle.pv_page.specs.Names.{Name, IsName, name_text}
+use Rattle.pv_screen.proofs.Vocabulary.{Name, IsName, name_text, IsCell, Content, IsFrame, HasRanges, spaces, at_left, at_right, price_text, heading, body_rows, composed_grid, IsRow, IsGrid}
 use Rattle.pv_page.proofs.CallerLemmas.{length-name_text, bytes_of_name}
-use Rattle.pv_cells.specs.Row.{IsCell}
-use Rattle.pv_frame.specs.Content.{Content, IsFrame}
-use Rattle.pv_frame.specs.Errors.{HasRanges}
-use Rattle.pv_screen.specs.Composing.{spaces, at_left, at_right, price_text, heading, body_rows, composed_grid}
-use Rattle.pv_screen.specs.Grid.{IsRow, IsGrid}
 use Rattle.pv_screen.proofs.Grids.{IsRow-blank}
 
 -- ---- bodies

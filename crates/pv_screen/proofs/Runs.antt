@@ -3,11 +3,7 @@ use Rattle.std.proofs.Common.{◌≡◌, List, [], ◌∷◌, All, fold, ap, ◌
 use Rattle.std.specs.List.{flat_map}
 use Rattle.std.proofs.lemmas.List.Sums.{fold-append}
 use Rattle.std.proofs.lemmas.List.Elements.{All-head, All-tail}
-use Rattle.pv_screen.specs.Painting.{screen_bytes}
-use Rattle.pv_screen.specs.Showing.{IsShowable, shown_after}
-use Rattle.pv_screen.specs.Terminal.{Display, IsReady, after_byte, terminal_after}
-use Rattle.pv_screen.specs.declared.screen.Screen.{Screen}
-use Rattle.pv_screen.specs.declared.screen.Screen.TheVariants.{Whole, Row}
+use Rattle.pv_screen.proofs.Vocabulary.{screen_bytes, IsShowable, shown_after, Display, IsReady, after_byte, terminal_after, Screen, Whole, Row}
 use Rattle.pv_screen.proofs.Shows.{painted_shows, painted_ready, message_shows, message_ready}
 
 -- after the bytes of one screen the terminal shows it, or what it showed with another row 24

@@ -1,19 +1,15 @@
 -- What a terminal shows after the bytes of cells, rows and screens.
-use Rattle.std.proofs.Common.{◌≡◌, ℕ, suc, ◌+◌, ◌-◌, ◌<◌, ◌≤◌, List, [], ◌∷◌, ◌++◌, length, get_or, take, drop, set, sym, ap, subst, ◌∙◌, refl, cond, leb, eqb, ◌&&◌, Bool, false, map, replicate, reverse, All, inl, inr, lit<, arith}
+use Rattle.std.proofs.Common.{◌≡◌, ℕ, suc, ◌+◌, ◌-◌, ◌<◌, List, [], ◌∷◌, ◌++◌, length, get_or, take, drop, set, sym, ap, subst, ◌∙◌, refl, cond, leb, eqb, ◌&&◌, Bool, false, map, replicate, reverse, All, inl, inr, arith}
 use Rattle.std.specs.Prelude.{IsFalse}
 use Rattle.std.specs.List.{flat_map, suffix_len}
 use Rattle.std.proofs.Math.Nat.{add-sub_cancel}
 use Rattle.std.proofs.lemmas.Bool.{cases_lt, eqb-true, lt-ltb, le-ltb, le-leb, and_from, cond-true, cond-false, cond_both}
 use Rattle.std.proofs.lemmas.Bool.Decides.{eqb_tells, nat_tests}
-use Rattle.std.proofs.lemmas.List.{append-nil, append_assoc, length-append, take-append-drop, drop_all, take_more, take_all, length-take-le, length-set, get_or-set_same, set-set, set-get_or, set_split, set_at, get_or-drop, get_or-reverse, get_or-replicate, length-drop, length-replicate, same_lists, nil_from_length, drop-replicate}
+use Rattle.std.proofs.lemmas.List.{append-nil, append_assoc, length-append, take-append-drop, take_more, take_all, length-take-le, length-set, get_or-set_same, set-set, set-get_or, set_at, get_or-drop, get_or-reverse, get_or-replicate, length-drop, length-replicate, same_lists, replicate-append-replicate}
 use Rattle.std.proofs.lemmas.Simd.{splat_is_map}
 use Rattle.std.proofs.lemmas.List.Sums.{fold-append, suffix_len-le-length, prefix_len_passes}
 use Rattle.std.proofs.lemmas.List.Elements.{All-head, All-tail, All-take, All-get_or, All-set}
-use Rattle.pv_cells.specs.Row.{IsCell}
-use Rattle.pv_screen.specs.Grid.{IsGrid, IsRow}
-use Rattle.pv_screen.specs.Painting.{cell_bytes, cells_bytes, shown_cells, row_bytes, line_end, line_bytes, painting_of, message_text}
-use Rattle.pv_screen.specs.Terminal.{Display, IsReady, new_display, row_below, with_cell, after_cell, after_byte, terminal_after}
-use Rattle.pv_screen.proofs.Overwriting.{overwritten, overwritten-overwritten}
+use Rattle.pv_screen.proofs.Vocabulary.{IsCell, IsGrid, IsRow, cell_bytes, cells_bytes, shown_cells, row_bytes, line_end, line_bytes, painting_of, message_text, Display, IsReady, new_display, row_below, with_cell, after_cell, after_byte, terminal_after}
 use Rattle.pv_screen.proofs.Grids.{IsGrid-blank}
 use Rattle.pv_screen.proofs.Bytes.{line_end_short, line_end_full, length-shown-le}
 
@@ -60,20 +56,6 @@ cell_shown cells row column cell fits =
           ap sent (le-ltb cell 32 ordinary) ∙ cond-true (leb 32 cell && leb cell 127) (after_cell here cell) _ first
     ]
 
--- to set one cell is to write one cell over the row
-overwritten_one : (row : List ℕ) (column cell : ℕ) → column < length row → set row column cell ≡ overwritten column (cell ∷ []) row
-overwritten_one row column cell within =
-    let next : suc column ≡ column + 1 = omega arith in
-    set_split row column cell within ∙ ap (λ n. take column row ++ cell ∷ drop n row) next
-    ∙ sym (append_assoc (take column row) (cell ∷ []) (drop (column + 1) row))
-
--- no cells written over a row leave it as it is
-overwritten_none : (row : List ℕ) (column : ℕ) → overwritten column [] row ≡ row
-overwritten_none row column =
-    let same : column + 0 ≡ column = omega arith in
-    ap (λ l. l ++ drop (column + 0) row) (append-nil (take column row)) ∙ ap (λ n. take column row ++ drop n row) same
-    ∙ take-append-drop column row
-
 module _ (base : List (List ℕ)) (row : ℕ) (within : row - 1 < length base) where
   -- to set a cell of a row of the screen is to put in its place the row with that cell
   with_cell_put : (cells : List ℕ) (column cell : ℕ)
@@ -91,43 +73,34 @@ module _ (base : List (List ℕ)) (row : ℕ) (within : row - 1 < length base) w
       ap (λ c. cond (eqb column 39) (at c (row_below row) 0) (at c row (column + 1))) (with_cell_put cells column cell)
       ∙ ap (λ t. cond t (at rows (row_below row) 0) (at rows row (column + 1))) test
 
-  -- the bytes of cells that fit into the rest of a row write them from the cursor on
-  cells_shown : (cells old : List ℕ) (column : ℕ) → All IsCell cells → length old ≡ 40 → column < 40 → column + length cells ≤ 40
-      → terminal_after (at (set base (row - 1) old) row column) (cells_bytes cells) ≡ behind
-      (set base (row - 1) (overwritten column cells old)) row (column + length cells)
-  cells_shown [] old column fits width start room =
-      let same : column + 0 ≡ column = omega arith in
-      sym (
-      ap (λ l. behind (set base (row - 1) l) row (column + 0)) (overwritten_none old column)
-      ∙ ap (behind (set base (row - 1) old) row) same
-      ∙ behind_inside (set base (row - 1) old) row column start
-      )
-  cells_shown (cell ∷ cells) old column fits width start room =
-      let changed = set old column cell in
-      let first =
-      fold-append after_byte (at (set base (row - 1) old) row column) (cell_bytes cell) (cells_bytes cells)
-      ∙ ap (λ (d : Display). terminal_after d (cells_bytes cells))
-      (cell_shown (set base (row - 1) old) row column cell (All-head IsCell cell cells fits) ∙ written_put old column cell)
-      in
-      let one = overwritten_one old column cell (omega arith) in
-      elim (cases_lt (column + 1) 40) [
-        | inl more ↦
-            let both = ap (overwritten (column + 1) cells) one
-            ∙ overwritten-overwritten old column (cell ∷ []) cells (column + 1) refl (omega arith) in
-            let far : column + 1 + length cells ≡ column + suc (length cells) = omega arith in
-            first
-            ∙ ap (λ (d : Display). terminal_after d (cells_bytes cells)) (behind_inside (set base (row - 1) changed) row (column + 1) more)
-            ∙ cells_shown cells changed (column + 1) (All-tail IsCell cell cells fits) (length-set old column cell
-            ∙ width) more (omega arith)
-            ∙ ap (λ l. behind (set base (row - 1) l) row (column + 1 + length cells)) both
-            ∙ ap (behind (set base (row - 1) (overwritten column (cell ∷ cells) old)) row) far
-        | inr end ↦
-            let none = nil_from_length cells (omega arith) in
-            let Shown : List ℕ
-            → Type 0 = λ l. terminal_after (behind (set base (row - 1) changed) row (column + 1)) (cells_bytes l) ≡ behind
-            (set base (row - 1) (overwritten column (cell ∷ l) old)) row (column + suc (length l)) in
-            first ∙ subst Shown (sym none) (ap (λ l. behind (set base (row - 1) l) row (column + 1)) one)
-      ]
+  -- the bytes of cells, taken where as many others stand, put them in the place of those
+  cells_shown : (cells olds before after : List ℕ) → All IsCell cells → length olds ≡ length cells
+      → length before + length cells + length after ≡ 40
+      → terminal_after (behind (set base (row - 1) (before ++ (olds ++ after))) row (length before)) (cells_bytes cells)
+      ≡ behind (set base (row - 1) (before ++ (cells ++ after))) row (length before + length cells)
+  cells_shown [] [] before after fits same width =
+      let column : length before ≡ length before + 0 = omega arith in
+      ap (behind (set base (row - 1) (before ++ after)) row) column
+  cells_shown [] (old ∷ olds) before after fits same width = absurd (omega (arith, same))
+  cells_shown (cell ∷ cells) [] before after fits same width = absurd (omega (arith, same))
+  cells_shown (cell ∷ cells) (old ∷ olds) before after fits same width =
+      let line = before ++ (old ∷ (olds ++ after)) in
+      let next = before ++ cell ∷ [] in
+      let here : length before < 40 = omega (arith, width) in
+      let column : length before + 1 ≡ length next = omega (arith, length-append before (cell ∷ [])) in
+      let changed : set line (length before) cell ≡ next ++ (olds ++ after) =
+      set_at before old (olds ++ after) cell (length before) refl ∙ sym (append_assoc before (cell ∷ []) (olds ++ after)) in
+      let more : length next + length cells ≡ length before + suc (length cells) = omega arith in
+      let bytes = cells_bytes cells in
+      ap (λ (d : Display). terminal_after d (cells_bytes (cell ∷ cells))) (behind_inside (set base (row - 1) line) row (length before) here)
+      ∙ fold-append after_byte (at (set base (row - 1) line) row (length before)) (cell_bytes cell) bytes
+      ∙ ap (λ (d : Display). terminal_after d bytes)
+      (cell_shown (set base (row - 1) line) row (length before) cell (All-head IsCell cell cells fits)
+      ∙ written_put line (length before) cell
+      ∙ (λ i. behind (set base (row - 1) (changed i)) row (column i)))
+      ∙ cells_shown cells olds next after (All-tail IsCell cell cells fits) (omega (arith, same)) (omega (arith, width, column))
+      ∙ ap (λ l. behind (set base (row - 1) l) row (length next + length cells)) (append_assoc before (cell ∷ []) (cells ++ after))
+      ∙ ap (behind (set base (row - 1) (before ++ (cell ∷ (cells ++ after)))) row) more
 
 -- a row of spaces
 abbrev blank_row : List ℕ
@@ -155,19 +128,15 @@ spaces_after row =
     ∙ eqb-true (get_or (reverse row) (count - 1 - k) d) 32 (prefix_len_passes is_space (reverse row) (count - 1 - k) d back)
     ∙ sym (get_or-replicate count k 32 d space))
 
--- what is shown of a row, over a row of spaces, is the row
-shown_over_spaces : (row : List ℕ) → length row ≡ 40 → overwritten 0 (shown_cells row) blank_row ≡ row
-shown_over_spaces row width =
+-- what is shown of a row, and spaces up to the last column, are the row
+shown_and_spaces : (row : List ℕ) → length row ≡ 40 → shown_cells row ++ replicate (40 - length (shown_cells row)) 32 ≡ row
+shown_and_spaces row width =
     let count = suffix_len is_space row in
     let some = suffix_len-le-length is_space row in
-    let end = length row - count in
-    let long : length (shown_cells row) ≡ end = length-take-le end row (omega arith) in
-    let left : 40 - (0 + length (shown_cells row)) ≡ count = omega arith in
-    let rest : drop (0 + length (shown_cells row)) blank_row ≡ drop end row =
-    drop-replicate (0 + length (shown_cells row)) 40 32 ∙ ap (λ n. replicate n 32) left ∙ sym (spaces_after row)
-    in
-    let whole : shown_cells row ++ drop end row ≡ row = take-append-drop end row in
-    ◌∙◌ {b = shown_cells row ++ drop end row} (ap (λ l. shown_cells row ++ l) rest) whole
+    let left : 40 - length (shown_cells row) ≡ count = omega (arith, length-take-le (length row - count) row (omega arith)) in
+    ap (λ n. shown_cells row ++ replicate n 32) left
+    ∙ ap (λ rest. shown_cells row ++ rest) (sym (spaces_after row))
+    ∙ take-append-drop (length row - count) row
 
 -- what is shown of a row is cells
 fits_shown : (row : List ℕ) → IsRow row → All IsCell (shown_cells row)
@@ -179,9 +148,16 @@ module _ (base : List (List ℕ)) (row : ℕ) (within : row - 1 < length base) w
       → terminal_after (at (set base (row - 1) blank_row) row 0) (row_bytes cells) ≡ behind (set base (row - 1) cells) row
       (0 + length (shown_cells cells))
   row_shown cells is =
-      cells_shown base row within (shown_cells cells) blank_row 0 (fits_shown cells is) refl (lit< tt)
-      (omega (arith, length-shown-le cells, is.width))
-      ∙ ap (λ l. behind (set base (row - 1) l) row (0 + length (shown_cells cells))) (shown_over_spaces cells is.width)
+      let shown = shown_cells cells in
+      let few = length-shown-le cells in
+      let rest : List ℕ = replicate (40 - length shown) 32 in
+      let all : length shown + (40 - length shown) ≡ 40 = omega (arith, is.width) in
+      let blank : blank_row ≡ replicate (length shown) 32 ++ rest =
+      sym (replicate-append-replicate (length shown) (40 - length shown) 32 ∙ ap (λ n. replicate n 32) all) in
+      ap (λ l. terminal_after (at (set base (row - 1) l) row 0) (row_bytes cells)) blank
+      ∙ cells_shown base row within shown (replicate (length shown) 32) [] rest (fits_shown cells is) (length-replicate {A = ℕ} _ 32)
+      (omega (arith, is.width, length-replicate {A = ℕ} (40 - length shown) 32))
+      ∙ ap (λ l. behind (set base (row - 1) l) row (0 + length shown)) (shown_and_spaces cells is.width)
 
   -- so do the bytes of its line, and they leave the cursor at the start of the next row
   line_shown : (cells : List ℕ) → IsRow cells → row < 24
@@ -288,12 +264,12 @@ message_shown cells d is grid first =
     let old = get_or rows 23 [] in
     let within : 24 - 1 < length rows = omega (arith, grid.height) in
     let was : IsRow old = All-get_or IsRow rows 23 [] within grid.rows in
-    let all : overwritten 0 cells old ≡ cells =
-    ap (λ l. cells ++ l) (drop_all (0 + length cells) old (omega (arith, was.width, is.width))) ∙ append-nil cells in
+    let none : (l : List ℕ) → l ++ [] ≡ l = append-nil in
     ap (λ (e : Display). terminal_after e (message_text cells)) (ready d first)
     ∙ ap (λ l. terminal_after (at l 24 0) (cells_bytes cells)) (sym (set-get_or rows 23 []))
-    ∙ cells_shown rows 24 within cells old 0 is.seven_bits was.width (lit< tt) (omega (arith, is.width))
-    ∙ ap (λ l. behind (set rows 23 l) 24 (0 + length cells)) all
+    ∙ ap (λ l. terminal_after (at (set rows 23 l) 24 0) (cells_bytes cells)) (sym (none old))
+    ∙ cells_shown rows 24 within cells old [] [] is.seven_bits (was.width ∙ sym is.width) (omega (arith, is.width))
+    ∙ ap (λ l. behind (set rows 23 l) 24 (0 + length cells)) (none cells)
 
 -- a grid with another last row is a grid
 IsGrid-last_row : (rows : List (List ℕ)) (cells : List ℕ) → IsGrid rows → IsRow cells → IsGrid (set rows 23 cells)

@@ -1,10 +1,10 @@
-ghost use Rattle.std.specs.Prelude.{◌≡◌, ℕ, ◌+◌, ◌-◌, ◌*◌, ◌<◌, ◌≤◌, List, ◌++◌, All, IsTrue, IsFalse, length, take, drop, slice_set, slice_index};
+ghost use Rattle.std.specs.Prelude.{◌≡◌, ℕ, ◌+◌, ◌-◌, ◌*◌, ◌≤◌, List, ◌++◌, All, IsFalse, length, take, drop, slice_set};
 ghost use Rattle.std.specs.List.{flat_map, list_all};
 ghost use Rattle.pv_cells.specs.Row.{IsCell};
 ghost use Rattle.pv_fields.specs.Out.{Appends, room_of};
 ghost use Rattle.pv_screen.specs.Grid.{IsGrid, IsRow};
 ghost use Rattle.pv_screen.specs.Terminal.{Display, IsReady, terminal_after};
-ghost use Rattle.pv_screen.specs.Painting.{painting_of, message_text, cells_bytes, is_ordinary, is_space, shown_cells, line_bytes};
+ghost use Rattle.pv_screen.specs.Painting.{painting_of, message_text, cell_bytes, cells_bytes, is_ordinary, is_space, shown_cells, line_bytes};
 
 use crate::codes::{ATTRIBUTES, CLEAR, DOWN, ESCAPE, HOME, RETURN, SPACE, UP};
 use crate::grid::{COLUMNS, Grid, ROWS};
@@ -127,38 +127,52 @@ fn are_spaces(cells: &[u8]) -> bool
     spaces
 }
 
-/// Appends cells: each run without an attribute at once.
+/// Appends cells, eight at a time.
 fn put_cells(cells: &[u8], out: &mut Out)
     requires { 2 * length cells.now ≤ room_of out.old }
     ensures { Appends out.old out.new (cells_bytes cells.now) }
 {
     let mut at = 0;
     while at < cells.len() {
-        let end = next_attribute(cells, at);
-        out.put_run(&cells[at..end]);
-        if end < cells.len() {
-            out.put_run(&[ESCAPE, cells[end] + ATTRIBUTES]);
-        }
-        at = end + 1;
+        let end = cells.len().min(at + 8);
+        put_part(&cells[at..end], out);
+        at = end;
     }
 }
 
-/// The index of the first attribute from an index on, or the number of cells.
-fn next_attribute(cells: &[u8], from: usize) -> usize
-    requires { from ≤ length cells.now }
-    ensures from { from ≤ result }
-    ensures to { result ≤ length cells.now }
-    ensures passed { (k : ℕ) → from ≤ k → k < result → IsTrue (is_ordinary (slice_index cells.now k)) }
-    ensures found { result < length cells.now → IsFalse (is_ordinary (slice_index cells.now result)) }
+/// Appends cells: at once if none of them is an attribute, and else one by one.
+fn put_part(cells: &[u8], out: &mut Out)
+    requires { 2 * length cells.now ≤ room_of out.old }
+    ensures { Appends out.old out.new (cells_bytes cells.now) }
 {
-    let mut at = from;
-    while at + 8 <= cells.len() && are_ordinary(&cells[at..at + 8]) {
-        at += 8;
+    if are_ordinary(cells) {
+        out.put_run(cells);
+    } else {
+        put_each(cells, out);
     }
-    while at < cells.len() && cells[at] >= SPACE {
-        at += 1;
+}
+
+/// Appends cells one by one.
+fn put_each(cells: &[u8], out: &mut Out)
+    requires { 2 * length cells.now ≤ room_of out.old }
+    ensures { Appends out.old out.new (cells_bytes cells.now) }
+{
+    for cell in cells {
+        put_cell(*cell, out);
     }
-    at
+}
+
+/// Appends a cell.
+fn put_cell(cell: u8, out: &mut Out)
+    requires { 2 ≤ room_of out.old }
+    ensures { Appends out.old out.new (cell_bytes cell) }
+{
+    if cell < SPACE {
+        out.put_u8(ESCAPE);
+        out.put_u8(cell + ATTRIBUTES);
+    } else {
+        out.put_u8(cell);
+    }
 }
 
 /// Whether no cell is an attribute.

@@ -1,7 +1,6 @@
 use Rattle.std.proofs.Common.{take}
 use Rattle.std.specs.Prelude.{flat_map}
-use Rattle.pv_fields.specs.Out.{Appends}
-use Rattle.pv_frame.specs.Codes.{field_bytes}
+use Rattle.pv_frame.proofs.Vocabulary.{Appends, field_bytes}
 use Rattle.pv_frame.proofs.frame.put_fields.Given as goal
 
 -- the fields so far are appended

@@ -1,7 +1,6 @@
 use Rattle.std.proofs.Common.{take}
 use Rattle.std.specs.Prelude.{flat_map}
-use Rattle.pv_fields.specs.Out.{Appends}
-use Rattle.pv_frame.specs.Codes.{route_bytes}
+use Rattle.pv_frame.proofs.Vocabulary.{Appends, route_bytes}
 use Rattle.pv_frame.proofs.frame.put_routes.Given as goal
 
 -- the routes so far are appended

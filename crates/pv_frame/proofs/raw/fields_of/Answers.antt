@@ -1,15 +1,8 @@
-use Rattle.std.proofs.Common.{◌<◌, ◌∷◌, ◌++◌, [], length, get_or, map, take, refl, arith, ap, sym, ◌∙◌}
-use Rattle.std.proofs.lemmas.List.{take_all, take_more, map-append}
-use Rattle.pv_fields.proofs.CallerLemmas.{IsPadded-set, IsPadded-none, take-set, padded_list-take}
-use Rattle.pv_fields.specs.Padded.{padded_list}
-use Rattle.pv_frame.specs.declared.field.Field.{Field}
-use Rattle.pv_frame.specs.declared.layout.TheConstants.{FIELDS}
-use Rattle.pv_frame.specs.Codes.{field_of}
-use Rattle.pv_frame.specs.Memory.{no_field}
+use Rattle.std.proofs.Common.{◌<◌, ◌∷◌, ◌++◌, [], length, get_or, map, take, arith, ap, sym, ◌∙◌}
+use Rattle.std.proofs.lemmas.List.{take_more, map-append}
+use Rattle.pv_fields.proofs.CallerLemmas.{IsPadded-set, take-set}
+use Rattle.pv_frame.proofs.Vocabulary.{Field, FIELDS, field_of, no_field}
 use Rattle.pv_frame.proofs.raw.fields_of.Goals as goal
-
-pub loop-i-init : goal.loop-i-init
-loop-i-init c = record { places = IsPadded-none no_field FIELDS; read = refl }
 
 pub loop-i-preserved : goal.loop-i-preserved
 loop-i-preserved c =
@@ -25,11 +18,3 @@ loop-i-preserved c =
           ∙ map-append field_of (take i chunks) (get_or chunks i [] ∷ [])
           ∙ ap (λ (f : Field). map field_of (take i chunks) ++ f ∷ []) (sym c.field_of.ensures));
     }
-
-pub returns : goal.returns
-returns c =
-    let i = c.loop-i.i in
-    let chunks = c.as_chunks.result.0.now in
-    sym (padded_list-take no_field FIELDS i c.loop-i.fields c.loop-i.invariant.places)
-    ∙ ap (padded_list no_field FIELDS) (c.loop-i.invariant.read
-    ∙ ap (map field_of) (take_all i chunks (omega (arith, c.loop-i-test.false)) ∙ c.as_chunks.ensures.front))

@@ -1,8 +1,5 @@
 use Rattle.std.proofs.Common.{◌≡◌, map, take}
-use Rattle.pv_fields.specs.Padded.{IsPadded}
-use Rattle.pv_frame.specs.declared.layout.TheConstants.{FIELDS}
-use Rattle.pv_frame.specs.Codes.{field_of}
-use Rattle.pv_frame.specs.Memory.{no_field}
+use Rattle.pv_frame.proofs.Vocabulary.{IsPadded, FIELDS, field_of, no_field}
 use Rattle.pv_frame.proofs.raw.fields_of.Given as goal
 
 -- the fields so far are read, and the other places are empty

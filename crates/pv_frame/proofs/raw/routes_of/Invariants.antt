@@ -1,6 +1,5 @@
 use Rattle.std.proofs.Common.{◌≡◌, ℕ, ◌<◌, [], length, get_or, None}
-use Rattle.pv_frame.specs.declared.layout.TheConstants.{ROUTES}
-use Rattle.pv_frame.specs.Codes.{route_of}
+use Rattle.pv_frame.proofs.Vocabulary.{ROUTES, route_of}
 use Rattle.pv_frame.proofs.raw.routes_of.Given as goal
 
 -- the routes so far are read

@@ -1,10 +1,7 @@
 use Rattle.std.proofs.Common.{◌≡◌, ◌-◌, [], ◌∷◌, ◌++◌, length, get_or, take, drop, ap, subst, ◌∙◌}
 use Rattle.std.specs.Prelude.{slice_range}
 use Rattle.std.specs.List.{concat}
-use Rattle.pv_page.specs.Names.{name_text}
-use Rattle.pv_frame.specs.Content.{Content, IsFrame}
-use Rattle.pv_screen.specs.Composing.{body_rows, composed_grid, heading, price_text, spaces}
-use Rattle.pv_screen.specs.Grid.{IsRow}
+use Rattle.pv_screen.proofs.Vocabulary.{name_text, Content, IsFrame, body_rows, composed_grid, heading, price_text, spaces, IsRow}
 use Rattle.pv_screen.proofs.Placing.{title_stands, name_stands, price_stands, body_stands}
 use Rattle.pv_screen.proofs.composing.compose.Goals as goal
 use Rattle.pv_screen.proofs.composing.compose.Goals.{After-of_parts}

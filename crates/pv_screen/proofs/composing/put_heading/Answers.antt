@@ -1,11 +1,8 @@
 use Rattle.std.proofs.Common.{◌≡◌, ◌++◌, length, drop, ap, subst, sym, ◌∙◌, arith}
 use Rattle.std.proofs.lemmas.List.{append-nil, drop_all}
 use Rattle.pv_fields.proofs.CallerLemmas.{appends_then, slice_after, length-padded_list}
-use Rattle.pv_page.specs.Names.{name_text}
+use Rattle.pv_screen.proofs.Vocabulary.{name_text, Content, IsFrame, heading, at_left, at_right, price_text, spaces, IsRow}
 use Rattle.pv_page.proofs.CallerLemmas.{length-name_text}
-use Rattle.pv_frame.specs.Content.{Content, IsFrame}
-use Rattle.pv_screen.specs.Composing.{heading, at_left, at_right, price_text, spaces}
-use Rattle.pv_screen.specs.Grid.{IsRow}
 use Rattle.pv_screen.proofs.Placing.{heading_is_row}
 use Rattle.pv_screen.proofs.composing.put_heading.Goals as goal
 use Rattle.pv_screen.proofs.composing.put_heading.Goals.{After-put_price}

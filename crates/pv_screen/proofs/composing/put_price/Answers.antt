@@ -1,9 +1,8 @@
 use Rattle.std.proofs.Common.{ℕ, ◌≡◌, ◌≤◌, ◌-◌, ◌++◌, ◌∷◌, [], length, decimal, ap, subst, sym, ◌∙◌, lit<, arith}
 use Rattle.std.proofs.lemmas.Fmt.{length-decimal-le}
 use Rattle.std.proofs.lemmas.List.{length-append, length-replicate}
-use Rattle.pv_fields.specs.Out.{Appends}
+use Rattle.pv_screen.proofs.Vocabulary.{Appends, spaces, price_text}
 use Rattle.pv_fields.proofs.CallerLemmas.{appends_then}
-use Rattle.pv_screen.specs.Composing.{spaces, price_text}
 use Rattle.pv_screen.proofs.Placing.{price_text_of}
 use Rattle.pv_screen.proofs.composing.put_price.Goals as goal
 use Rattle.pv_screen.proofs.composing.put_price.Goals.{After-as_bytes-digits}

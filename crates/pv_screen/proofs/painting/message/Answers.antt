@@ -1,8 +1,7 @@
 use Rattle.std.proofs.Common.{◌≡◌, ◌++◌, length, take, ap, subst, sym, ◌∙◌, arith}
 use Rattle.std.proofs.lemmas.List.{take_at}
 use Rattle.pv_fields.proofs.CallerLemmas.{appends_then, slice_after}
-use Rattle.pv_screen.specs.Painting.{painting_of, message_text}
-use Rattle.pv_screen.specs.Terminal.{IsReady, terminal_after}
+use Rattle.pv_screen.proofs.Vocabulary.{painting_of, message_text, IsReady, terminal_after}
 use Rattle.pv_screen.proofs.Bytes.{length-cells_bytes-le}
 use Rattle.pv_screen.proofs.Shows.{message_shows, message_ready, message_after_painted}
 use Rattle.pv_screen.proofs.painting.message.Goals as goal

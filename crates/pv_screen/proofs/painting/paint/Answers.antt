@@ -1,8 +1,7 @@
 use Rattle.std.proofs.Common.{◌≡◌, length, take, ap, subst, sym, ◌∙◌, arith}
 use Rattle.std.proofs.lemmas.List.{take_at}
 use Rattle.pv_fields.proofs.CallerLemmas.{slice_after}
-use Rattle.pv_screen.specs.Painting.{painting_of}
-use Rattle.pv_screen.specs.Terminal.{IsReady, terminal_after}
+use Rattle.pv_screen.proofs.Vocabulary.{painting_of, IsReady, terminal_after}
 use Rattle.pv_screen.proofs.Bytes.{length-painting-le}
 use Rattle.pv_screen.proofs.Shows.{painted_shows, painted_ready}
 use Rattle.pv_screen.proofs.painting.paint.Goals as goal

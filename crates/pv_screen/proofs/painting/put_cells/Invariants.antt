@@ -1,6 +1,5 @@
 use Rattle.std.proofs.Common.{◌-◌, take, length}
-use Rattle.pv_fields.specs.Out.{Appends}
-use Rattle.pv_screen.specs.Painting.{cells_bytes}
+use Rattle.pv_screen.proofs.Vocabulary.{Appends, cells_bytes}
 use Rattle.pv_screen.proofs.painting.put_cells.Given as goal
 
 -- the cells so far are appended

@@ -1,7 +1,6 @@
 use Rattle.std.proofs.Common.{◌<◌, ◌++◌, length, ap, subst, sym, arith}
-use Rattle.pv_fields.specs.Out.{Appends}
+use Rattle.pv_screen.proofs.Vocabulary.{Appends, shown_cells, row_bytes}
 use Rattle.pv_fields.proofs.CallerLemmas.{appends_then}
-use Rattle.pv_screen.specs.Painting.{shown_cells, row_bytes}
 use Rattle.pv_screen.proofs.Bytes.{length-cells_bytes-le, line_end_short}
 use Rattle.pv_screen.proofs.painting.put_line.Goals as goal
 

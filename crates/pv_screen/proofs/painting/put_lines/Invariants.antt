@@ -1,7 +1,6 @@
 use Rattle.std.proofs.Common.{take}
 use Rattle.std.specs.List.{flat_map}
-use Rattle.pv_fields.specs.Out.{Appends}
-use Rattle.pv_screen.specs.Painting.{line_bytes}
+use Rattle.pv_screen.proofs.Vocabulary.{Appends, line_bytes}
 use Rattle.pv_screen.proofs.painting.put_lines.Given as goal
 
 -- the rows so far are appended

@@ -2,10 +2,8 @@ use Rattle.std.proofs.Common.{◌∷◌, ◌++◌, [], length, get_or, take, ap,
 use Rattle.std.specs.List.{flat_map}
 use Rattle.std.proofs.lemmas.List.{length-take-le}
 use Rattle.std.proofs.lemmas.List.Elements.{All-take, All-get_or}
-use Rattle.pv_fields.specs.Out.{Appends}
+use Rattle.pv_screen.proofs.Vocabulary.{Appends, IsRow, line_bytes, row_bytes, shown_cells}
 use Rattle.pv_fields.proofs.CallerLemmas.{appends_then}
-use Rattle.pv_screen.specs.Grid.{IsRow}
-use Rattle.pv_screen.specs.Painting.{line_bytes, row_bytes, shown_cells}
 use Rattle.pv_screen.proofs.Bytes.{length-lines-le, length-shown-le}
 use Rattle.pv_screen.proofs.painting.put_screen.Goals as goal
 

@@ -1,4 +1,4 @@
-use Rattle.std.proofs.Common.{◌≡◌, ◌+◌, ◌-◌, ap, lit≤, sym, arith, ◌∙◌}
+use Rattle.std.proofs.Common.{◌+◌, ◌-◌, ap, lit≤, sym, arith, ◌∙◌}
 use Rattle.std.specs.List.{suffix_len}
 use Rattle.std.proofs.lemmas.Bool.{eqb-true}
 use Rattle.std.proofs.lemmas.List.{take_all}

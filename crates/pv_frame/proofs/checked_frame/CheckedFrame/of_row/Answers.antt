@@ -1,6 +1,5 @@
 use Rattle.std.proofs.Common.{◌≡◌, ◌++◌, drop, ap, subst, sym, ◌∙◌}
-use Rattle.pv_frame.specs.Content.{Content, frame_of_row}
-use Rattle.pv_frame.specs.Errors.{IsValid}
+use Rattle.pv_frame.proofs.Vocabulary.{Content, frame_of_row, IsValid}
 use Rattle.pv_frame.proofs.Rows.{row_written, IsValid-frame_of_row}
 use Rattle.pv_frame.proofs.checked_frame.CheckedFrame.of_row.Goals as goal
 use Rattle.pv_frame.proofs.checked_frame.CheckedFrame.of_row.Goals.{After-set_row}

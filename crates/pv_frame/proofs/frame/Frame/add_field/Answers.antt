@@ -1,9 +1,6 @@
 use Rattle.std.proofs.Common.{ℕ, ◌+◌, ◌<◌, length, set, sym, ap, subst, arith}
-use Rattle.pv_fields.specs.Padded.{IsPadded}
+use Rattle.pv_frame.proofs.Vocabulary.{IsPadded, Content, no_field, FIELDS}
 use Rattle.pv_fields.proofs.CallerLemmas.{length-items, IsPadded-set}
-use Rattle.pv_frame.specs.Content.{Content}
-use Rattle.pv_frame.specs.Memory.{no_field}
-use Rattle.pv_frame.specs.declared.layout.TheConstants.{FIELDS}
 use Rattle.pv_frame.proofs.frame.Frame.add_field.Goals as goal
 
 -- the places after the new field are empty

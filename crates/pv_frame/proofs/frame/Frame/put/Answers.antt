@@ -1,13 +1,9 @@
 use Rattle.std.proofs.Common.{◌≡◌, ◌≤◌, [], ◌∷◌, ◌++◌, length, take, subst, sym, ap, rules, arith, ◌∙◌}
 use Rattle.std.proofs.lemmas.List.{append-nil}
 use Rattle.std.specs.Prelude.{flat_map}
-use Rattle.pv_fields.specs.Out.{Appends}
+use Rattle.pv_frame.proofs.Vocabulary.{Appends, kind_code, field_bytes, Content, no_field, FIELDS}
 use Rattle.pv_fields.proofs.CallerLemmas.{appends_then, length-items}
-use Rattle.pv_frame.specs.Codes.{kind_code, field_bytes}
-use Rattle.pv_frame.specs.Content.{Content}
-use Rattle.pv_frame.specs.Memory.{no_field}
-use Rattle.pv_frame.specs.declared.layout.TheConstants.{FIELDS}
-use Rattle.pv_frame.proofs.Ranges.{HasRanges-valid}
+use Rattle.pv_frame.proofs.Meaning.{HasRanges-valid}
 use Rattle.pv_frame.proofs.frame.Frame.put.Goals as goal
 
 pub overflow_cast-self-inside : goal.overflow_cast-self-inside

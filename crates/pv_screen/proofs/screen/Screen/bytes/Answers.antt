@@ -1,7 +1,5 @@
 use Rattle.std.proofs.Common.{refl, subst, sym}
-use Rattle.pv_screen.specs.Grid.{IsGrid, blank_grid}
-use Rattle.pv_screen.specs.Showing.{HasCells, IsShowable}
-use Rattle.pv_screen.specs.Terminal.{new_display}
+use Rattle.pv_screen.proofs.Vocabulary.{IsGrid, blank_grid, HasCells, IsShowable, new_display}
 use Rattle.pv_screen.proofs.Shows.{IsReady-new, IsRow-last}
 use Rattle.pv_screen.proofs.screen.Screen.bytes.Goals as goal
 

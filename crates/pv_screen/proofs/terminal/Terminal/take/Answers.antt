@@ -1,6 +1,5 @@
 use Rattle.std.proofs.Common.{subst, sym}
-use Rattle.pv_screen.specs.Grid.{IsGrid}
-use Rattle.pv_screen.specs.Terminal.{IsDisplay, Display}
+use Rattle.pv_screen.proofs.Vocabulary.{IsGrid, IsDisplay, Display}
 use Rattle.pv_screen.proofs.Displays.{IsDisplay-first}
 use Rattle.pv_screen.proofs.terminal.Terminal.take.Goals as goal
 
