@@ -35,11 +35,6 @@ behind_written gate body bytes text is closed =
       next = (omega (arith, long, size), λ e. omega (arith, last, e));
     }
 
--- a write after a closed gate, if it fails, leaves a gate after which a body may be in hand
-pub kept_by_torn : (gate size n : ℕ) (old new : List ℕ) → HasClosedGate gate old → Torn (gate + 1) n old new → MayHaveBody gate size new
-kept_by_torn gate size n old new closed torn =
-    (omega (arith, closed.0, torn.no_shorter), λ e. absurd (closed.1 (sym (torn.outside gate closed.0 (inl (omega arith))) ∙ e)))
-
 -- a write at the gate, if it fails, leaves a gate after which the body may be in hand
 pub behind_torn : (gate size : ℕ) (old new : List ℕ) → IsBehind gate size old → Torn gate 1 old new → MayHaveBody gate size new
 behind_torn gate size old new behind torn = (

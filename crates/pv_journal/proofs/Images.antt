@@ -11,11 +11,6 @@ pub on_err : {T E P : Type 0} (r : Result T E) → P → OnErr r P
 on_err (Ok x) p = tt
 on_err (Err e) p = p
 
--- what holds where a call succeeded holds after a success
-pub if_ok : {T E P : Type 0} (r : Result T E) → (IsOk r → P) → OnOk r P
-if_ok (Ok x) p = p refl
-if_ok (Err e) p = tt
-
 -- what two facts after a success give
 pub on_ok_both : {T E P Q R : Type 0} (r : Result T E) → (P → Q → R) → OnOk r P → OnOk r Q → OnOk r R
 on_ok_both (Ok x) both p q = both p q

@@ -42,10 +42,3 @@ module _ (at : ℕ) (bytes text : List ℕ) (within : at ≤ length text) where
 -- an image is itself, torn or not
 pub torn_none : (at n : ℕ) (image : List ℕ) → Torn at n image image
 torn_none at n image = record { no_shorter = omega arith; outside = λ i h out. refl }
-
--- what is torn twice in one range is torn in it
-pub torn_then : (at n : ℕ) (a b c : List ℕ) → Torn at n a b → Torn at n b c → Torn at n a c
-torn_then at n a b c first second = record {
-  no_shorter = omega (arith, first.no_shorter, second.no_shorter);
-  outside = λ i h out. second.outside i (omega (arith, first.no_shorter)) out ∙ first.outside i h out;
-}
