@@ -1,24 +1,16 @@
 -- What each image of a disk spells, over each call of the disk that an append makes, and what both writes make of its text.
-use Rattle.std.proofs.Common.{◌≡◌, ℕ, ◌+◌, ◌<◌, List, [], ◌∷◌, ◌++◌, length, take, drop, Option, Some, None, IfSome, Result, refl, sym, ◌∙◌, ap, subst, arith, append_assoc}
+use Rattle.std.proofs.Common.{◌≡◌, ℕ, ◌+◌, ◌<◌, List, [], ◌∷◌, ◌++◌, length, take, drop, Option, Some, None, IfSome, refl, sym, ◌∙◌, ap, subst, arith, append_assoc}
 use Rattle.std.proofs.lemmas.List.{length-take-le, take-append-le, take-take, drop_at}
 use Rattle.std.specs.Option.{option_map}
 use Rattle.pv_outside.specs.Disk.{text_after_write}
-use Rattle.pv_outside.specs.Calls.{WritesAt}
 use Rattle.pv_outside.specs.declared.reports.Reports as reports
-use Rattle.pv_journal.specs.Text.{IsBody, block, HasClosedGate, text_of, Spells, SpellsEither, bytes_after_gate}
+use Rattle.pv_journal.specs.Text.{IsBody, block, HasClosedGate, text_of, Spells, bytes_after_gate}
 use Rattle.pv_journal.specs.Journal.{EachImage}
-use Rattle.pv_journal.proofs.Crash.{torn_behind, staged, torn_gate, stored, IsStaged}
-use Rattle.pv_journal.proofs.Images.{if_map, text_of_each, each_written}
+use Rattle.pv_journal.proofs.Crash.{staged, stored, IsStaged}
+use Rattle.pv_journal.proofs.Images.{if_map, text_of_each}
 
 module _ {D : Type 0} (g : reports.Ghosts D) (left : (d : D) → IfSome (g.reads d) (g.may_leave d)) (bodies : List (List ℕ)) (body : List ℕ)
     (gate : ℕ) (is : gate ≡ length (text_of bodies)) (old new : D) where
-  -- bodies that each image spelled, each still spells after a write after the closed gate, whatever it returns
-  pub behind : {T E : Type 0} (r : Result T E) (bytes : List ℕ) → WritesAt g (gate + 1) bytes old new r
-      → EachImage g old (λ image. Spells image bodies) → EachImage g new (λ image. Spells image bodies)
-  behind r bytes writes each =
-      each_written g old new r (gate + 1) bytes (λ image. Spells image bodies) (λ image. Spells image bodies)
-      (λ d c spells torn. torn_behind bodies (gate + 1) (length bytes) d c (ap (λ (k : ℕ). k + 1) is) spells torn) writes each
-
   -- once the write after the gate has succeeded, the disk reads as these bodies with the further one whole after the closed gate
   pub behind_text : (bytes : List ℕ) → bytes ≡ bytes_after_gate body
       → g.reads new ≡ option_map (text_after_write (gate + 1) bytes) (g.reads old)
@@ -29,13 +21,6 @@ module _ {D : Type 0} (g : reports.Ghosts D) (left : (d : D) → IfSome (g.reads
       written (text_of_each g old (λ image. Spells image bodies) (left old) each)
 
   module _ (sized : IsBody body) where
-    -- if each image has the body whole after the closed gate, a write at the gate, whatever it returns, leaves each with
-    -- the body or without it
-    pub at_gate : {T E : Type 0} (r : Result T E) (byte : ℕ) → WritesAt g gate (byte ∷ []) old new r
-        → EachImage g old (IsStaged bodies body) → EachImage g new (SpellsEither bodies (body ∷ []))
-    at_gate r byte writes each =
-        each_written g old new r gate (byte ∷ []) (IsStaged bodies body) (SpellsEither bodies (body ∷ [])) (λ d c staged torn. torn_gate bodies gate body d c is sized staged torn) writes each
-
     -- once the write at the gate has succeeded, the disk reads as the longer list
     pub gate_text : g.reads new ≡ option_map (text_after_write gate (1 ∷ [])) (g.reads old) → EachImage g old (IsStaged bodies body)
         → IfSome (g.reads new) (λ text. Spells text (bodies ++ body ∷ []))

@@ -85,6 +85,17 @@ module _ {D : Type 0} (g : reports.Ghosts D) where
         (two.0, two.1, omega (arith, one.2, two.2));
   }
 
+  -- no call is made by none
+  pub made_none : {n : ℕ} (d : D) → n ≤ 0 → HasMade g n d d
+  made_none d none = record { clock = omega (arith, none); left = λ k has. (k, has, omega (arith, none)) }
+
+  -- of the calls that were made, whatever further ones return, all were
+  pub made_any : {most : ℕ} {Fails : Type 0} {old new : D} → Spends g most Fails old new → g.clock old ≤ g.clock new → HasMade g 0 old new
+  made_any a later = record {
+    clock = omega (arith, later);
+    left = λ k has. let paid = a.paid k has in (paid.0, paid.1, omega (arith, later, paid.2));
+  }
+
   -- if fewer than n calls were left, n were not made
   pub too_few : {n : ℕ} {old new : D} {P : Type 0} (k : ℕ) → HasLeft k (g.budget old) → k < n → HasMade g n old new ⊎ P → P
   too_few k has few made = ⊎_elim (λ made. let left = made.left k has in absurd (omega (arith, few, left.2))) (λ p. p) made
@@ -94,8 +105,3 @@ pub count_within : (phase : Phase) (count limit : ℕ) → count_with_hand phase
 count_within (Reading end) count limit within = within
 count_within Resting count limit within = within
 count_within (InHand size) count limit within = omega (arith, within)
-
--- a call that did not fail succeeded
-pub is_ok_if : {T E : Type 0} (r : Result T E) → (IsErr r → ⊥) → IsOk r
-is_ok_if (Ok x) never = refl
-is_ok_if (Err e) never = absurd (never refl)

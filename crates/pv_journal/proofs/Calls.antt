@@ -94,16 +94,6 @@ module _ {D : Type 0} (g : reports.Ghosts D) {T E : Type 0} {pay : Budget → Bu
     left = left_after r pay pays (g.budget old) (g.budget new) call.budget call.spent ok;
   }
 
-  -- of the calls that were made, whatever a further one returns, all were
-  pub made_any : {size : ℕ} {Can : Option Budget → Type 0} → IsCall g size pay Can old new r → HasMade g 0 old new
-  made_any call = record {
-    clock = let later = call.time.later in omega (arith, later);
-    left = λ k has.
-        let later = call.time.later in
-        let paid = (spends_call call).paid k has in
-        (paid.0, paid.1, omega (arith, later, paid.2));
-  }
-
   -- a call that writes nothing, whatever it returns
   pub reads_once : WritesNothing g pay old new r → ReadsOnly g 1 (IsErr r) old new
   reads_once looks = record {

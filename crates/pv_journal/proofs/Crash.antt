@@ -136,14 +136,3 @@ module _ (bodies : List (List ℕ)) where
         closed = zero_is_closed;
         sizes = All-push IsBody bodies body staged.sizes sized;
       }
-
--- an image is itself, torn or not
-pub torn_none : (at n : ℕ) (image : List ℕ) → Torn at n image image
-torn_none at n image = record { no_shorter = omega arith; outside = λ i h out. refl }
-
--- what is torn twice in one range is torn in it
-pub torn_then : (at n : ℕ) (a b c : List ℕ) → Torn at n a b → Torn at n b c → Torn at n a c
-torn_then at n a b c first second = record {
-  no_shorter = omega (arith, first.no_shorter, second.no_shorter);
-  outside = λ i h out. second.outside i (omega (arith, first.no_shorter)) out ∙ first.outside i h out;
-}

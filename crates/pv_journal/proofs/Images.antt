@@ -11,15 +11,10 @@ pub on_err : {T E P : Type 0} (r : Result T E) → P → OnErr r P
 on_err (Ok x) p = tt
 on_err (Err e) p = p
 
--- what holds where a call succeeded holds after a success
-pub if_ok : {T E P : Type 0} (r : Result T E) → (IsOk r → P) → OnOk r P
-if_ok (Ok x) p = p refl
-if_ok (Err e) p = tt
-
--- what holds whatever was returned holds after a success
-pub on_ok : {T E P : Type 0} (r : Result T E) → P → OnOk r P
-on_ok (Ok x) p = p
-on_ok (Err e) p = tt
+-- what two facts after a success give
+pub on_ok_both : {T E P Q R : Type 0} (r : Result T E) → (P → Q → R) → OnOk r P → OnOk r Q → OnOk r R
+on_ok_both (Ok x) both p q = both p q
+on_ok_both (Err e) both p q = tt
 
 -- a `requires` on what is reported, as a clause says it
 pub if_told : (o : Option (List ℕ)) (P : List ℕ → Type 0) → ForSome o P → IfSome o P
@@ -57,6 +52,12 @@ if_turns step P Q (Some a) None next turns p = tt
 if_turns step P Q None (Some b) next turns p = absurd turns
 if_turns step P Q None None next turns p = tt
 
+-- what a write makes of each text with P is a step from it, so what the disk reads as has turned by that step
+pub turns_map : (step : List ℕ → List ℕ → Type 0) (f : List ℕ → List ℕ) (P : List ℕ → Type 0) (old new : Option (List ℕ))
+    → ((x : List ℕ) → P x → step x (f x)) → new ≡ option_map f old → IfSome old P → Turns step old new
+turns_map step f P (Some a) new steps is p = subst (Turns step (Some a)) (sym is) (steps a p)
+turns_map step f P None new steps is p = subst (Turns step None) (sym is) tt
+
 -- what each image has, the text of the disk has, which is one of them
 is_text : (o : Option (List ℕ)) (L P : List ℕ → Type 0) → IfSome o L → (IsSome o → (image : List ℕ) → L image → P image) → IfSome o P
 is_text (Some text) L P left each = each refl text left
@@ -84,14 +85,6 @@ module _ {D : Type 0} (g : reports.Ghosts D) where
       → IsSome (g.reads new) → IsSome (g.reads old)
   writes_told old new (Ok x) at bytes writes = map_told (text_after_write at bytes) (g.reads old) (g.reads new) writes.written
   writes_told old new (Err e) at bytes writes = turns_told (Torn at (length bytes)) (g.reads old) (g.reads new) writes.torn
-
-  -- after a write each image has Q, if each torn image of those with P does
-  pub each_written : {T E : Type 0} (old new : D) (r : Result T E) (at : ℕ) (bytes : List ℕ) (P Q : List ℕ → Type 0)
-      → ((d c : List ℕ) → P d → Torn at (length bytes) d c → Q c)
-      → WritesAt g at bytes old new r → EachImage g old P → EachImage g new Q
-  each_written old new r at bytes P Q step writes each told image left =
-      let from = writes.images image left in
-      step from.0 image (each (writes_told old new r at bytes writes told) from.0 from.1) from.2
 
   -- after a sync that succeeded, of a disk that reads as bytes with P, each image has P
   pub each_synced : (new : D) (P : List ℕ → Type 0)

@@ -85,14 +85,14 @@ module _ {D : Type 0} (g : reports.Ghosts D) where
     time = time_none d P;
   }
 
-  -- what has P has Q
-  pub only_weaker : {old new : D} {P Q : List ℕ → Type 0} → ((image : List ℕ) → P image → Q image) → LeavesOnly g old new P
-      → LeavesOnly g old new Q
+  -- what has P has Q, on a disk that reported what it read
+  pub only_weaker : {old new : D} {P Q : List ℕ → Type 0} → (IsSome (g.reads old) → (image : List ℕ) → P image → Q image)
+      → LeavesOnly g old new P → LeavesOnly g old new Q
   only_weaker weaker a = record {
-    each = λ told knows image left. weaker image (a.each told knows image left);
-    now = λ told image left. weaker image (a.now told image left);
+    each = λ told knows image left. weaker (a.time.reported told) image (a.each told knows image left);
+    now = λ told image left. weaker (a.time.reported told) image (a.now told image left);
     known = a.known;
-    time = time_weaker (λ told image p. weaker image p) a.time;
+    time = time_weaker (λ told image p. weaker (a.time.reported told) image p) a.time;
   }
 
   -- over a stretch more

@@ -60,9 +60,9 @@ module _ {D : Type 0} (g : reports.Ghosts D) where
     -- for a run that began earlier
     pub time : TimePasses old new P
 
-  -- one of the images that a crash of this disk may leave, torn in its first bytes
-  abbrev pub IsTornOf : D → ℕ → List ℕ → Type 0
-  IsTornOf d n image = (before : List ℕ) × g.may_leave d before × Torn 0 n before image
+  -- one of the images that a crash of this disk may leave, torn in the n bytes from this place on
+  abbrev pub IsTornOf : D → ℕ → ℕ → List ℕ → Type 0
+  IsTornOf d at n image = (before : List ℕ) × g.may_leave d before × Torn at n before image
 
   -- at least n calls have succeeded, and if the disk reports how many were left, at least n were
   pub record HasMade (n : ℕ) (old new : D) : Type 0 where

@@ -1,5 +1,6 @@
 pub mod Appending
 pub mod Block
+pub mod Equality
 pub mod Faults
 pub mod Journal
 pub mod Log

@@ -6,6 +6,7 @@ ghost use Rattle.pv_journal.specs.Journal.{EachImage, IsDurable, IsSynced, Leave
 ghost use Rattle.pv_journal.specs.declared.block.TheConstants.{MARK, EMPTY_SIZE};
 
 use crate::block::EMPTY_SIZE;
+use crate::storing::put;
 use pv_outside::Disk;
 
 /// A journal without bodies: the mark and a closed gate.
@@ -25,9 +26,8 @@ pub fn format<D: Disk>(disk: &mut D) -> Result<(), D::Failure>
     // before, with any bytes in place of the first ones and past its end.
     ensures spends { Spends D.Reports 3 (IsErr result) disk.old disk.new }
     ensures passes { HasCalls 3 EMPTY_SIZE (D.budget disk.old) → IsOk result }
-    ensures moments { LeavesOnly D.Reports disk.old disk.new (IsTornOf D.Reports disk.old EMPTY_SIZE) }
+    ensures moments { LeavesOnly D.Reports disk.old disk.new (IsTornOf D.Reports disk.old 0 EMPTY_SIZE) }
 {
     disk.sync()?;
-    disk.write(0, &EMPTY)?;
-    disk.sync()
+    put(disk, 0, &EMPTY)
 }

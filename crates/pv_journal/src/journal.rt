@@ -73,7 +73,10 @@ impl<D: Disk> Journal<D> {
     pub fn start(mut disk: D, limits: Limits) -> Result<Journal<D>, (OpenFault<D>, D)>
         ensures reading { IfOk result (λ journal. IsReading D.Reports journal []) }
         ensures limit { IfOk result (λ journal. journal.limit ≡ limits.records) }
+
+        // It makes exactly three calls, and a crash at any moment of them leaves what it might have left before.
         ensures reads_only { IfOk result (λ journal. ReadsOnly D.Reports 3 ⊥ disk journal.disk) }
+        ensures made { IfOk result (λ journal. HasMade D.Reports 3 disk journal.disk) }
         ensures moments { IfOk result (λ journal. LeavesOnly D.Reports disk journal.disk (D.may_leave disk)) }
 
         // A disk is refused if a call of it failed, or if it does not begin with the mark.
@@ -122,6 +125,8 @@ impl<D: Disk> Journal<D> {
 
         // What it takes of the disk, and what a crash at any moment of it leaves.
         ensures reads_only { ReadsOnly D.Reports 1 (ReadFailsOnDisk result) self.old.disk self.new.disk }
+        ensures made { OnOk result (IsStillReading self.old
+            → HasMade D.Reports 1 self.old.disk self.new.disk) }
         ensures moments { LeavesOnly D.Reports self.old.disk self.new.disk (D.may_leave self.old.disk) }
 
         // Each answer has its cause, and on a disk that reports its bytes these show which it is.

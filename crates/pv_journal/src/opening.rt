@@ -1,6 +1,6 @@
 ghost use Rattle.std.specs.Prelude.{◌≡◌, ◌↔◌, ◌+◌, ◌<◌, ◌≤◌, ℕ, ◌++◌, length, take, drop, slice_index, IfOk, IfErr, OnOk, IsErr, IfSome, IsTrue};
 ghost use Rattle.pv_journal.specs.Text.{first_eight};
-ghost use Rattle.pv_journal.specs.Journal.{ReadsOnly, IsSynced, IsDurable};
+ghost use Rattle.pv_journal.specs.Journal.{ReadsOnly, HasMade, IsSynced, IsDurable};
 ghost use Rattle.pv_journal.specs.Faults.{ReadFailsOnDisk, IsStartFault, StartFaultShows};
 ghost use Rattle.pv_journal.specs.declared.block.TheConstants.{MARK_SIZE};
 
@@ -17,7 +17,8 @@ pub(crate) fn length_after_mark<D: Disk>(disk: &mut D) -> Result<u64, OpenFault<
     ensures durable { OnOk result (IsDurable D.Reports disk.new) }
     ensures synced { OnOk result (IsSynced D.Reports disk.new) }
 
-    // A call failed, or the disk does not begin with the mark.
+    // All three calls were made. Or one failed, or the disk does not begin with the mark.
+    ensures made { OnOk result (HasMade D.Reports 3 disk.old disk.new) }
     ensures refused { IfErr result IsStartFault }
     ensures shown { IfErr result (λ fault. IfSome (D.reads disk.old) (λ text. StartFaultShows text fault)) }
 {
@@ -36,7 +37,8 @@ fn first_bytes<D: Disk>(disk: &mut D, into: &mut [u8; MARK_SIZE]) -> Result<u64,
     ensures bytes { OnOk result (IfSome (D.reads disk.old) (λ text. into.new ≡ first_eight text)) }
     ensures filled { IfOk result (λ end. end < MARK_SIZE → slice_index into.new 7 ≡ 0) }
 
-    // After it a crash leaves what the disk reads as.
+    // All three calls were made, and after them a crash leaves what the disk reads as.
+    ensures made { OnOk result (HasMade D.Reports 3 disk.old disk.new) }
     ensures durable { OnOk result (IsDurable D.Reports disk.new) }
     ensures synced { OnOk result (IsSynced D.Reports disk.new) }
 {
@@ -67,6 +69,7 @@ pub(crate) fn read_block<D: Disk>(
     requires long { IfSome (D.reads disk.old) (λ text. length text ≡ end) }
 
     ensures reads_only { ReadsOnly D.Reports 1 (IsErr result) disk.old disk.new }
+    ensures made { OnOk result (HasMade D.Reports 1 disk.old disk.new) }
     ensures held { IfOk result (λ held. (held ≤ MAX_BLOCK) × (gate + held ≤ end)) }
     ensures bytes { IfOk result (λ held. IfSome (D.reads disk.old) (λ text. take held into.new
         ≡ take MAX_BLOCK (drop gate text))) }

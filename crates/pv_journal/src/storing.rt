@@ -1,9 +1,10 @@
 ghost use Rattle.std.specs.Prelude.{◌≡◌, ◌⊎◌, ℕ, ◌+◌, ◌^◌, ◌<◌, ◌≤◌, List, [], ◌∷◌, ◌++◌, length, take, IfSome, IsErr, IsOk, OnOk, OnErr};
 ghost use Rattle.std.specs.Option.{ForSome, option_map};
-ghost use Rattle.pv_outside.specs.Disk.{HasCalls, text_after_write};
+ghost use Rattle.pv_outside.specs.Disk.{Torn, Turns, HasCalls, budget_after_sync, budget_after_write, text_after_write};
+ghost use Rattle.pv_outside.specs.declared.disk.TheConstants.{KEPT_BYTES};
 ghost use Rattle.pv_journal.specs.declared.block.TheConstants.{HEAD_SIZE};
 ghost use Rattle.pv_journal.specs.Text.{IsBody, block, text_of, Spells, SpellsEither, bytes_after_gate, HasClosedGate, MayHaveBody};
-ghost use Rattle.pv_journal.specs.Journal.{EachImage, IsSynced, LeavesOnly, HasMade, Spends};
+ghost use Rattle.pv_journal.specs.Journal.{EachImage, IsDurable, IsSynced, IsTornOf, LeavesOnly, HasMade, Spends};
 
 use crate::block::{HEAD_SIZE, MAX_BLOCK};
 use pv_outside::Disk;
@@ -50,10 +51,34 @@ pub(crate) fn store<D: Disk>(
     ensures spends { Spends D.Reports 4 (IsErr result) disk.old disk.new }
 {
     let length = spell(body, room);
-    disk.write(gate + 1, &room[..length])?;
     // The body has to be on the disk first: after a gate that is open, whatever is there counts.
-    disk.sync()?;
-    disk.write(gate, &[1])?;
+    put(disk, gate + 1, &room[..length])?;
+    put(disk, gate, &[1])
+}
+
+/// Writes bytes at a place, and puts them on the disk.
+pub(crate) fn put<D: Disk>(disk: &mut D, at: u64, bytes: &[u8]) -> Result<(), D::Failure>
+    requires within { ForSome (D.reads disk.old) (λ text. at ≤ length text) }
+    requires little { length bytes.now ≤ KEPT_BYTES }
+
+    // After an Ok the bytes are there, and a crash leaves what the disk reads as. A failure leaves any in their range.
+    ensures written { OnOk result (D.reads disk.new
+        ≡ option_map (text_after_write at bytes.now) (D.reads disk.old)) }
+    ensures durable { OnOk result (IsDurable D.Reports disk.new) }
+    ensures torn { OnErr result
+        (Turns (Torn at (length bytes.now)) (D.reads disk.old) (D.reads disk.new)) }
+    ensures moments { LeavesOnly D.Reports disk.old disk.new
+        (IsTornOf D.Reports disk.old at (length bytes.now)) }
+
+    // What it takes of the disk.
+    ensures paid { OnOk result (D.budget disk.new
+        ≡ option_map (λ b. budget_after_sync (budget_after_write b)) (D.budget disk.old)) }
+    ensures passes { HasCalls 2 (at + length bytes.now) (D.budget disk.old)
+        → IsSynced D.Reports disk.old → IsOk result }
+    ensures both { OnOk result (HasMade D.Reports 2 disk.old disk.new) }
+    ensures spends { Spends D.Reports 2 (IsErr result) disk.old disk.new }
+{
+    disk.write(at, bytes)?;
     disk.sync()
 }
 

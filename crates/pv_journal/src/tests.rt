@@ -3,27 +3,12 @@ ghost use Rattle.pv_journal.specs.Log.{IsAtRest};
 
 use super::*;
 use pv_memory::MemDisk;
-use pv_outside::{Disk, Fused, Limits};
+use pv_outside::{Disk, Failed, Fused, Limits};
 use std::alloc::Global;
 use std::test::Fail;
 
-/// A fault of opening, without the disk's own failure.
-#[derive(Clone, Copy, Debug, PartialEq, Eq)]
-enum Fault {
-    Disk,
-    NotFormatted([u8; 8]),
-    Broken { at: u64 },
-    TooMany { count: u64 },
-}
-
-fn plain(fault: OpenFault<MemDisk>) -> Fault {
-    match fault {
-        OpenFault::Disk(_) => Fault::Disk,
-        OpenFault::NotFormatted(first) => Fault::NotFormatted(first),
-        OpenFault::Broken { at } => Fault::Broken { at },
-        OpenFault::TooMany { count } => Fault::TooMany { count },
-    }
-}
+/// A fault of opening a disk in memory.
+type Fault = OpenFault<MemDisk>;
 
 const LIMITS: Limits = Limits {
     frames: 1,
@@ -52,7 +37,7 @@ fn disk_of(alloc: Global, bytes: &[u8], fails: &[u64]) -> Result<MemDisk, Fail> 
 fn bodies_of(alloc: Global, disk: MemDisk) -> Result<Result<Vec<u8>, Fault>, Fail> {
     let mut journal = match Journal::start(disk, LIMITS) {
         Ok(journal) => journal,
-        Err((fault, _)) => return Ok(Err(plain(fault))),
+        Err((fault, _)) => return Ok(Err(fault)),
     };
     let mut bodies = Vec::new(alloc);
     let mut body = [0; MAX_BODY];
@@ -63,7 +48,7 @@ fn bodies_of(alloc: Global, disk: MemDisk) -> Result<Result<Vec<u8>, Fault>, Fai
                 bodies.push(b'.')?;
             }
             Ok(None) => break,
-            Err(fault) => return Ok(Err(plain(fault))),
+            Err(fault) => return Ok(Err(fault)),
         }
     }
     Ok(Ok(bodies))
@@ -89,10 +74,7 @@ fn a_body_is_appended_to_a_formatted_disk(rt: HostRuntime) -> Result<(), Fail> {
     format(&mut disk)?;
     assert_eq!(rt; disk.bytes(), NONE);
     let mut journal = open(disk)?;
-    let Ok(place) = journal.append(b"AB") else {
-        return Err("not appended".into());
-    };
-    assert_eq!(rt; place, 0);
+    assert_eq!(rt; journal.append(b"AB"), Ok(0));
     assert_eq!(rt; journal.count(), 1);
     assert_eq!(rt; journal.into_disk().bytes(), ONE);
     Ok(())
@@ -171,23 +153,16 @@ fn settling_finds_what_the_disk_has(rt: HostRuntime) -> Result<(), Fail> {
     // The calls 6 to 9 are those of the append: two writes, each with its sync.
     for (failing, stored) in [(6, false), (7, false), (8, false), (9, true)] {
         let mut journal = open(disk_of(rt.alloc(), NONE, &[failing])?)?;
-        let Err(AppendFault::Disk(_)) = journal.append(b"AB") else {
-            return Err("no call failed".into());
-        };
+        assert_eq!(rt; journal.append(b"AB"), Err(AppendFault::Disk(Failed)));
         // Nothing is read, and the body stays in hand.
-        let Ok(None) = journal.next(&mut [0; MAX_BODY]) else {
-            return Err("a body was read".into());
-        };
+        assert_eq!(rt; journal.next(&mut [0; MAX_BODY]), Ok(None));
         let Some(is_stored) = journal.settle()? else {
             return Err("nothing was in hand".into());
         };
         assert_eq!(rt; is_stored, stored, "call {failing} failed");
         assert_eq!(rt; journal.count(), stored as u64);
         // The journal goes on.
-        let Ok(place) = journal.append(b"CD") else {
-            return Err("not appended".into());
-        };
-        assert_eq!(rt; place, stored as u64);
+        assert_eq!(rt; journal.append(b"CD"), Ok(stored as u64));
         assert_eq!(rt; journal.settle()?, None);
         let want: &[u8] = if stored { b"AB.CD." } else { b"CD." };
         let Ok(bodies) = bodies_of(rt.alloc(), journal.into_disk())? else {

@@ -15,8 +15,8 @@ module _ {T : Type 0} (m new : Medium) (value : T) (can : can_pass m ≡ true) (
   answer = Ok value
 
   -- a call that reads the length or the bytes
-  looked : WritesNothing ghosts budget_after_call m (disk_after_read m) answer
-  looked = record {
+  pub looks : new ≡ disk_after_read m → WritesNothing ghosts budget_after_call m new answer
+  looks is = subst (λ (n : Medium). WritesNothing ghosts budget_after_call m n answer) (sym is) (record {
     call = record {
       clock = refl;
       time = elapses 0 m (disk_after_read m) refl refl ends;
@@ -28,11 +28,11 @@ module _ {T : Type 0} (m new : Medium) (value : T) (can : can_pass m ≡ true) (
     };
     reads = refl;
     images = λ image left. left;
-  }
+  })
 
   -- a sync
-  synced : WritesNothing ghosts budget_after_sync m (disk_after_sync m) answer
-  synced = record {
+  pub syncs : new ≡ disk_after_sync m → WritesNothing ghosts budget_after_sync m new answer
+  syncs is = subst (λ (n : Medium). WritesNothing ghosts budget_after_sync m n answer) (sym is) (record {
     call = record {
       clock = refl;
       time = elapses 0 m (disk_after_sync m) refl refl ends;
@@ -44,13 +44,7 @@ module _ {T : Type 0} (m new : Medium) (value : T) (can : can_pass m ≡ true) (
     };
     reads = refl;
     images = search rules;
-  }
-
-  pub looks : new ≡ disk_after_read m → WritesNothing ghosts budget_after_call m new answer
-  looks is = subst (λ (n : Medium). WritesNothing ghosts budget_after_call m n answer) (sym is) looked
-
-  pub syncs : new ≡ disk_after_sync m → WritesNothing ghosts budget_after_sync m new answer
-  syncs is = subst (λ (n : Medium). WritesNothing ghosts budget_after_sync m n answer) (sym is) synced
+  })
 
   module _ (at : ℕ) (bytes : List ℕ) (within : at ≤ length m.text) (matches : MatchesSync m.text m.synced m.pending) where
     -- one write more is pending
@@ -58,8 +52,8 @@ module _ {T : Type 0} (m new : Medium) (value : T) (can : can_pass m ≡ true) (
     one_more = omega (arith, length-append m.pending (record { at = at; size = length bytes } ∷ []))
 
     -- a write
-    wrote : WritesAt ghosts at bytes m (disk_after_write at bytes m) answer
-    wrote = record {
+    pub writes : new ≡ disk_after_write at bytes m → WritesAt ghosts at bytes m new answer
+    writes is = subst (λ (n : Medium). WritesAt ghosts at bytes m n answer) (sym is) (record {
       call = record {
         clock = refl;
         time = elapses (length bytes) m (disk_after_write at bytes m) refl refl ends;
@@ -72,7 +66,4 @@ module _ {T : Type 0} (m new : Medium) (value : T) (can : can_pass m ≡ true) (
       written = refl;
       torn = search rules;
       images = torn_by at bytes m.text m.synced m.pending matches within;
-    }
-
-    pub writes : new ≡ disk_after_write at bytes m → WritesAt ghosts at bytes m new answer
-    writes is = subst (λ (n : Medium). WritesAt ghosts at bytes m n answer) (sym is) wrote
+    })

@@ -1,7 +1,7 @@
 -- What a write does to the bytes of a disk, and to the images that a crash may leave.
 use Rattle.std.proofs.Common.{◌≡◌, ◌⊎◌, inl, inr, ℕ, ◌+◌, ◌-◌, ◌<◌, ◌≤◌, Bool, true, false, ◌&&◌, ◌||◌, List, [], ◌∷◌, ◌++◌, length, get_or, take, drop, map, refl, sym, ◌∙◌, ap, subst, arith, nat_le, nat_lt, if◌then◌else◌, length-append, append_assoc, take-append-drop}
 use Rattle.std.specs.List.{range_with_len}
-use Rattle.std.proofs.lemmas.List.{get_or_append_left, get_or-append_right, get_or-take, get_or-drop, length-take-le, take_at, drop_at, drop-drop, nil_from_length}
+use Rattle.std.proofs.lemmas.List.{take_at, drop_at, drop-drop, nil_from_length}
 use Rattle.std.proofs.lemmas.List.FromFn.{length-map-range_with_len, get_or-map-range_with_len}
 use Rattle.std.proofs.lemmas.List.Folds.{list_any-append}
 use Rattle.std.proofs.lemmas.List.Elements.{All-push}
@@ -9,37 +9,18 @@ use Rattle.std.proofs.lemmas.Bool.{cases_lt, lt-leb, le-leb, le-ltb, lt-ltb, tru
 use Rattle.std.proofs.Math.Bool.{and-false}
 use Rattle.pv_outside.specs.Disk.{Torn, text_after_write, Follows}
 use Rattle.pv_outside.specs.declared.disk.TheConstants.{MAX_UNSYNCED}
-use Rattle.pv_outside.proofs.CallerLemmas.{length-text_after_write}
+use Rattle.pv_outside.proofs.CallerLemmas.{front, written_end, length-text_after_write, stands, torn_written}
 use Rattle.pv_memory.specs.declared.past.Range.{Range}
 use Rattle.pv_memory.specs.Medium.{is_within, is_pending, Moment, IsTorn, IsImage, MatchesSync, IsEachWithin}
 
 module _ (at : ℕ) (bytes text : List ℕ) (within : at ≤ length text) where
-  -- before the place of a write stand as many bytes as the place says
-  front : length (take at text) ≡ at
-  front = length-take-le at text within
-
-  -- with the bytes that are written there are as many as the place and their number
-  written : length (take at text ++ bytes) ≡ at + length bytes
-  written = omega (arith, length-append (take at text) bytes, front)
-
-  -- outside of its range a write changes no byte
-  stands : (k : ℕ) → (k < at) ⊎ (at + length bytes ≤ k) → get_or (text_after_write at bytes text) k 0 ≡ get_or text k 0
-  stands k (inl h) =
-      get_or_append_left (take at text ++ bytes) (drop (at + length bytes) text) 0 k (omega (arith, written))
-      ∙ get_or_append_left (take at text) bytes 0 k (omega (arith, front))
-      ∙ get_or-take at text k 0 h
-  stands k (inr h) =
-      get_or-append_right (take at text ++ bytes) (drop (at + length bytes) text) (at + length bytes) k 0 written h
-      ∙ get_or-drop (at + length bytes) text (k - (at + length bytes)) 0
-      ∙ ap (λ (n : ℕ). get_or text n 0) (let e : at + length bytes + (k - (at + length bytes)) ≡ k = omega arith in e)
-
   -- what stood in the range of a write, put back there, gives the text from before the write
   pub put_back : take at (text_after_write at bytes text) ++ take (length bytes) (drop at text) ++ drop (at + length bytes) (text_after_write at bytes text) ≡ text
   put_back =
       let before : take at (text_after_write at bytes text) ≡ take at text =
-      ap (λ (l : List ℕ). take at l) (append_assoc (take at text) bytes (drop (at + length bytes) text)) ∙ take_at (take at text) (bytes ++ drop (at + length bytes) text) at front in
+      ap (λ (l : List ℕ). take at l) (append_assoc (take at text) bytes (drop (at + length bytes) text)) ∙ take_at (take at text) (bytes ++ drop (at + length bytes) text) at (front at bytes text within) in
       let behind : drop (at + length bytes) (text_after_write at bytes text) ≡ drop (length bytes) (drop at text) =
-      drop_at (take at text ++ bytes) (drop (at + length bytes) text) (at + length bytes) written ∙ sym (drop-drop (length bytes) at text) in
+      drop_at (take at text ++ bytes) (drop (at + length bytes) text) (at + length bytes) (written_end at bytes text within) ∙ sym (drop-drop (length bytes) at text) in
       (λ i. before i ++ take (length bytes) (drop at text) ++ behind i)
       ∙ append_assoc (take at text) (take (length bytes) (drop at text)) (drop (length bytes) (drop at text))
       ∙ ap (λ (l : List ℕ). take at text ++ l) (take-append-drop (length bytes) (drop at text))
@@ -117,10 +98,6 @@ module _ (at : ℕ) (bytes text synced : List ℕ) (pending : List Range) (match
   image_before : List ℕ → List ℕ
   image_before image = map (byte_before image) (range_with_len 0 (length synced))
 
-  -- the text after the write is the one from before, torn in the write's range
-  torn_text : Torn at (length bytes) text (text_after_write at bytes text)
-  torn_text = record { no_shorter = omega (arith, long); outside = λ k h out. stands at bytes text within k out }
-
   -- the image from before the write has its bytes
   byte_is : (image : List ℕ) (k : ℕ) → k < length synced → get_or (image_before image) k 0 ≡ byte_before image k
   unfolding image_before
@@ -173,7 +150,7 @@ module _ (at : ℕ) (bytes text synced : List ℕ) (pending : List Range) (match
 
   -- each image that a crash may leave after a write is one that it might have left before, torn in the write's range
   pub torn_by : Follows (Torn at (length bytes)) (IsImage old_moment) (IsImage new_moment)
-  torn_by image (inl same) = (text, inl refl, subst (λ (l : List ℕ). Torn at (length bytes) text l) (sym same) torn_text)
+  torn_by image (inl same) = (text, inl refl, subst (λ (l : List ℕ). Torn at (length bytes) text l) (sym same) (torn_written at bytes text within))
   torn_by image (inr torn) = elim (cases_lt 0 (length pending)) [
     | inl some ↦ let parts = from_torn image torn some in (image_before image, inr parts.0, parts.1)
     | inr none ↦ (text, inl refl, from_text image torn (omega arith))

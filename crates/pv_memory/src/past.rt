@@ -43,7 +43,15 @@ impl Model for Step {
 }
 
 impl Step {
-    pub(crate) fn new(alloc: Global) -> Result<Step, AllocError> {
+    /// A step that has changed nothing.
+    pub(crate) fn new(alloc: Global) -> Result<Step, AllocError>
+        ensures { IfOk result (λ step. step ≡ record {
+          range = record { at = 0; size = 0 };
+          replaced = [];
+          pending = [];
+          end = 0;
+        }) }
+    {
         Ok(Step {
             range: Range { at: 0, size: 0 },
             replaced: Vec::with_capacity(alloc, KEPT_BYTES as usize)?,

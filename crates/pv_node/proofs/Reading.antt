@@ -5,14 +5,14 @@ use Rattle.std.proofs.lemmas.List.Elements.{All-push}
 use Rattle.pv_outside.specs.declared.reports.Reports as reports
 use Rattle.pv_journal.specs.Text.{text_of, Spells}
 use Rattle.pv_journal.specs.Log.{Log}
-use Rattle.pv_journal.specs.Journal.{DiskSpells, IsReading, Remains, ReadsOnly}
+use Rattle.pv_journal.specs.Journal.{DiskSpells, HasMade, IsReading, Remains, ReadsOnly}
 use Rattle.pv_journal.specs.Faults.{IsDiskFault, NextShows, NextSpells, IsNext}
 use Rattle.pv_journal.specs.declared.fault.OpenFault.{OpenFault}
 use Rattle.pv_journal.specs.declared.fault.OpenFault.TheVariants.{Disk, NotFormatted, Broken, TooMany}
-use Rattle.pv_journal.proofs.CallerLemmas.{reads_most, reads_then}
+use Rattle.pv_journal.proofs.CallerLemmas.{reads_most, reads_then, made_then}
 use Rattle.pv_node.specs.declared.rules.Rules as rules
 use Rattle.pv_node.specs.Standing.{DiskStands, EachHasRoom, Meets}
-use Rattle.pv_node.specs.Opening.{fault_of, gate_after, IsOutside, IsOpenDiskFault, Begins, StopShows, FaultShows, HasRead, ComesNext, AreAll}
+use Rattle.pv_node.specs.Opening.{fault_of, gate_after, IsOutside, IsOpenDiskFault, Begins, StopShows, FaultShows, HasRead, HasAll, ComesNext, AreAll}
 use Rattle.pv_node.specs.declared.fault.NodeFault.TheVariants as node
 use Rattle.pv_node.specs.declared.fault.NodeFault.{NodeFault}
 use Rattle.pv_outside.specs.declared.limits.Limits.{Limits}
@@ -136,24 +136,34 @@ module _ {S State Request Rec Reply D : Type 0} (r : rules.Ghosts S State Reques
     pub limit : now.limit ≡ began.limit
     pub limits : r.limits_of state ≡ r.limits_of first
     pub reads : ReadsOnly d now.count ⊥ began.disk now.disk
+    pub made : HasMade d now.count began.disk now.disk
     pub begins : (all : List Rec) → DiskStands r d began.disk all → (more : List Rec) × (all ≡ records ++ more)
 
   -- a replay that has read one record more goes on
   pub goes_on : {Fails : Type 0} (began old new : Log D) (first state after : State) (rec : Rec) (so_far : GoesOn began old first state)
       → HasRead r d new after (so_far.records ++ rec ∷ []) → ComesNext r d old.disk so_far.records rec → new.limit ≡ old.limit
       → r.limits_of after ≡ r.limits_of state
-      → new.count ≡ old.count + 1 → (⊥ → Fails) → ReadsOnly d 1 Fails old.disk new.disk → GoesOn began new first after
-  goes_on began old new first state after rec so_far read next limit limits count never reads = record {
+      → new.count ≡ old.count + 1 → (⊥ → Fails) → ReadsOnly d 1 Fails old.disk new.disk → HasMade d 1 old.disk new.disk
+      → GoesOn began new first after
+  goes_on began old new first state after rec so_far read next limit limits count never reads made = record {
     records = so_far.records ++ rec ∷ [];
     read = read;
     limit = limit ∙ so_far.limit;
     limits = limits ∙ so_far.limits;
     reads = reads_most d (omega (arith, count)) never (reads_then d so_far.reads reads);
+    made = subst (λ (n : ℕ). HasMade d n began.disk new.disk) (sym count) (made_then d so_far.made made);
     begins = λ all stands.
         let b = so_far.begins all stands in
         let n = next b.0 (subst (λ (l : List Rec). DiskStands r d old.disk l) b.1 (stands_still began.disk old.disk all so_far.reads.same stands)) in
         (n.0, b.1 ∙ ap (λ (l : List Rec). so_far.records ++ l) n.1 ∙ sym (append_assoc so_far.records (rec ∷ []) n.0));
   }
+
+  -- after the last record its calls are one for each that was read, and one more
+  pub made_all : (began old new : Log D) (first state after : State) (so_far : GoesOn began old first state)
+      → HasAll r d new after so_far.records → HasMade d 1 old.disk new.disk → HasMade d (new.count + 1) began.disk new.disk
+  made_all began old new first state after so_far all made =
+      subst (λ (n : ℕ). HasMade d (n + 1) began.disk new.disk) (so_far.read.journal.counted.count ∙ sym all.journal.counted.count)
+      (made_then d so_far.made made)
 
   -- after the last record a replay has read all that the disk stands for
   pub all_of : (began old : Log D) (first state : State) (so_far : GoesOn began old first state) → AreAll r d old.disk so_far.records

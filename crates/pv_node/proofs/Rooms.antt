@@ -3,31 +3,23 @@ use Rattle.std.proofs.Common.{◌≡◌, ◌⊎◌, inl, inr, ◌<◌, List, [],
 use Rattle.std.proofs.lemmas.List.{length_push}
 use Rattle.pv_outside.specs.declared.limits.Limits.{Limits}
 use Rattle.pv_node.specs.declared.rules.Rules as rules
-use Rattle.pv_node.specs.Standing.{EachHasRoom, Meets}
+use Rattle.pv_node.specs.Standing.{Meets}
 
 -- the empty list has no element between two others
 not_empty : {X : Type 0} (before : List X) (x : X) (behind : List X) → [] ≡ before ++ x ∷ behind → ⊥
 not_empty before x behind e = omega (arith, ap length e, length-append before (x ∷ behind))
 
--- equal lists have equal tails
-tails : {X : Type 0} (x y : X) (xs ys : List X) → x ∷ xs ≡ y ∷ ys → xs ≡ ys
-tails x y xs ys e = ap (drop 1) e
-
--- equal lists have equal first elements
-heads : {X : Type 0} (x y : X) (xs ys : List X) → x ∷ xs ≡ y ∷ ys → x ≡ y
-heads x y xs ys e = ap (λ l. get_or l 0 x) e
-
 -- an element of a list that was pushed to is the one that was pushed, after all others, or was there before
 pub of_push : {X : Type 0} (xs : List X) (y : X) (before : List X) (x : X) (behind : List X) → xs ++ y ∷ [] ≡ before ++ x ∷ behind
     → ((before ≡ xs) × (x ≡ y)) ⊎ ((rest : List X) × (xs ≡ before ++ x ∷ rest))
-of_push [] y [] x behind e = inl (refl, sym (heads y x [] behind e))
-of_push [] y (b ∷ before) x behind e = absurd (not_empty before x behind (tails y b [] (before ++ x ∷ behind) e))
-of_push (z ∷ xs) y [] x behind e = inr (xs, ap (λ w. w ∷ xs) (heads z x (xs ++ y ∷ []) behind e))
+of_push [] y [] x behind e = inl (refl, ap (λ l. get_or l 0 x) (sym e))
+of_push [] y (b ∷ before) x behind e = absurd (not_empty before x behind (ap (drop 1) e))
+of_push (z ∷ xs) y [] x behind e = inr (xs, ap (λ w. w ∷ xs) (ap (λ l. get_or l 0 x) e))
 of_push {X = X} (z ∷ xs) y (b ∷ before) x behind e =
-    under (of_push xs y before x behind (tails z b (xs ++ y ∷ []) (before ++ x ∷ behind) e))
+    under (of_push xs y before x behind (ap (drop 1) e))
   where
     same : z ≡ b
-    same = heads z b (xs ++ y ∷ []) (before ++ x ∷ behind) e
+    same = ap (λ l. get_or l 0 z) e
 
     under : ((before ≡ xs) × (x ≡ y)) ⊎ ((rest : List X) × (xs ≡ before ++ x ∷ rest))
         → ((b ∷ before ≡ z ∷ xs) × (x ≡ y)) ⊎ ((rest : List X) × (z ∷ xs ≡ b ∷ (before ++ x ∷ rest)))
@@ -35,20 +27,6 @@ of_push {X = X} (z ∷ xs) y (b ∷ before) x behind e =
     under (inr there) = inr (there.0, ap (λ w. w ∷ xs) same ∙ ap (λ l. b ∷ l) there.1)
 
 module _ {S State Request Rec Reply : Type 0} (r : rules.Ghosts S State Request Rec Reply) where
-  -- if each of some records had room and one more has it in a state that stands for these, each of all has it
-  pub room_for_each : (same_room : (one other : State) (records : List Rec) (rec : Rec) → r.stands one records → r.stands other records → r.limits_of one ≡ r.limits_of other → r.fits one rec → r.fits other rec)
-      (limits : Limits) (state : State) (records : List Rec) (rec : Rec) → EachHasRoom r limits records → r.stands state records
-      → r.limits_of state ≡ limits → r.fits state rec
-      → EachHasRoom r limits (records ++ rec ∷ [])
-  room_for_each same_room limits state records rec each stands is_limit fits before behind x other e other_stands other_limit =
-      in_each (of_push records rec before x behind e)
-    where
-      in_each : ((before ≡ records) × (x ≡ rec)) ⊎ ((rest : List Rec) × (records ≡ before ++ x ∷ rest)) → r.fits other x
-      in_each (inl last) =
-          let stood : r.stands other records = subst (λ (l : List Rec). r.stands other l) last.0 other_stands in
-          subst (λ (y : Rec). r.fits other y) (sym last.1) (same_room state other records rec stands stood (is_limit ∙ sym other_limit) fits)
-      in_each (inr there) = each before there.0 x other there.1 other_stands other_limit
-
   -- records that meet the limits, and one more that has room, meet them together where they were fewer than the limit
   pub meets_more : (same_room : (one other : State) (records : List Rec) (rec : Rec) → r.stands one records → r.stands other records → r.limits_of one ≡ r.limits_of other → r.fits one rec → r.fits other rec)
       (limits : Limits) (state : State) (records : List Rec) (rec : Rec) → Meets r limits records → r.stands state records
@@ -56,7 +34,12 @@ module _ {S State Request Rec Reply : Type 0} (r : rules.Ghosts S State Request 
       → Meets r limits (records ++ rec ∷ [])
   meets_more same_room limits state records rec meets stands is_limit fits below = record {
     count = omega (arith, below, length_push records rec);
-    room = room_for_each same_room limits state records rec meets.room stands is_limit fits;
+    room = λ before behind x other e other_stands other_limit. elim (of_push records rec before x behind e) [
+      | inl last ↦
+          let stood : r.stands other records = subst (λ (l : List Rec). r.stands other l) last.0 other_stands in
+          subst (λ (y : Rec). r.fits other y) (sym last.1) (same_room state other records rec stands stood (is_limit ∙ sym other_limit) fits)
+      | inr there ↦ meets.room before there.0 x other there.1 other_stands other_limit
+    ];
   }
 
   -- no records meet any limits

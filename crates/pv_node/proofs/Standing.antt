@@ -110,7 +110,7 @@ module _ {S State Request Rec Reply D : Type 0} (r : rules.Ghosts S State Reques
   -- what spells the spellings of records stands for these
   pub only_stand : {old new : D} (records : List Rec) → All r.is_record records
       → LeavesOnly d old new (λ image. Spells image (map r.spelling records)) → LeavesOnly d old new (λ image. Stands r image records)
-  only_stand records each only = only_weaker d (λ image spells. record { text = spells; each = each }) only
+  only_stand records each only = only_weaker d (λ told image spells. record { text = spells; each = each }) only
 
   -- a settling at which nothing was in hand changes nothing
   pub settled_same : (old new : Parts D State Rec) (stored : Option Rec) → IsSettled r d old new stored → old.hand ≡ None → new ≡ old

@@ -1,4 +1,5 @@
 pub mod Asking
+pub mod Equality
 pub mod Opening
 pub mod Parts
 pub mod Standing

@@ -73,9 +73,12 @@ impl<R: Rules, D: Disk> Node<R, D> {
         ensures none_in_hand { IfOk result (λ node. node.hand ≡ None) }
         ensures limits { IfOk result (λ node. R.limits_of node.state ≡ limits) }
 
-        // It makes three calls of the disk and one for each gate, and a crash leaves what it might have left before.
+        // It makes exactly three calls of the disk and one for each gate, and a crash leaves what it might have left
+        // before.
         ensures reads_only { IfOk result
             (λ node. ReadsOnly D.Reports (node.journal.count + 4) ⊥ disk node.journal.disk) }
+        ensures made { IfOk result
+            (λ node. HasMade D.Reports (node.journal.count + 4) disk node.journal.disk) }
         ensures moments { IfOk result
             (λ node. LeavesOnly D.Reports disk node.journal.disk (D.may_leave disk)) }
 
@@ -188,6 +191,8 @@ impl<R: Rules, D: Disk> Node<R, D> {
         ensures place { IfOk result (λ number. number ≡ self.old.journal.count) }
         ensures stored { OnOk result (HasStored ⟦<R as Rules>⟧ D.Reports self.old self.new rec.now) }
         ensures refused { IfErr result (IsRefused ⟦<R as Rules>⟧ D.Reports self.old self.new rec.now) }
+
+        // What a crash at any moment of it leaves, and what it takes of the disk. The limits stay.
         ensures moments { (records : List R.Rec) → StandsFor ⟦<R as Rules>⟧ D.Reports self.old records
             → LeavesOnly D.Reports self.old.journal.disk self.new.journal.disk
             (StandsEither ⟦<R as Rules>⟧ records (Some rec.now)) }

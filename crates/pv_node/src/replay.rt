@@ -1,6 +1,6 @@
 ghost use Rattle.std.specs.Prelude.{◌≡◌, ◌<◌, ◌≤◌, ◌+◌, List, [], ◌∷◌, ◌++◌, true, false, Ok, IfErr, IfSome, OnOk};
 ghost use Rattle.pv_journal.specs.Log.{IsAtRest};
-ghost use Rattle.pv_journal.specs.Journal.{ReadsOnly};
+ghost use Rattle.pv_journal.specs.Journal.{HasMade, ReadsOnly};
 ghost use Rattle.pv_node.specs.Standing.{Meets, DiskStands};
 ghost use Rattle.pv_node.specs.Opening.{fault_of, ReadingFails, IsOutside, IsNotMemory, IsOpenFault, IsUnreadable, StopShows, FaultShows, HasRead, HasAll, ComesNext, AreAll};
 
@@ -64,6 +64,9 @@ fn take_next<R: Rules, D: Disk>(
     ensures at_rest { result ≡ Ok false → IsAtRest journal.new }
     ensures reads_only { ReadsOnly D.Reports 1 (ReadingFails result) journal.old.disk journal.new.disk }
 
+    // Its one call was made.
+    ensures made { OnOk result (HasMade D.Reports 1 journal.old.disk journal.new.disk) }
+
     // The limits stay, and what is counted is within them.
     ensures counts { result ≡ Ok true → (journal.old.count < journal.old.limit)
         × (journal.new.count ≡ journal.old.count + 1) }
@@ -113,6 +116,7 @@ pub(crate) fn replay<R: Rules, D: Disk>(
     ensures counted { OnOk result (journal.new.count ≡ R.count_of state.new) }
     ensures reads_only { ReadsOnly D.Reports (journal.new.count + 1)
         (ReadingFails result) journal.old.disk journal.new.disk }
+    ensures made { OnOk result (HasMade D.Reports (journal.new.count + 1) journal.old.disk journal.new.disk) }
 
     // The limits stay, and what is counted is within them.
     ensures within { journal.new.count ≤ journal.new.limit }

@@ -6,7 +6,7 @@ use super::*;
 use pv_fields::{NoRoom, Out};
 use pv_journal::format;
 use pv_memory::MemDisk;
-use pv_outside::{Disk, Fused, Limits};
+use pv_outside::{Disk, Failed, Fused, Limits};
 use std::alloc::{AllocError, Global};
 use std::test::Fail;
 use std::thread;
@@ -107,33 +107,14 @@ const LIMITS: Limits = Limits {
 /// A journal with the records `A` and `B`.
 const TWO: &[u8] = b"PVJOURN1\x01\x00\x01A\x01\x00\x01B\x00";
 
-/// A fault of opening, without the disk's own failure.
-#[derive(Clone, Copy, Debug, PartialEq, Eq)]
-enum Fault {
-    Memory,
-    Disk,
-    NotFormatted([u8; 8]),
-    Broken { at: u64 },
-    TooMany { count: u64 },
-    Unreadable { number: u64 },
-}
-
-fn plain(fault: NodeFault<MemDisk>) -> Fault {
-    match fault {
-        NodeFault::Memory => Fault::Memory,
-        NodeFault::Disk(_) => Fault::Disk,
-        NodeFault::NotFormatted(first) => Fault::NotFormatted(first),
-        NodeFault::Broken { at } => Fault::Broken { at },
-        NodeFault::TooMany { count } => Fault::TooMany { count },
-        NodeFault::Unreadable { number } => Fault::Unreadable { number },
-    }
-}
+/// A fault of opening a node over a disk in memory.
+type Fault = NodeFault<MemDisk>;
 
 /// A node over such a disk, or why it is not opened.
 fn open(alloc: Global, disk: MemDisk, limits: Limits) -> Result<Node<Counting, MemDisk>, Fault> {
     match Node::open(alloc, disk, limits) {
         Ok(node) => Ok(node),
-        Err((fault, _)) => Err(plain(fault)),
+        Err((fault, _)) => Err(fault),
     }
 }
 
@@ -152,13 +133,13 @@ fn empty(alloc: Global, fails: &[u64]) -> Result<Node<Counting, MemDisk>, Fail> 
     open(alloc, disk, LIMITS).map_err(|_| Fail::from("not opened"))
 }
 
-/// The reply, and the place of the record that was stored; or the count at which the node is full.
-fn ask(node: &mut Node<Counting, MemDisk>, byte: u8) -> Result<(u64, Option<u64>), Option<u64>> {
-    match node.ask(&byte) {
-        Ok(told) => Ok((told.reply, told.number)),
-        Err(AskFault::Full { count }) => Err(Some(count)),
-        Err(AskFault::Disk(_)) => Err(None),
-    }
+/// The reply, and the place of the record that was stored.
+fn ask(
+    node: &mut Node<Counting, MemDisk>,
+    byte: u8,
+) -> Result<(u64, Option<u64>), AskFault<MemDisk>> {
+    let told = node.ask(&byte)?;
+    Ok((told.reply, told.number))
 }
 
 #[test]
@@ -196,7 +177,7 @@ fn a_node_is_full_at_its_limit_and_not_before(rt: HostRuntime) -> Result<(), Fai
     let mut node = open(rt.alloc(), disk, many).map_err(|_| Fail::from("not opened"))?;
     assert_eq!(rt; ask(&mut node, 65), Ok((0, Some(0))));
     assert_eq!(rt; ask(&mut node, 66), Ok((1, Some(1))));
-    assert_eq!(rt; ask(&mut node, 67), Err(Some(2)));
+    assert_eq!(rt; ask(&mut node, 67), Err(AskFault::Full { count: 2 }));
     assert_eq!(rt; ask(&mut node, 200), Ok((2, None)));
     assert_eq!(rt; node.count(), 2);
     Ok(())
@@ -247,7 +228,7 @@ fn a_disk_that_fails_while_it_is_read_is_reported(rt: HostRuntime) -> Result<(),
         let Err(found) = open(rt.alloc(), disk, LIMITS) else {
             return Err("opened".into());
         };
-        assert_eq!(rt; found, Fault::Disk, "call {failing} failed");
+        assert_eq!(rt; found, Fault::Disk(Failed), "call {failing} failed");
     }
     Ok(())
 }
@@ -257,11 +238,15 @@ fn a_record_in_hand_is_settled_before_the_next_judgement(rt: HostRuntime) -> Res
     // The calls 6 to 9 are those of the append: two writes, each with its sync.
     for (failing, stored) in [(6, 0), (7, 0), (8, 0), (9, 1)] {
         let mut node = empty(rt.alloc(), &[failing])?;
-        assert_eq!(rt; ask(&mut node, 65), Err(None), "call {failing} failed");
+        assert_eq!(rt;
+            ask(&mut node, 65),
+            Err(AskFault::Disk(Failed)),
+            "call {failing} failed"
+        );
         assert_eq!(rt; node.state().count, 0);
         assert_eq!(rt; ask(&mut node, 66), Ok((stored, Some(stored))));
         let mut other = empty(rt.alloc(), &[failing])?;
-        assert_eq!(rt; ask(&mut other, 65), Err(None));
+        assert_eq!(rt; ask(&mut other, 65), Err(AskFault::Disk(Failed)));
         assert_eq!(rt; other.settle()?, if stored == 1 { Some(65) } else { None });
         assert_eq!(rt; other.settle()?, None);
         assert_eq!(rt; other.count(), stored);

@@ -2,8 +2,8 @@ use Rattle.std.proofs.Common.{refl, rules, IsErr, ◌≡◌, ℕ, List, arith, I
 use Rattle.std.proofs.lemmas.Option.{IfSome_then}
 use Rattle.std.proofs.lemmas.Grind.{common_steps}
 use Rattle.pv_journal.specs.Journal.{ReadsOnly}
-use Rattle.pv_journal.proofs.Calls.{reads_once}
-use Rattle.pv_journal.proofs.CallerLemmas.{reads_most, reads_then}
+use Rattle.pv_journal.proofs.Calls.{reads_once, made_call}
+use Rattle.pv_journal.proofs.CallerLemmas.{reads_most, reads_then, made_then}
 use Rattle.pv_journal.proofs.Images.{if_both}
 use Rattle.pv_journal.proofs.Reading.{first_read}
 use Rattle.pv_journal.proofs.opening.first_bytes.Given.{Over}
@@ -24,21 +24,14 @@ reads_all g c =
     reads_then g.D.Reports (reads_len g (goal.at.After-read g c).After-len)
     (reads_once g.D.Reports (λ b. (refl, refl)) _ _ _ c.read.ensures.keeps)
 
-pub returns-in_err-sync-clause-reads_only : goal.returns-in_err-sync-clause-reads_only
-returns-in_err-sync-clause-reads_only g c =
-    reads_most g.D.Reports (omega arith) (search rules) (reads_sync g (goal.at.returns-in_err-sync-clause-reads_only g c).After-sync)
-
-pub returns-in_err-end-clause-reads_only : goal.returns-in_err-end-clause-reads_only
-returns-in_err-end-clause-reads_only g c =
-    reads_most g.D.Reports (omega arith) (search rules) (reads_len g (goal.at.returns-in_err-end-clause-reads_only g c).After-len)
-
-pub returns-in_err-read-clause-reads_only : goal.returns-in_err-read-clause-reads_only
-returns-in_err-read-clause-reads_only g c =
-    reads_most g.D.Reports (omega arith) (search rules) (reads_all g (goal.at.returns-in_err-read-clause-reads_only g c).After-read)
-
 pub returns-clause-reads_only : goal.returns-clause-reads_only
 returns-clause-reads_only g c =
     reads_most g.D.Reports (omega arith) (search rules) (reads_all g (goal.at.returns-clause-reads_only g c).After-read)
+
+pub returns-clause-made : goal.returns-clause-made
+returns-clause-made g c =
+    made_then g.D.Reports (made_then g.D.Reports (made_call g.D.Reports (λ b. (refl, refl)) _ _ _ c.sync.ensures.keeps.call (search rules)) (made_call g.D.Reports (λ b. (refl, refl)) _ _ _ c.len.ensures.keeps.call (search rules)))
+    (made_call g.D.Reports (λ b. (refl, refl)) _ _ _ c.read.ensures.keeps.call (search rules))
 
 pub returns-clause-bytes : goal.returns-clause-bytes
 returns-clause-bytes g c =

@@ -20,10 +20,6 @@ returns-clause-bytes g c =
     c.requires.long read in
     whole
 
-pub returns-in_err-read-clause-reads_only : goal.returns-in_err-read-clause-reads_only
-returns-in_err-read-clause-reads_only g c =
-    reads_most g.D.Reports (omega arith) (search rules) (reads_once g.D.Reports (λ b. (refl, refl)) _ _ _ c.read.ensures.keeps)
-
 pub returns-clause-reads_only : goal.returns-clause-reads_only
 returns-clause-reads_only g c =
     reads_most g.D.Reports (omega arith) (search rules) (reads_once g.D.Reports (λ b. (refl, refl)) _ _ _ c.read.ensures.keeps)

@@ -1,8 +1,8 @@
 use Rattle.std.proofs.Common.{◌≡◌, ℕ, Option, IfSome, List, [], true, false, Ok, refl, sym, ◌∙◌, ap, subst, arith, rules}
 use Rattle.pv_node.specs.Standing.{DiskStands, Meets}
 use Rattle.pv_node.specs.Opening.{HasAll, IsOutside, FaultShows}
-use Rattle.pv_journal.proofs.CallerLemmas.{reads_none, reads_most, reads_then}
-use Rattle.pv_node.proofs.Reading.{goes_on, all_of, fails_outside, fault_shows}
+use Rattle.pv_journal.proofs.CallerLemmas.{reads_none, reads_most, reads_then, made_none}
+use Rattle.pv_node.proofs.Reading.{goes_on, made_all, all_of, fails_outside, fault_shows}
 use Rattle.pv_journal.proofs.Images.{if_both}
 use Rattle.pv_node.proofs.replay.replay.Goals as goal
 
@@ -13,6 +13,7 @@ loop-init g c = record {
   limit = refl;
   limits = refl;
   reads = reads_none g.D.Reports _ (λ never. never);
+  made = made_none g.D.Reports _ (omega (arith, c.requires.reading.journal.counted.count));
   begins = λ all stands. (all, refl);
 }
 
@@ -45,11 +46,16 @@ loop-preserved g c =
     let so_far = c.loop.invariant in
     let is : c.take_next.result ≡ Ok true = c.in_ok-take_next.was ∙ ap Ok c.if-branch.true in
     let took = c.take_next.ensures.took is so_far.records so_far.read in
-    goes_on g.R.Rules g.D.Reports _ _ _ _ _ _ took.0 so_far took.1 took.2 c.take_next.ensures.limit c.take_next.ensures.limits (c.take_next.ensures.counts is).1 (λ never. absurd never) c.take_next.ensures.reads_only
+    goes_on g.R.Rules g.D.Reports _ _ _ _ _ _ took.0 so_far took.1 took.2 c.take_next.ensures.limit c.take_next.ensures.limits (c.take_next.ensures.counts is).1 (λ never. absurd never) c.take_next.ensures.reads_only c.in_ok-take_next.ensures.made
 
 pub returns-clause-reads_only : goal.returns-clause-reads_only
 returns-clause-reads_only g c =
     reads_most g.D.Reports (omega (arith, c.take_next.ensures.goes_up)) (λ fails. absurd fails) (reads_then g.D.Reports c.loop.invariant.reads c.take_next.ensures.reads_only)
+
+pub returns-clause-made : goal.returns-clause-made
+returns-clause-made g c =
+    let is : c.take_next.result ≡ Ok false = c.in_ok-take_next.was ∙ ap Ok c.if-branch.false in
+    made_all g.R.Rules g.D.Reports _ _ _ _ _ _ c.loop.invariant (c.take_next.ensures.ended is c.loop.invariant.records c.loop.invariant.read).0 c.in_ok-take_next.ensures.made
 
 pub returns-clause-found : goal.returns-clause-found
 returns-clause-found g c = λ records stands.

@@ -64,3 +64,12 @@ returns-in-Err-clause-shown g c = λ records read.
     let r : StopShows g.R.Rules (g.R.Rules.limits_of c.args.state.now) text records c.args.state.now c.of_node.result =
     subst (λ fault. StopShows g.R.Rules (g.R.Rules.limits_of c.args.state.now) text records c.args.state.now fault) (sym c.of_node.ensures.value)
     (stop_shows g.R.Rules g.D.Reports c.args.journal.now (g.R.Rules.limits_of c.args.state.now) c.args.state.now records text c.next.new.into c.in-Err.fault read c.requires.limit c.in-Err.ensures.answer shows) in r)
+
+-- a journal that is being read makes its call
+pub returns-then-absorb_spelled-clause-made : goal.returns-then-absorb_spelled-clause-made
+returns-then-absorb_spelled-clause-made g c =
+    let at = rw c.in-Ok-Some.field-0-is at c.in-Ok-Some.ensures in at.made c.requires.so_far.1.journal.phase
+
+pub returns-in-Ok-None-clause-made : goal.returns-in-Ok-None-clause-made
+returns-in-Ok-None-clause-made g c =
+    let at = rw c.in-Ok-None.field-0-is at c.in-Ok-None.ensures in at.made c.requires.so_far.1.journal.phase

@@ -1,12 +1,11 @@
 use Rattle.std.proofs.Common.{◌⊎◌, inr, ℕ, ◌+◌, ◌<◌, length, [], ◌∷◌, ◌++◌, refl, sym, ◌∙◌, ap, subst, arith, rules}
-use Rattle.std.proofs.lemmas.List.Elements.{All-push}
 use Rattle.std.specs.Option.{option_map}
 use Rattle.pv_outside.specs.Disk.{text_after_write}
 use Rattle.pv_journal.specs.Log.{Log}
-use Rattle.pv_journal.specs.declared.journal.Phase.TheVariants.{Resting, InHand}
-use Rattle.pv_journal.specs.Appending.{IsAppended, IsTakenInHand}
+use Rattle.pv_journal.specs.declared.journal.Phase.TheVariants.{Resting}
+use Rattle.pv_journal.specs.Appending.{IsAppended}
 use Rattle.pv_journal.specs.Journal.{HasLeft, HasMade, LeavesOnly, Holds, Spends}
-use Rattle.pv_journal.specs.Text.{IsBody, block, Spells}
+use Rattle.pv_journal.specs.Text.{block, Spells}
 use Rattle.pv_journal.proofs.Counted.{counted_more}
 use Rattle.pv_journal.proofs.CallerLemmas.{count_within, spends_most, too_few}
 use Rattle.pv_journal.proofs.Moments.{only_none}
@@ -34,25 +33,6 @@ returns-clause-appended g c =
           ∙ ap (λ (n : ℕ). option_map (text_after_write n (block c.args.body.now ++ 0 ∷ [])) (g.D.Reports.reads c.self.inside.disk)) held.counted.gate;
     } in
     subst (λ v. IsAppended g.D.Reports v new c.args.body.now c.self.inside.count) c.self.view_is appended
-
-pub returns-in-Err-clause-refused : goal.returns-in-Err-clause-refused
-returns-in-Err-clause-refused g c =
-    let within = count_within c.self.inside.phase _ _ c.self.invariant.counted in
-    let room : c.self.inside.count < c.self.inside.limit = omega (arith, within) in
-    let old : Log g.row.D.Denot = record { disk = c.self.inside.disk; limit = c.self.inside.limit; count = c.self.inside.count; gate = c.self.inside.gate; phase = c.self.inside.phase } in
-    let new : Log g.row.D.Denot = record old { disk = c.store.new.disk; phase = InHand (length c.args.body.now) } in
-    let taken : IsTakenInHand g.D.Reports old new c.args.body.now = record {
-      room = room;
-      same_count = refl;
-      hand = refl;
-      holds = λ bodies held. record {
-        phase = refl;
-        counted = record { count = held.counted.count; gate = held.counted.gate; sizes = held.counted.sizes };
-        sizes = All-push IsBody [] c.args.body.now (λ k d h. omega arith) c.requires.size;
-        images = (c.store.ensures.moments bodies held.counted.gate held.images).now;
-      };
-    } in
-    subst (λ v. IsTakenInHand g.D.Reports v new c.args.body.now) c.self.view_is taken
 
 pub returns-in-Err-clause-spends : goal.returns-in-Err-clause-spends
 returns-in-Err-clause-spends g c =

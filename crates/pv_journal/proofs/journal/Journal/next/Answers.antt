@@ -77,13 +77,6 @@ returns-in-Broken-clause-shown g c = λ bodies reading_now.
     subst (λ v. IfSome (g.D.Reports.reads v.disk) (λ text. (c.self.inside.gate ≡ length (text_of bodies)) × HasBrokenBlock (drop (length (text_of bodies)) text))) c.self.view_is
     (IfSome_then _ here (λ text broken. let r : (c.self.inside.gate ≡ length (text_of bodies)) × HasBrokenBlock (drop (length (text_of bodies)) text) = (reading.counted.gate, subst (λ (n : ℕ). HasBrokenBlock (drop n text)) reading.counted.gate broken) in r))
 
-pub returns-in-Closed-clause-shown : goal.returns-in-Closed-clause-shown
-returns-in-Closed-clause-shown g c = λ bodies reading_now.
-    let reading = subst (λ v. IsReading g.D.Reports v bodies) (sym c.self.view_is) reading_now in
-    let here = closed_here g (goal.at.returns-in-Closed-clause-shown g c).In-Closed in
-    subst (λ v. IfSome (g.D.Reports.reads v.disk) (λ text. HasNoOpenGate (drop (length (text_of bodies)) text))) c.self.view_is
-    (subst (λ (n : ℕ). IfSome (g.D.Reports.reads c.self.inside.disk) (λ text. HasNoOpenGate (drop n text))) reading.counted.gate here)
-
 pub returns-in-Broken-clause-spelled : goal.returns-in-Broken-clause-spelled
 returns-in-Broken-clause-spelled g c = λ bodies more reading_now spelled_now.
     let reading = subst (λ v. IsReading g.D.Reports v bodies) (sym c.self.view_is) reading_now in

@@ -25,14 +25,6 @@ reads_both g c =
 pub returns-in_default-clause-reads_only : goal.returns-in_default-clause-reads_only
 returns-in_default-clause-reads_only g c = reads_none g.D.Reports _ (search rules)
 
-pub returns-in_err-sync-clause-reads_only : goal.returns-in_err-sync-clause-reads_only
-returns-in_err-sync-clause-reads_only g c =
-    reads_most g.D.Reports (omega arith) (search rules) (reads_sync g (goal.at.returns-in_err-sync-clause-reads_only g c).After-sync)
-
-pub returns-in_err-read-clause-reads_only : goal.returns-in_err-read-clause-reads_only
-returns-in_err-read-clause-reads_only g c =
-    reads_most g.D.Reports (omega arith) (search rules) (reads_both g (goal.at.returns-in_err-read-clause-reads_only g c).After-read)
-
 pub returns-then-gate-ne1-clause-reads_only : goal.returns-then-gate-ne1-clause-reads_only
 returns-then-gate-ne1-clause-reads_only g c =
     reads_most g.D.Reports (omega arith) (search rules) (reads_both g (goal.at.returns-then-gate-ne1-clause-reads_only g c).After-read)

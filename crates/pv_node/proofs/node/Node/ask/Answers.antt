@@ -30,14 +30,14 @@ returns-in-Err-clause-never_fails g c = λ records stands endless is.
 pub returns-in-Ok-clause-moments : goal.returns-in-Ok-clause-moments
 returns-in-Ok-clause-moments g c = λ records stands.
     let judged = c.decide-decision.ensures ∙ ap (λ v. g.R.Rules.judgement v.state c.args.request.now) c.self.view_is in
-    let settling = only_weaker g.D.Reports {old = c.args.self.now.journal.disk} {new = c.settle.new.self.journal.disk} {P = StandsEither g.R.Rules records c.args.self.now.hand} {Q = AskLeaves g.R.Rules g.D.Reports c.args.request.now c.args.self.now records} (λ image either. inl either) (c.settle.ensures.moments records stands) in
-    let carried = only_weaker g.D.Reports {old = c.settle.new.self.journal.disk} {new = c.carry_out.new.self.journal.disk} {Q = AskLeaves g.R.Rules g.D.Reports c.args.request.now c.args.self.now records} (λ image either. inr (c.settle.new.self, c.in-Ok.field-0, c.in-Ok.ensures.settled, subst (λ decision. StandsEither g.R.Rules (records_with records c.in-Ok.field-0) (to_store decision) image) judged either))
+    let settling = only_weaker g.D.Reports {old = c.args.self.now.journal.disk} {new = c.settle.new.self.journal.disk} {P = StandsEither g.R.Rules records c.args.self.now.hand} {Q = AskLeaves g.R.Rules g.D.Reports c.args.request.now c.args.self.now records} (λ told image either. inl either) (c.settle.ensures.moments records stands) in
+    let carried = only_weaker g.D.Reports {old = c.settle.new.self.journal.disk} {new = c.carry_out.new.self.journal.disk} {Q = AskLeaves g.R.Rules g.D.Reports c.args.request.now c.args.self.now records} (λ told image either. inr (c.settle.new.self, c.in-Ok.field-0, c.in-Ok.ensures.settled, subst (λ decision. StandsEither g.R.Rules (records_with records c.in-Ok.field-0) (to_store decision) image) judged either))
     (c.carry_out.ensures.moments (records_with records c.in-Ok.field-0) (stands_then g.R.Rules g.D.Reports c.args.self.now c.settle.new.self c.in-Ok.field-0 c.in-Ok.ensures.settled records stands)) in
     only_then g.D.Reports {first = c.args.self.now.journal.disk} {second = c.settle.new.self.journal.disk} {third = c.carry_out.new.self.journal.disk} settling carried.time carried.now
 
 pub returns-in-Err-clause-moments : goal.returns-in-Err-clause-moments
 returns-in-Err-clause-moments g c =
-    λ records stands. only_weaker g.D.Reports (λ image either. inl either) (c.settle.ensures.moments records stands)
+    λ records stands. only_weaker g.D.Reports (λ told image either. inl either) (c.settle.ensures.moments records stands)
 
 pub returns-in-Ok-clause-few : goal.returns-in-Ok-clause-few
 returns-in-Ok-clause-few g c =

@@ -1,8 +1,8 @@
-use Rattle.std.proofs.Common.{◌+◌, sym, subst, arith, rules}
-use Rattle.pv_journal.specs.Journal.{ReadsOnly}
+use Rattle.std.proofs.Common.{◌≡◌, ℕ, ◌+◌, sym, subst, arith, rules}
+use Rattle.pv_journal.specs.Journal.{HasMade, ReadsOnly}
 use Rattle.pv_node.specs.Opening.{IsOpenDiskFault, ReadingFails}
 use Rattle.pv_node.proofs.Rooms.{meets_none}
-use Rattle.pv_journal.proofs.CallerLemmas.{reads_none, reads_most, reads_then}
+use Rattle.pv_journal.proofs.CallerLemmas.{reads_none, reads_most, reads_then, made_then}
 use Rattle.pv_journal.proofs.Moments.{only_none, only_remains}
 use Rattle.pv_node.proofs.Reading.{disk_fault}
 use Rattle.pv_node.proofs.node.Node.open.Given.{Over}
@@ -45,6 +45,11 @@ returns-in-Err-replay-clause-moments_refused g c =
 pub returns-clause-reads_only : goal.returns-clause-reads_only
 returns-clause-reads_only g c =
     reads_most g.D.Reports (omega arith) (λ never. absurd never) (reads_both g (goal.at.returns-clause-reads_only g c).After-replay)
+
+pub returns-clause-made : goal.returns-clause-made
+returns-clause-made g c =
+    subst (λ (n : ℕ). HasMade g.D.Reports n c.args.disk c.replay.new.journal.disk) (let e : 3 + (c.replay.new.journal.count + 1) ≡ c.replay.new.journal.count + 4 = omega arith in e)
+    (made_then g.D.Reports c.in-Ok-start.ensures.made c.in_default-replay.ensures.made)
 
 pub returns-in_default-clause-handed_back : goal.returns-in_default-clause-handed_back
 returns-in_default-clause-handed_back g c = reads_none g.D.Reports _ (λ fails. fails)

@@ -59,7 +59,7 @@ moments g c records stands_now =
     let stands = subst (λ v. StandsFor g.R.Rules g.D.Reports v records) (sym c.self.view_is) stands_now in
     let only = c.append.ensures.moments (map g.R.Rules.spelling records) (holds_at_rest g.R.Rules g.D.Reports (seen g c) records stands none) in
     subst (λ v. LeavesOnly g.D.Reports v.journal.disk c.append.new.self.disk (StandsEither g.R.Rules records (Some c.args.rec.now))) c.self.view_is
-    (only_weaker g.D.Reports (either g.R.Rules g.D.Reports records c.args.rec.now stands.each c.requires.spelled)
+    (only_weaker g.D.Reports (λ told. either g.R.Rules g.D.Reports records c.args.rec.now stands.each c.requires.spelled)
     (subst (λ (b : List ℕ). LeavesOnly g.D.Reports c.self.inside.journal.disk c.append.new.self.disk (SpellsEither (map g.R.Rules.spelling records) (b ∷ []))) c.spell-size.ensures.spelled only))
 
 pub returns-in-Ok-clause-moments : goal.returns-in-Ok-clause-moments
