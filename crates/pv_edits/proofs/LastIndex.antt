@@ -1,7 +1,7 @@
 -- The last record that passes a test is found by a search from the end.
-use Rattle.std.proofs.Common.{◌≡◌, ℕ, zero, suc, ◌<◌, Bool, true, false, List, [], ◌∷◌, length, get_or, Some, None, refl, arith}
+use Rattle.std.proofs.Common.{◌≡◌, ℕ, zero, suc, ◌<◌, Bool, true, false, cond, List, [], ◌∷◌, ◌++◌, length, get_or, Option, Some, None, refl, arith}
 use Rattle.pv_edits.specs.declared.record.Record.{Record}
-use Rattle.pv_edits.specs.Edits.{last_index}
+use Rattle.pv_edits.specs.Edits.{last_index, later_or_first}
 
 module _ (test : Record → Bool) where
   -- no record passes
@@ -24,3 +24,27 @@ module _ (test : Record → Bool) where
       → ((k : ℕ) (e : Record) → i < k → k < length records → test (get_or records k e) ≡ false) → last_index test records ≡ Some i
   last_index-at [] i within passes later = absurd (omega arith)
   last_index-at (x ∷ xs) i within passes later = at (x ∷ xs) i x within (passes x) later
+
+  -- the index that is found is one of the list's
+  pub last_index-within : (records : List Record) (i : ℕ) → last_index test records ≡ Some i → i < length records
+  last_index-within [] i is = absurd cc
+  last_index-within (x ∷ xs) i is = by (last_index test xs) (last_index-within xs) i is
+    where
+      by : (o : Option ℕ) → ((k : ℕ) → o ≡ Some k → k < length xs) → (i : ℕ) → later_or_first (test x) o ≡ Some i → i < suc (length xs)
+      by (Some k) inside i is = let within = inside k refl in let same : suc k ≡ i = cc in omega (arith, within, same)
+      by None inside i is = first (test x) i is
+        where
+          first : (passes : Bool) (i : ℕ) → cond passes (Some 0) None ≡ Some i → i < suc (length xs)
+          first true i is = let same : 0 ≡ i = cc in omega (arith, same)
+          first false i is = absurd cc
+
+  -- the last record counts if it passes
+  pub last_index-push : (records : List Record) (edit : Record)
+      → last_index test (records ++ edit ∷ []) ≡ cond (test edit) (Some (length records)) (last_index test records)
+  last_index-push [] edit = refl
+  last_index-push (x ∷ xs) edit = rw (last_index-push xs edit) (by (test edit))
+    where
+      by : (passes : Bool) → later_or_first (test x) (cond passes (Some (length xs)) (last_index test xs))
+          ≡ cond passes (Some (suc (length xs))) (later_or_first (test x) (last_index test xs))
+      by true = refl
+      by false = refl

@@ -1,5 +1,6 @@
 pub mod CallerLemmas
 mod Counting
 mod Facts
+mod Growing
 mod LastIndex
 mod OneSpelling

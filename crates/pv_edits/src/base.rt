@@ -1,5 +1,6 @@
-ghost use Rattle.std.specs.Prelude.{◌≡◌, ℕ, ◌+◌, ◌<◌, ◌≤◌, ◌↔◌, List, [], ◌∷◌, ◌++◌, ◌||◌, nat_lt, length, is_some, option_copied, option_map, IfOk, IfSome, IsTrue};
+ghost use Rattle.std.specs.Prelude.{◌≡◌, ℕ, ◌+◌, ◌<◌, ◌≤◌, ◌↔◌, List, [], ◌∷◌, ◌++◌, ◌||◌, nat_lt, length, slice_get, is_some, option_copied, option_map, IfOk, IfSome, IsTrue};
 ghost use Rattle.std.specs.Vec.{vec_capacity};
+ghost use Rattle.pv_frame.specs.Errors.{IsValid};
 ghost use Rattle.pv_edits.specs.declared.record.Record.{Record};
 ghost use Rattle.pv_edits.specs.OpenPages.{is_open_to};
 ghost use Rattle.pv_edits.specs.Room.{frame_count, frames_after, account_count, accounts_after, lease_count, leases_after, has_editor, has_room};
@@ -7,7 +8,7 @@ ghost use Rattle.pv_edits.specs.Edits.{is_about, leases, last_index, frame_at, f
 
 use crate::owner::lot_of;
 use crate::record::Record;
-use crate::room::{MAX_ACCOUNTS, MAX_LEASES};
+use crate::room::{MAX_ACCOUNTS, MAX_LEASES, OPERATOR};
 use crate::subject::{Subject, is_about};
 use pv_account::{Account, Groups, digest};
 use pv_frame::Frame;
@@ -17,7 +18,7 @@ use std::alloc::{AllocError, Global};
 
 /// The frames, the accounts, the leases and the editors' numbers of a list of records. All room is
 /// reserved when it is opened.
-#[derive(Drop)]
+#[derive(Debug, Drop)]
 pub struct Base {
     records: Vec<Record>,
     places: Vec<u64>,
@@ -77,9 +78,34 @@ impl Base {
         self.leased = leased;
     }
 
+    /// How many records were absorbed.
+    pub fn count(&self) -> u64
+        ensures { (records : List Record) (places : List ℕ) → IsBaseOf self.now records places →
+            result ≡ length records }
+    {
+        self.records.len() as u64
+    }
+
+    /// The record at an index, in the order in which they were absorbed. `None` exactly from the count
+    /// on.
+    pub fn record_at(&self, index: u64) -> Option<&Record>
+        ensures { (records : List Record) (places : List ℕ) → IsBaseOf self.now records places →
+            option_copied result ≡ slice_get records index }
+    {
+        self.records.get(index as usize)
+    }
+
+    /// The limits that it was opened with.
+    pub fn limits(&self) -> Limits
+        ensures { result ≡ self.now.limits }
+    {
+        self.limits
+    }
+
     /// The frame of a name. `None` exactly when it has none.
     pub fn get(&self, name: FrameName) -> Option<&Frame>
-        ensures { (records : List Record) (places : List ℕ) → IsBaseOf self.now records places →
+        ensures valid { IfSome result (λ frame. IsValid frame.now) }
+        ensures frame { (records : List Record) (places : List ℕ) → IsBaseOf self.now records places →
             option_copied result ≡ frame_at records name }
     {
         self.find_frame(name)
@@ -88,7 +114,8 @@ impl Base {
     /// The frame of a name, if it is open to the account: if its group is 0 or one of the account's.
     /// `None` exactly when there is no such frame.
     pub fn open_to(&self, account: &Account, name: FrameName) -> Option<&Frame>
-        ensures { (records : List Record) (places : List ℕ) → IsBaseOf self.now records places →
+        ensures valid { IfSome result (λ frame. IsValid frame.now) }
+        ensures frame { (records : List Record) (places : List ℕ) → IsBaseOf self.now records places →
             option_copied result ≡ open_frame_at records account.now.groups name }
     {
         let frame = self.find_frame(name)?;
@@ -140,7 +167,8 @@ impl Base {
 
     /// The frame of a name.
     fn find_frame(&self, name: FrameName) -> Option<&Frame>
-        ensures { option_copied result ≡ frame_at self.now.records.items name }
+        ensures valid { IfSome result (λ frame. IsValid frame.now) }
+        ensures frame { option_copied result ≡ frame_at self.now.records.items name }
     {
         let index = self.last_about(Subject::Name(name))?;
         frame_in(&self.records[index])
@@ -152,7 +180,7 @@ impl Base {
     {
         match self.last_about(Subject::Account(number)) {
             Some(index) => account_in(&self.records[index]),
-            None if number.number() == 0 => Some(&self.operator),
+            None if number.number() == OPERATOR => Some(&self.operator),
             None => None,
         }
     }
@@ -308,7 +336,8 @@ fn is_open_to(account: &Account, frame: &Frame) -> bool
 
 /// The frame that the record gives its name.
 fn frame_in(edit: &Record) -> Option<&Frame>
-    ensures { option_copied result ≡ frame_in edit.now }
+    ensures valid { IfSome result (λ frame. IsValid frame.now) }
+    ensures frame { option_copied result ≡ frame_in edit.now }
 {
     match edit {
         Record::Put { frame, .. } => Some(frame.frame()),
@@ -344,7 +373,7 @@ fn number_in(edit: &Record) -> Option<u32>
 fn operator() -> Account
     ensures { result ≡ operator_profile }
 {
-    let number = AccountNo::of_number(0).unwrap();
+    let number = AccountNo::of_number(OPERATOR).unwrap();
     Account {
         number,
         digest: digest(number, b"0000"),
