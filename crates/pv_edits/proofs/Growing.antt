@@ -1,26 +1,13 @@
 -- What one record more does to an editor's last edit, and the operator's account, which stays.
-use Rattle.std.proofs.Common.{◌≡◌, ℕ, zero, suc, ◌<◌, Bool, true, false, cond, List, [], ◌∷◌, ◌++◌, length, Option, Some, None, refl, arith}
+use Rattle.std.proofs.Common.{◌≡◌, ℕ, Bool, true, false, cond, List, [], ◌∷◌, ◌++◌, length, Option, Some, None, refl, arith}
 use Rattle.std.specs.Prelude.{slice_get, option_map, is_some}
 use Rattle.pv_fields.specs.Reading.{◌>>=◌}
-use Rattle.pv_account.specs.Profile.{Profile}
 use Rattle.pv_edits.specs.declared.record.Record.{Record}
 use Rattle.pv_edits.specs.declared.record.Record.TheVariants.{Put, Drop, Account, Lease, Taken}
 use Rattle.pv_edits.specs.declared.room.TheConstants.{OPERATOR}
-use Rattle.pv_edits.specs.Edits.{is_edit_of, makes, last_index, later_or_first, last_of, number_in, account_in, account_or_first}
+use Rattle.pv_edits.specs.Edits.{is_edit_of, makes, last_index, last_of, number_in, account_in, account_or_first}
 use Rattle.pv_edits.specs.Room.{has_editor}
-use Rattle.pv_edits.proofs.LastIndex.{last_index-within, last_index-push}
-
--- what is at a place stays there in a longer list
-get_before : {X : Type 0} (xs ys : List X) (i : ℕ) → i < length xs → slice_get (xs ++ ys) i ≡ slice_get xs i
-get_before [] ys i within = absurd (omega (arith, within))
-get_before (x ∷ xs) ys zero within = refl
-get_before (x ∷ xs) ys (suc i) within = get_before xs ys i (omega (arith, within))
-
--- the last element is at the end
-get_at_end : {X : Type 0} (xs : List X) (x : X) (n : ℕ) → length xs ≡ n → slice_get (xs ++ x ∷ []) n ≡ Some x
-get_at_end [] x n is = rw (← is) refl
-get_at_end (y ∷ xs) x zero is = absurd (omega (arith, is))
-get_at_end (y ∷ xs) x (suc n) is = get_at_end xs x n (omega (arith, is))
+use Rattle.pv_edits.proofs.LastIndex.{get_before, get_at_end, last_index-within, last_passes, last_index-push}
 
 -- ---- an editor's last edit
 
@@ -48,21 +35,6 @@ module _ (records : List Record) (places : List ℕ) (edit : Record) (place edit
       by false = before (last_index (is_edit_of editor) records) refl
 
 -- ---- the operator's account
-
--- the last record that passes a test passes it
-last_passes : (test : Record → Bool) (records : List Record) (i : ℕ) (edit : Record) → last_index test records ≡ Some i
-    → slice_get records i ≡ Some edit → test edit ≡ true
-last_passes test [] i edit is there = absurd cc
-last_passes test (x ∷ xs) i edit is there = by (last_index test xs) refl is (last_passes test xs)
-  where
-    first : (passes : Bool) → test x ≡ passes → cond passes (Some 0) None ≡ Some i → test edit ≡ true
-    first true passed here = let at : i ≡ 0 = cc in let same : Some x ≡ Some edit = rw at at there in let is : x ≡ edit = cc in rw (← is) passed
-    first false other here = absurd cc
-
-    by : (later : Option ℕ) → last_index test xs ≡ later → later_or_first (test x) later ≡ Some i
-        → ((k : ℕ) (e : Record) → last_index test xs ≡ Some k → slice_get xs k ≡ Some e → test e ≡ true) → test edit ≡ true
-    by (Some k) found same again = let next : i ≡ suc k = cc in again k edit found (rw next at there)
-    by None found same again = first (test x) refl same
 
 -- a record of an account makes one
 makes_account : (number : ℕ) (edit : Record) → makes number edit ≡ true → is_some (account_in edit) ≡ true

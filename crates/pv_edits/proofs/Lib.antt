@@ -1,4 +1,5 @@
 pub mod CallerLemmas
+mod Chains
 mod Counting
 mod Facts
 mod Growing

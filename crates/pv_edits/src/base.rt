@@ -4,12 +4,14 @@ ghost use Rattle.pv_frame.specs.Errors.{IsValid};
 ghost use Rattle.pv_edits.specs.declared.record.Record.{Record};
 ghost use Rattle.pv_edits.specs.OpenPages.{is_open_to};
 ghost use Rattle.pv_edits.specs.Room.{frame_count, frames_after, account_count, accounts_after, lease_count, leases_after, has_editor, has_room};
-ghost use Rattle.pv_edits.specs.Edits.{is_about, leases, last_index, frame_at, frame_in, account_at, account_in, last_of, number_in, operator_profile};
+ghost use Rattle.pv_edits.specs.Chain.{IsChained};
+ghost use Rattle.pv_edits.specs.Edits.{is_about, is_edit_of, leases, last_index, frame_at, frame_in, account_at, account_in, last_of, number_in, operator_profile};
 
+use crate::chain::{BUCKETS, bucket_in, last_in_bucket};
 use crate::owner::lot_of;
 use crate::record::Record;
 use crate::room::{MAX_ACCOUNTS, MAX_LEASES, OPERATOR};
-use crate::subject::{Subject, is_about};
+use crate::subject::{Subject, is_edit_of};
 use pv_account::{Account, Groups, digest};
 use pv_frame::Frame;
 use pv_outside::Limits;
@@ -17,7 +19,8 @@ use pv_page::{AccountNo, FrameName, PageNo};
 use std::alloc::{AllocError, Global};
 
 /// The frames, the accounts, the leases and the editors' numbers of a list of records. All room is
-/// reserved when it is opened.
+/// reserved when it is opened. A search goes through the records of one bucket, and for an editor's
+/// last edit from the last record back.
 #[derive(Debug, Drop)]
 pub struct Base {
     records: Vec<Record>,
@@ -27,12 +30,16 @@ pub struct Base {
     frames: u32,
     accounts: u32,
     leased: u32,
+    heads: Vec<usize>,
+    links: Vec<usize>,
     ghost paired: { length places.items ≡ length records.items },
-    ghost reserved: { (limits.records ≤ vec_capacity records) × (limits.records ≤ vec_capacity places) },
+    ghost reserved: { (limits.records ≤ vec_capacity records) × (limits.records ≤ vec_capacity places)
+        × (limits.records ≤ vec_capacity links) },
     ghost opening: { operator ≡ operator_profile },
     ghost frames_counted: { frames ≡ frame_count records.items },
     ghost accounts_counted: { accounts ≡ account_count records.items },
     ghost leases_counted: { leased ≡ lease_count records.items },
+    ghost chained: { IsChained heads.items links.items records.items },
 }
 
 impl Base {
@@ -55,6 +62,8 @@ impl Base {
             frames: 0,
             accounts: 1,
             leased: 0,
+            heads: vec![in alloc; 0; BUCKETS]?,
+            links: Vec::with_capacity(alloc, room)?,
         })
     }
 
@@ -71,8 +80,12 @@ impl Base {
         let frames = self.frames_after(rec);
         let accounts = self.accounts_after(rec);
         let leased = self.leases_after(rec);
+        let bucket = bucket_in(rec);
+        let before = self.heads[bucket];
         self.records.push_reserved(*rec);
         self.places.push_reserved(place);
+        self.links.push_reserved(before);
+        self.heads[bucket] = self.records.len();
         self.frames = frames;
         self.accounts = accounts;
         self.leased = leased;
@@ -319,10 +332,21 @@ impl Base {
         ensures last { result ≡ last_index (is_about subject) self.now.records.items }
         ensures within { IfSome result (λ index. index < length self.now.records.items) }
     {
+        match subject {
+            Subject::Editor(account) => self.last_edit_of(account),
+            _ => last_in_bucket(&self.records, &self.heads, &self.links, &subject),
+        }
+    }
+
+    /// The index of an editor's last edit.
+    fn last_edit_of(&self, account: AccountNo) -> Option<usize>
+        ensures last { result ≡ last_index (is_edit_of account) self.now.records.items }
+        ensures within { IfSome result (λ index. index < length self.now.records.items) }
+    {
         let index = self
             .records
             .iter()
-            .rposition(|edit| is_about(edit, subject))?;
+            .rposition(|edit| is_edit_of(edit, account))?;
         Some(index)
     }
 }

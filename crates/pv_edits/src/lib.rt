@@ -12,6 +12,7 @@
 #![tactic(auto)]
 
 mod base;
+mod chain;
 mod down;
 mod law;
 mod owner;
