@@ -20,7 +20,7 @@ use Rattle.pv_udc.specs.declared.refusal.Refusal.TheVariants.{BadNumber, BadFram
 use Rattle.pv_udc.specs.declared.reply.Code.{Code}
 use Rattle.pv_udc.specs.declared.reply.UdcReply.TheVariants.{Stored, Again, Old, Early, Refused}
 use Rattle.pv_udc.specs.declared.request.UdcRequest.TheVariants.{Edit, TakeUp}
-use Rattle.pv_udc.specs.declared.state.TheConstants.{OPERATOR, CENTRES}
+use Rattle.pv_udc.specs.declared.state.TheConstants.{CENTRES}
 
 -- the operator is account 0, and there can be four centres
 pub operator : OPERATOR ≡ 0
