@@ -1,3 +1,4 @@
+pub mod CallerLemmas
 mod Deciding
 mod Facts
 mod Growing

@@ -4,6 +4,7 @@ use Rattle.pv_outside.specs.declared.limits.Limits.{Limits}
 use Rattle.pv_fields.specs.Refusals.{first_of}
 use Rattle.pv_fields.proofs.CallerLemmas.{some_if-none, option_map-none_back}
 use Rattle.pv_frame.specs.Errors.{error_of}
+use Rattle.pv_post.specs.declared.item.Item.{Item}
 use Rattle.pv_edits.specs.Record.{IsRecord, IsEditor}
 use Rattle.pv_edits.specs.Room.{has_editor, has_room, frame_fits, account_fits, lease_fits}
 use Rattle.pv_edits.specs.declared.room.TheConstants.{MAX_ACCOUNTS, MAX_LEASES}
@@ -23,33 +24,55 @@ use Rattle.pv_udc.proofs.Deciding.{of_not, all_none, is_stored, is_done}
 both : (one other : Bool) → one ≡ true → other ≡ true → (one && other) ≡ true
 both one other is also = rw (is, also) refl
 
-module _ (limits : Limits) (records : List Record) (editor q : ℕ) (is : IsEditor editor q) (known : has_editor records editor ≡ true) where
-  -- the record of a wish that is not refused
-  wished : (wish : EditWish) → IsWish wish → refusal_of limits records editor q wish ≡ None
-      → IsRecord (edit_of editor q wish) × (has_room limits records (edit_of editor q wish) ≡ true)
-  wished (Put name frame) ranges none =
+module _ (limits : Limits) (records : List Record) (editor q : ℕ) where
+  -- there is room for the record of a wish that is not refused
+  room_wished : (wish : EditWish) → has_editor records editor ≡ true → refusal_of limits records editor q wish ≡ None
+      → has_room limits records (edit_of editor q wish) ≡ true
+  room_wished (Put name frame) known none =
       let missing = all_none (refusals_of limits records editor q (Put name frame)) none in
-      let fits : frame_fits limits records name ≡ true = of_not _ (some_if-none _ (FramesFull limits.frames) missing.1.1.0) in
-      let valid = option_map-none_back BadFrame (error_of frame) missing.1.1.1.0 in
-      ((is, (ranges.0, record { holds = ranges.1; valid = valid })), both _ _ known fits)
-  wished (Drop name) ranges none = ((is, ranges), known)
-  wished (Account account) ranges none =
+      both _ _ known (of_not _ (some_if-none _ (FramesFull limits.frames) missing.1.1.0))
+  room_wished (Drop name) known none = known
+  room_wished (Account account) known none =
       let missing = all_none (refusals_of limits records editor q (Account account)) none in
-      let fits : account_fits records account.number ≡ true = of_not _ (some_if-none _ (AccountsFull MAX_ACCOUNTS) missing.1.0) in
-      ((is, ranges), both _ _ known fits)
-  wished (Lease root account) ranges none =
+      both _ _ known (of_not _ (some_if-none _ (AccountsFull MAX_ACCOUNTS) missing.1.0))
+  room_wished (Lease root account) known none =
       let missing = all_none (refusals_of limits records editor q (Lease root account)) none in
-      let fits : lease_fits records root ≡ true = of_not _ (some_if-none _ (LeasesFull MAX_LEASES) missing.1.1.0) in
-      ((is, ranges), both _ _ known fits)
+      both _ _ known (of_not _ (some_if-none _ (LeasesFull MAX_LEASES) missing.1.1.0))
 
--- a record that is stored
-pub has_room-stored : (limits : Limits) (records : List Record) (request : UdcRequest) (edit : Record) (reply : UdcReply)
-    → IsRequest request → judge limits records request ≡ Store edit reply → IsRecord edit × (has_room limits records edit ≡ true)
-has_room-stored limits records (Edit editor q wish) edit reply ranges is =
-    let done = is_done limits records editor q wish edit reply is in
-    subst (λ e. IsRecord e × (has_room limits records e ≡ true)) done.edit_is
-    (wished limits records editor q ranges.0 done.has_account wish ranges.1 done.not_refused)
-has_room-stored limits records (TakeUp centre k item) edit reply ranges is =
-    let asked = record_of (TakeUp centre k item) in
-    let answer = first_of (answers_of limits records (TakeUp centre k item)) in
-    subst (λ e. IsRecord e × (has_room limits records e ≡ true)) (is_stored answer asked edit (length records) reply is).1 (ranges, refl)
+  -- each part of it is within its range
+  record_wished : (wish : EditWish) → IsEditor editor q → IsWish wish → refusal_of limits records editor q wish ≡ None
+      → IsRecord (edit_of editor q wish)
+  record_wished (Put name frame) is ranges none =
+      let missing = all_none (refusals_of limits records editor q (Put name frame)) none in
+      (is, (ranges.0, record { holds = ranges.1; valid = option_map-none_back BadFrame (error_of frame) missing.1.1.1.0 }))
+  record_wished (Drop name) is ranges none = (is, ranges)
+  record_wished (Account account) is ranges none = (is, ranges)
+  record_wished (Lease root account) is ranges none = (is, ranges)
+
+module _ (limits : Limits) (records : List Record) where
+  -- what a request asks for that is stored
+  asked_is : (centre k : ℕ) (item : Item) (edit : Record) (reply : UdcReply) → judge limits records (TakeUp centre k item) ≡ Store edit reply
+      → record_of (TakeUp centre k item) ≡ edit
+  asked_is centre k item edit reply is =
+      (is_stored (first_of (answers_of limits records (TakeUp centre k item))) _ edit (length records) reply is).1
+
+  -- there is room for a record that is stored
+  pub has_room-judged : (request : UdcRequest) (edit : Record) (reply : UdcReply) → judge limits records request ≡ Store edit reply
+      → has_room limits records edit ≡ true
+  has_room-judged (Edit editor q wish) edit reply is =
+      let done = is_done limits records editor q wish edit reply is in
+      subst (λ e. has_room limits records e ≡ true) done.edit_is
+      (room_wished limits records editor q wish done.has_account done.not_refused)
+  has_room-judged (TakeUp centre k item) edit reply is =
+      subst (λ e. has_room limits records e ≡ true) (asked_is centre k item edit reply is) refl
+
+  -- it is within its ranges if the request is within its own
+  pub has_room-stored : (request : UdcRequest) (edit : Record) (reply : UdcReply) → IsRequest request
+      → judge limits records request ≡ Store edit reply → IsRecord edit × (has_room limits records edit ≡ true)
+  has_room-stored (Edit editor q wish) edit reply ranges is =
+      let done = is_done limits records editor q wish edit reply is in (
+        subst IsRecord done.edit_is (record_wished limits records editor q wish ranges.0 ranges.1 done.not_refused),
+        has_room-judged (Edit editor q wish) edit reply is,
+      )
+  has_room-stored (TakeUp centre k item) edit reply ranges is =
+      (subst IsRecord (asked_is centre k item edit reply is) ranges, has_room-judged (TakeUp centre k item) edit reply is)

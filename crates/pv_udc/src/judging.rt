@@ -83,8 +83,8 @@ impl UdcState {
         }
     }
 
-    /// The editor's next number.
-    fn next_number(&self, editor: AccountNo) -> u64
+    /// The editor's next number: one more than his last, and 1 at first.
+    pub fn next_number(&self, editor: AccountNo) -> u64
         ensures { result ≡ next_number self.now.records editor }
     {
         match self.last(editor) {

@@ -1,4 +1,4 @@
-ghost use Rattle.std.specs.Prelude.{◌≡◌, ℕ, ◌+◌, ◌<◌, ◌^◌, List, [], length, slice_get, slice_index_or, nat_le, is_some, option_copied, IfOk, IsTrue};
+ghost use Rattle.std.specs.Prelude.{◌≡◌, ℕ, ◌+◌, ◌<◌, ◌≤◌, ◌^◌, List, [], length, slice_get, slice_index_or, nat_le, is_some, option_copied, IfOk, IsTrue};
 ghost use Rattle.pv_edits.specs.Edits.{is_of_centre, frame_at, account_at, taken_of};
 ghost use Rattle.pv_edits.specs.Owner.{owner_of};
 ghost use Rattle.pv_edits.specs.Room.{frame_fits, account_fits, lease_fits, has_room};
@@ -84,7 +84,8 @@ impl UdcState {
 
     /// How many records there are: the place of the next one.
     pub fn front(&self) -> u64
-        ensures { result ≡ length self.now.records }
+        ensures value { result ≡ length self.now.records }
+        ensures within { length self.now.records ≤ self.now.limits.records }
     {
         self.count
     }
