@@ -1,6 +1,8 @@
 -- How a play may end, and what then was read and written.
 use Rattle.std.specs.Prelude.{◌≡◌, ℕ, ◌+◌, ◌≤◌, Bool, IsTrue, List, [], ◌∷◌, ◌++◌, length, take, Option, Some, None, IsSomeAnd, codes}
 use Rattle.std.specs.Io.KnownBytes.{Appends, Consumes}
+use Rattle.std.proofs.Common.{lit<, lit≤}
+use Rattle.pv_outside.specs.declared.limits.Limits.{Limits}
 use Rattle.pv_outside.specs.declared.status.Status.{Status}
 use Rattle.pv_outside.specs.declared.status.Status.TheVariants.{Done, Usage, BadLine, ReadFault, WriteFault, Memory, TooLong}
 use Rattle.pv_words.specs.Lines.{lines_of}
@@ -15,9 +17,13 @@ use Rattle.prestel.specs.Transcript.{answers, world_after_all}
 abbrev pub play_words : List (List ℕ)
 play_words = codes "play" ∷ codes "1" ∷ []
 
--- the world in which a play begins: one centre, and at most 2,000 frames and 10,000 records
+-- the limits of a play: 2,000 frames and 10,000 records
+abbrev pub play_limits : Limits
+play_limits = record { frames = 2000; records = 10000; frames_in_range = (lit< tt, lit≤ tt); records_in_range = (lit< tt, lit≤ tt) }
+
+-- the world in which a play begins: one centre, within these limits
 abbrev pub first_world : World
-first_world = start 1 2000 10000
+first_world = start 1 play_limits
 
 -- how many bytes a script may have
 abbrev pub longest_script : ℕ

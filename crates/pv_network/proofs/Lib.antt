@@ -3,6 +3,5 @@ pub mod Facts
 pub mod Lists
 pub mod Packets
 pub mod Performing
-pub mod Pushes
 pub mod Soundness
 pub mod Standing

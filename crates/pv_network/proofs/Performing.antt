@@ -1,38 +1,44 @@
 -- Each event at a network is that event at each world that it stands for.
 use Rattle.std.proofs.Common.{◌≡◌, ℕ, ◌<◌, true, false, cond, leb, List, [], ◌∷◌, ◌++◌, length, get_or, set, Some, None, refl, sym, ap, subst, ◌∙◌}
 use Rattle.std.specs.Prelude.{slice_get}
-use Rattle.std.proofs.lemmas.Bool.{le-leb}
-use Rattle.std.proofs.lemmas.List.Sums.{list_all-from_AllPass}
-use Rattle.pv_cells.specs.declared.reading.TheConstants.{LAST_CELL}
-use Rattle.pv_frame.specs.Content.{frame_of_row}
-use Rattle.pv_screen.specs.Grid.{IsRow}
 use Rattle.pv_network.specs.declared.centre.Arrival.{Arrival}
 use Rattle.pv_network.specs.declared.centre.Arrival.TheVariants as arrivals
-use Rattle.pv_network.specs.declared.outcome.Outcome.TheVariants.{SentRecord}
+use Rattle.pv_network.specs.declared.outcome.Outcome.TheVariants.{Reply, SentRecord}
 use Rattle.pv_network.specs.declared.packet.Packet.{Packet}
 use Rattle.pv_edits.specs.declared.record.Record.{Record}
+use Rattle.pv_edits.specs.declared.wish.EditWish.{EditWish}
 use Rattle.pv_edits.specs.Room.{has_room}
+use Rattle.pv_udc.specs.EditList.{EditList}
+use Rattle.pv_udc.specs.declared.request.UdcRequest.TheVariants.{Edit}
+use Rattle.pv_editor.specs.Replies.{reply_of}
+use Rattle.pv_editor.specs.declared.replies.UdcReplyView.{UdcReplyView}
 use Rattle.pv_network.specs.Centre.{CentreStands, Held, arrival_of, with_next}
-use Rattle.pv_network.specs.Link.{Link, link_in, is_packets_full, next_number, with_packet, with_acknowledgement}
+use Rattle.pv_network.specs.Link.{Link, link_in, is_packets_full, number_to_send, with_packet, with_acknowledgement}
 use Rattle.pv_network.specs.Sound.{IsGenuine}
 use Rattle.pv_network.specs.Standing.{State, StandsFor}
-use Rattle.pv_network.specs.Step.{frame_of_cells, step_of_send, step_of_acknowledging, with_next_at, step_of_arrival, step_of_deliver}
+use Rattle.pv_network.specs.Step.{step_of_request, step_of_send, step_of_acknowledging, with_next_at, step_of_arrival, step_of_deliver}
+use Rattle.pv_network.specs.Verdict.{verdict_of, with_stored}
 use Rattle.pv_network.specs.World.{World, link_at, centre_at}
 use Rattle.pv_network.proofs.Lists.{all_get}
-use Rattle.pv_network.proofs.Soundness.{sound_packet, sound_count, sound_applied, taken_is_next}
-use Rattle.pv_network.proofs.Standing.{udc_count, centre_count, centre_takes, centre_has_room, centre_stands, centre_replaced, link_replaced}
+use Rattle.pv_network.proofs.Soundness.{sound_request, sound_packet, sound_count, sound_applied, taken_is_next}
+use Rattle.pv_network.proofs.Standing.{request_stands, centre_count, centre_takes, centre_has_room, centre_stands, centre_replaced, link_replaced}
 
--- a row of cells is a frame
-pub frame_of_cells-row : (row : List ℕ) → IsRow row → frame_of_cells row ≡ Some (frame_of_row row)
-frame_of_cells-row row is =
-    ap (λ t. cond t (Some (frame_of_row row)) None) (list_all-from_AllPass (λ cell. leb cell LAST_CELL) row (λ k d within. le-leb (get_or row k d) LAST_CELL (is.seven_bits k d within)))
+-- an editor's request is judged
+pub asks : (s : State) (w : World) → StandsFor s w → (editor q : ℕ) (wish : EditWish) (here : EditList) (told : UdcReplyView)
+    → here ≡ with_stored s.update (verdict_of s.update (Edit editor q wish)).stored → told ≡ (verdict_of s.update (Edit editor q wish)).reply
+    → StandsFor (record s { update = here }) (step_of_request w editor q wish).0 × (Reply (reply_of told) ≡ (step_of_request w editor q wish).1)
+asks s w stands editor q wish here told is reply =
+    let verdict = verdict_of w.update (Edit editor q wish) in (
+      request_stands s w stands editor q verdict.stored verdict.reply here (rw stands.update at is) (sound_request w editor q wish stands.sound),
+      ap (λ (v : UdcReplyView). Reply (reply_of v)) (rw stands.update at reply),
+    )
 
 module _ (s : State) (w : World) (stands : StandsFor s w) (c : ℕ) where
   -- a record is packed
-  pub sends : (links : List Link) (count number index : ℕ) (edit : Record) → is_packets_full s.links ≡ false → count ≡ length s.update.edits → next_number (link_in s.links c).sending count ≡ Some number → slice_get w.update.edits number ≡ Some edit
+  pub sends : (links : List Link) (count number index : ℕ) (edit : Record) → is_packets_full s.links ≡ false → count ≡ length s.update.records → number_to_send (link_in s.links c).sending count ≡ Some number → slice_get w.update.records number ≡ Some edit
       → index ≡ length (link_in s.links c).down → links ≡ set s.links c (with_packet (link_in s.links c) number edit) → StandsFor (record s { links = links }) (step_of_send w c).0 × (SentRecord index number ≡ (step_of_send w c).1)
   sends links count number index edit room count-is next found index-is made =
-      let turn = rw (count-is, udc_count w.update s.update stands.update, stands.links) at next in
+      let turn = rw (count-is, stands.update, stands.links) at next in
       rw (rw stands.links at room, turn, found) (
         link_replaced s w stands c links _ (rw stands.links at made) (sound_packet w c number edit stands.sound found),
         ap (λ (n : ℕ). SentRecord n number) (rw stands.links at index-is),
@@ -59,8 +65,8 @@ module _ (s : State) (w : World) (stands : StandsFor s w) (c : ℕ) where
       found_there = rw stands.links at found
 
       -- what the centre makes of it is what the world's does
-      how_there : arrival_of (centre_at w c).applied w.update.record_limit packet.number ≡ arrival
-      how_there = rw (count_there, stood.record_limit) at how
+      how_there : arrival_of (centre_at w c).applied w.update.limits.records packet.number ≡ arrival
+      how_there = rw (count_there, stood.limits) at how
 
       -- what is delivered is that packet
       pub delivers : step_of_deliver w c index ≡ step_of_arrival w c packet.number arrival
@@ -68,16 +74,16 @@ module _ (s : State) (w : World) (stands : StandsFor s w) (c : ℕ) where
 
       module _ (is : arrival ≡ arrivals.Taken) where
         -- the packet carries the list's record of its number
-        genuine : IsGenuine w.update.edits packet
-        genuine = all_get (IsGenuine w.update.edits) (link_at w c).down index packet (stands.sound.links c).packets found_there
+        genuine : IsGenuine w.update.records packet
+        genuine = all_get (IsGenuine w.update.records) (link_at w c).down index packet (stands.sound.links c).packets found_there
 
         -- that is the one that comes next
         next : packet.number ≡ (centre_at w c).applied
-        next = taken_is_next (centre_at w c).applied w.update.record_limit packet.number (how_there ∙ is)
+        next = taken_is_next (centre_at w c).applied w.update.limits.records packet.number (how_there ∙ is)
 
         -- the list has it there
-        next_there : slice_get w.update.edits (centre_at w c).applied ≡ Some packet.edit
-        next_there = ap (slice_get w.update.edits) (sym next) ∙ genuine
+        next_there : slice_get w.update.records (centre_at w c).applied ≡ Some packet.edit
+        next_there = ap (slice_get w.update.records) (sym next) ∙ genuine
 
         -- the centre, however it is read
         module _ (now : Held) (again : now ≡ get_or s.centres c now) where

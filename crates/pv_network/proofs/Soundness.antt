@@ -1,39 +1,44 @@
 -- What an event makes of a sound world is sound.
-use Rattle.std.proofs.Common.{◌≡◌, ℕ, zero, suc, ◌+◌, ◌<◌, ◌≤◌, Bool, true, false, cond, not, ◌&&◌, leb, eqb, List, [], ◌∷◌, ◌++◌, length, get_or, Option, Some, None, take, refl, sym, ap, subst, ◌∙◌, arith, inl, inr}
-use Rattle.std.specs.Prelude.{is_none, slice_get, replicate}
-use Rattle.std.specs.List.{count_by, list_all}
-use Rattle.std.proofs.lemmas.Bool.{leb-false, leb-true, eqb-true, eq-eqb}
+use Rattle.std.proofs.Common.{◌≡◌, ℕ, zero, suc, ◌+◌, ◌<◌, ◌≤◌, Bool, true, false, cond, leb, List, [], ◌∷◌, ◌++◌, length, get_or, Option, Some, None, take, refl, sym, ap, subst, ◌∙◌, arith, inl, inr}
+use Rattle.std.specs.Prelude.{slice_get, replicate}
+use Rattle.std.specs.List.{count_by}
+use Rattle.std.specs.Option.{option_map_or}
+use Rattle.std.proofs.lemmas.Bool.{leb-false}
 use Rattle.std.proofs.lemmas.List.{length-append, take-append-le}
 use Rattle.std.proofs.lemmas.List.Elements.{All-push}
-use Rattle.std.proofs.lemmas.List.Sums.{AllPass-from_list_all, sum_by_push}
+use Rattle.std.proofs.lemmas.List.Sums.{sum_by_push}
 use Rattle.std.proofs.lemmas.Bool.Decides.{nat_tests}
 use Rattle.std.proofs.Math.Seq.{take-append_seam}
 use Rattle.std.proofs.lemmas.Option.{slice_get_within}
-use Rattle.pv_page.specs.Names.{Name}
-use Rattle.pv_cells.specs.declared.reading.TheConstants.{LAST_CELL}
-use Rattle.pv_frame.specs.Content.{Content, frame_of_row}
-use Rattle.pv_frame.specs.Errors.{IsValid}
-use Rattle.pv_frame.proofs.CallerLemmas.{IsValid-frame_of_row}
+use Rattle.pv_outside.specs.declared.limits.Limits.{Limits}
 use Rattle.pv_edits.specs.declared.record.Record.{Record}
-use Rattle.pv_edits.specs.declared.record.Record.TheVariants.{Put}
+use Rattle.pv_edits.specs.declared.wish.EditWish.{EditWish}
+use Rattle.pv_edits.specs.declared.wish.EditWish.TheVariants.{Put}
 use Rattle.pv_edits.specs.declared.room.TheConstants.{OPERATOR}
-use Rattle.pv_edits.specs.Edits.{is_edit_of, number_in, frame_at}
-use Rattle.pv_edits.specs.Room.{frame_count}
+use Rattle.pv_edits.specs.Edits.{is_edit_of, number_in}
+use Rattle.pv_node.specs.declared.decision.Decision.{Decision}
+use Rattle.pv_node.specs.declared.decision.Decision.TheVariants.{Answer, Store}
+use Rattle.pv_udc.specs.Judgement.{next_number, judge}
+use Rattle.pv_udc.specs.declared.reply.UdcReply.{UdcReply}
+use Rattle.pv_udc.specs.declared.reply.UdcReply.TheVariants as replies
+use Rattle.pv_udc.specs.declared.request.UdcRequest.TheVariants.{Edit}
+use Rattle.pv_udc.proofs.CallerLemmas.{has_room-judged, next-judged, is_his, IsAnswered, is_answered, last_edit-there, last_edit-his, last_edit-others}
+use Rattle.pv_editor.specs.declared.replies.UdcReplyView.TheVariants.{Stored, Refused}
 use Rattle.pv_network.specs.declared.centre.Arrival.{Arrival}
 use Rattle.pv_network.specs.declared.centre.Arrival.TheVariants as arrivals
 use Rattle.pv_network.specs.declared.event.Event.{Event}
 use Rattle.pv_network.specs.declared.event.Event.TheVariants as events
 use Rattle.pv_network.specs.declared.packet.Packet.{Packet}
+use Rattle.pv_network.specs.declared.verdict.TheConstants.{FULL}
 use Rattle.pv_network.specs.Centre.{Centre, new_centre, arrival_of}
-use Rattle.pv_network.specs.Link.{Link, new_link, is_packets_full, next_number, with_packet, with_acknowledgement}
-use Rattle.pv_network.specs.Numbers.{next_edit_number}
+use Rattle.pv_network.specs.Link.{Link, new_link, is_packets_full, number_to_send, with_packet, with_acknowledgement}
 use Rattle.pv_network.specs.OneList.{IsNextOfEditor, HasNumbersInOrder, StandsAt, HasOnePlaceEach, MatchesReceipt}
-use Rattle.pv_network.specs.Run.{EachFollows, MayPut, MayFollow}
+use Rattle.pv_network.specs.Run.{EachFollows, MayFollow}
 use Rattle.pv_network.specs.Sound.{IsGenuine, IsSoundLink, IsSound}
-use Rattle.pv_network.specs.Step.{world_with, step_of_judgement, frame_of_cells, step_of_put, step_of_packing, step_of_number, step_of_send, step_of_acknowledging, with_next_at, step_of_arrival, step_of_packet, step_of_deliver, happens, after}
-use Rattle.pv_network.specs.UpdateCentre.{Update, next_record, refusal_reply, judgement_by, judgement_of}
-use Rattle.pv_network.specs.World.{World, Receipt, start, centre_at, link_at, with_centre, with_link, with_edit}
-use Rattle.pv_network.proofs.Counts.{next_edit_number-push, count_by-grows, frame_count-none, frames_put}
+use Rattle.pv_network.specs.Step.{with_verdict, step_of_request, seeded_frame, step_of_packing, step_of_number, step_of_send, step_of_acknowledging, with_next_at, step_of_arrival, step_of_packet, step_of_deliver, happens, after}
+use Rattle.pv_network.specs.Verdict.{view_of, verdict_by}
+use Rattle.pv_network.specs.World.{World, Receipt, start, centre_at, link_at, with_centre, with_link, with_edit, with_receipt}
+use Rattle.pv_network.proofs.Counts.{count_by-grows, frame_count-none, frames_within}
 use Rattle.pv_network.proofs.Lists.{set_at, all_get, get_prefix, get_push, get_last}
 
 -- what holds of the world on each side of a test holds of the one that it chooses
@@ -49,29 +54,29 @@ sound_new edits = record { packets = λ k d none. absurd (omega (arith, none)); 
 
 module _ (w : World) (c : ℕ) (sound : IsSound w) where
   -- another centre in the place of one, which has applied a prefix and has a sound link
-  sound_with_centre : (centre : Centre) → centre.applied ≤ length w.update.edits → IsSoundLink w.update.edits centre (link_at w c) → IsSound (with_centre w c centre)
+  sound_with_centre : (centre : Centre) → centre.applied ≤ length w.update.records → IsSoundLink w.update.records centre (link_at w c) → IsSound (with_centre w c centre)
   sound_with_centre centre within here = record {
     law = record {
       run = sound.law.run;
       one_place = sound.law.one_place;
       numbered = sound.law.numbered;
       kept = sound.law.kept;
-      prefixes = set_at (λ k centre. centre.applied ≤ length w.update.edits) w.centres c centre new_centre sound.law.prefixes within;
+      prefixes = set_at (λ k centre. centre.applied ≤ length w.update.records) w.centres c centre new_centre sound.law.prefixes within;
     };
     next = sound.next;
     records = sound.records;
     frames = sound.frames;
-    links = set_at (λ k centre. IsSoundLink w.update.edits centre (link_at w k)) w.centres c centre new_centre sound.links here;
+    links = set_at (λ k centre. IsSoundLink w.update.records centre (link_at w k)) w.centres c centre new_centre sound.links here;
   }
 
   -- another sound link in the place of one
-  sound_with_link : (link : Link) → IsSoundLink w.update.edits (centre_at w c) link → IsSound (with_link w c link)
+  sound_with_link : (link : Link) → IsSoundLink w.update.records (centre_at w c) link → IsSound (with_link w c link)
   sound_with_link link here = record {
     law = sound.law;
     next = sound.next;
     records = sound.records;
     frames = sound.frames;
-    links = set_at (λ k link. IsSoundLink w.update.edits (centre_at w k) link) w.links c link new_link sound.links here;
+    links = set_at (λ k link. IsSoundLink w.update.records (centre_at w k) link) w.links c link new_link sound.links here;
   }
 
 -- ---- an edit that is stored
@@ -126,105 +131,132 @@ one_place edits numbered editor number one other here there =
         let more = count_by-grows (is_edit_of editor) edits a b s.edit s.there s.by less in
         omega (arith, counted a s, counted b t, more)
 
-module _ (edits : List Record) (editor q : ℕ) (name : Name) (frame : Content) (next : q ≡ next_edit_number edits editor)
-    (sound : (e : ℕ) → next_edit_number edits e ≡ count_by (is_edit_of e) edits + 1) where
-  -- the edit's number is one more than how many edits of its editor there are
-  next_of_editor : IsNextOfEditor edits (Put editor q name frame)
-  next_of_editor e his = ap Some (next ∙ sound editor ∙ ap (λ (k : ℕ). count_by (is_edit_of k) edits + 1) (sym (eqb-true e editor his)))
+-- one if the test holds
+abbrev one_if : Bool → ℕ
+one_if test = cond test 1 0
+
+module _ (limits : Limits) (edits : List Record) (edit : Record) (follows : MayFollow limits edits edit)
+    (sound : (e : ℕ) → next_number edits e ≡ count_by (is_edit_of e) edits + 1) where
+  -- the edit has its editor's next number
+  numbered_next : (e : ℕ) → is_edit_of e edit ≡ true → number_in edit ≡ Some (next_number edits e)
+  numbered_next = next-judged limits edits follows.judged.0 edit follows.judged.1 follows.judged.2
+
+  -- that is one more than how many edits he has
+  next_of_editor : IsNextOfEditor edits edit
+  next_of_editor e his = numbered_next e his ∙ ap Some (sound e)
 
   -- an editor's next number stays one more than how many edits he has
-  next_push : (e : ℕ) → next_edit_number (edits ++ Put editor q name frame ∷ []) e ≡ count_by (is_edit_of e) (edits ++ Put editor q name frame ∷ []) + 1
-  next_push e =
-      next_edit_number-push edits editor q name frame e ∙ go (eqb e editor) (eqb-true e editor)
-      ∙ ap (λ (n : ℕ). n + 1) (sym (sum_by_push (λ x. cond (is_edit_of e x) 1 0) edits (Put editor q name frame)))
+  next_push : (e : ℕ) → next_number (edits ++ edit ∷ []) e ≡ count_by (is_edit_of e) (edits ++ edit ∷ []) + 1
+  next_push e = by (is_edit_of e edit) refl
     where
-      go : (his : Bool) → (his ≡ true → e ≡ editor) → cond his (q + 1) (next_edit_number edits e) ≡ count_by (is_edit_of e) edits + cond his 1 0 + 1
-      go true is = let own : next_edit_number edits e ≡ next_edit_number edits editor = ap (next_edit_number edits) (is refl) in omega (arith, next, own, sound e)
-      go false is = omega (arith, sound e)
+      more : count_by (is_edit_of e) (edits ++ edit ∷ []) ≡ count_by (is_edit_of e) edits + one_if (is_edit_of e edit)
+      more = sum_by_push (λ x. cond (is_edit_of e x) 1 0) edits edit
 
--- a sound world stays sound with a frame that may be put
-sound_put : (w : World) (editor q : ℕ) (name : Name) (frame : Content) → IsSound w → MayPut w.update.frame_limit w.update.record_limit w.update.edits editor q name frame
-    → IsSound (with_edit w (Put editor q name frame))
-sound_put w editor q name frame sound follows =
-    let edits = w.update.edits in
-    let edit = Put editor q name frame in
+      by : (his : Bool) → is_edit_of e edit ≡ his → next_number (edits ++ edit ∷ []) e ≡ count_by (is_edit_of e) (edits ++ edit ∷ []) + 1
+      by true his =
+          let last = ap (λ (l : Option (ℕ × ℕ)). option_map_or (λ (p : ℕ × ℕ). p.0) l 0 + 1) (last_edit-his edits edit e (next_number edits e) his (numbered_next e his)) in
+          omega (arith, last, more, ap one_if his, sound e)
+      by false his =
+          let last = ap (λ (l : Option (ℕ × ℕ)). option_map_or (λ (p : ℕ × ℕ). p.0) l 0 + 1) (last_edit-others edits edit e his) in
+          omega (arith, last, more, ap one_if his, sound e)
+
+-- a sound world stays sound with a record that may follow
+sound_stored : (w : World) (edit : Record) → IsSound w → MayFollow w.update.limits w.update.records edit → IsSound (with_edit w (Some edit))
+sound_stored w edit sound follows =
+    let edits = w.update.records in
+    let limits = w.update.limits in
     let longer = edits ++ edit ∷ [] in
-    let numbered : HasNumbersInOrder longer = follows_push IsNextOfEditor edits edit sound.law.numbered (next_of_editor edits editor q name frame follows.number sound.next) in
+    let numbered : HasNumbersInOrder longer = follows_push IsNextOfEditor edits edit sound.law.numbered (next_of_editor limits edits edit follows sound.next) in
+    let room = has_room-judged limits edits follows.judged.0 edit follows.judged.1 follows.judged.2 in
     record {
       law = record {
-        run = follows_push (MayFollow w.update.frame_limit w.update.record_limit) edits edit sound.law.run follows;
+        run = follows_push (MayFollow limits) edits edit sound.law.run follows;
         one_place = one_place longer numbered;
         numbered = numbered;
-        kept = All-push (MatchesReceipt longer) w.receipts _ (λ k d within. kept_longer edits (edit ∷ []) _ (sound.law.kept k d within))
-            (record { edit = edit; there = get_last edits edit; by = eq-eqb editor editor refl; numbered = refl });
+        kept = λ k d within. kept_longer edits (edit ∷ []) _ (sound.law.kept k d within);
         prefixes = λ c. omega (arith, sound.law.prefixes c, length-append edits (edit ∷ []));
       };
-      next = next_push edits editor q name frame follows.number sound.next;
+      next = next_push limits edits edit follows sound.next;
       records = omega (arith, follows.record_room, length-append edits (edit ∷ []));
-      frames = frames_put edits editor q name frame w.update.frame_limit sound.frames follows.frame_room;
+      frames = frames_within limits edits edit sound.frames room;
       links = λ c. link_longer edits (edit ∷ []) (centre_at w c) (link_at w c) (sound.links c);
     }
 
--- ---- seed
+-- a sound world stays sound with the receipt of an edit that stands at its place
+sound_receipt : (w : World) (editor q place : ℕ) → IsSound w → StandsAt w.update.records editor q place → IsSound (with_receipt w editor q (Stored place))
+sound_receipt w editor q place sound stands = record {
+  law = record {
+    run = sound.law.run;
+    one_place = sound.law.one_place;
+    numbered = sound.law.numbered;
+    kept = All-push (MatchesReceipt w.update.records) w.receipts _ sound.law.kept stands;
+    prefixes = sound.law.prefixes;
+  };
+  next = sound.next;
+  records = sound.records;
+  frames = sound.frames;
+  links = sound.links;
+}
 
--- nothing is refused: neither test says so
-pub not_refused : (frames records : Bool) (a b : List ℕ) → cond frames (Some a) (cond records (Some b) None) ≡ None → (frames ≡ false) × (records ≡ false)
-not_refused frames records a b is = grind arith
+-- ---- an editor's request
 
--- what is judged and not refused may be put
-may_put : (u : Update) (name : Name) (frame : Content) → IsValid frame → refusal_reply u (is_none (frame_at u.edits name)) ≡ None
-    → MayPut u.frame_limit u.record_limit u.edits OPERATOR (next_edit_number u.edits OPERATOR) name frame
-may_put u name frame valid is =
-    let full = leb u.frame_limit (frame_count u.edits) in
-    let tests = not_refused (is_none (frame_at u.edits name) && full) (leb u.record_limit (length u.edits)) _ _ is in
-    record {
-      operator = refl;
-      number = refl;
-      valid = valid;
-      frame_room = λ new. leb-false u.frame_limit (frame_count u.edits) (ap (λ (o : Option Content). is_none o && full) (sym new) ∙ tests.0);
-      record_room = leb-false u.record_limit (length u.edits) tests.1;
-    }
+module _ (w : World) (editor q : ℕ) (wish : EditWish) (sound : IsSound w) where
+  -- an edit that is answered at once is refused, or it is the last one again
+  sound_answered : (reply : UdcReply) → IsAnswered w.update.limits w.update.records editor q wish reply → IsSound (with_receipt w editor q (view_of reply))
+  sound_answered (replies.Stored place) answered = absurd answered
+  sound_answered (replies.Again place) answered =
+      let last = last_edit-there w.update.records editor q place answered in
+      sound_receipt w editor q place sound (record { edit = last.edit; there = last.there; by = last.his; numbered = last.numbered })
+  sound_answered (replies.Refused code) answered = sound
+  sound_answered (replies.Old count) answered = absurd answered
+  sound_answered (replies.Early count) answered = absurd answered
 
--- a sound world stays sound if a valid frame is judged
-pub sound_judged : (w : World) (name : Name) (frame : Content) → IsValid frame → IsSound w → IsSound (step_of_judgement w (judgement_of w.update OPERATOR name frame)).0
-sound_judged w name frame valid sound = by (refusal_reply w.update (is_none (frame_at w.update.edits name))) refl
-  where
-    by : (refusal : Option (List ℕ)) → refusal_reply w.update (is_none (frame_at w.update.edits name)) ≡ refusal
-        → IsSound (world_with w (judgement_by w.update (next_record w.update OPERATOR name frame) refusal).stored)
-    by None is = sound_put w OPERATOR (next_edit_number w.update.edits OPERATOR) name frame sound (may_put w.update name frame valid is)
-    by (Some refusal) is = sound
+  -- a sound world stays sound whatever an editor asks for
+  pub sound_request : IsSound (step_of_request w editor q wish).0
+  sound_request = by (judge w.update.limits w.update.records (Edit editor q wish)) refl
+    where
+      full : (edit : Record) (reply : UdcReply) → judge w.update.limits w.update.records (Edit editor q wish) ≡ Store edit reply
+          → (is_full : Bool) → leb w.update.limits.records (length w.update.records) ≡ is_full
+          → IsSound (with_verdict w editor q (cond is_full (record { stored = None; reply = Refused FULL (length w.update.records) }) (record { stored = Some edit; reply = view_of reply })))
+      full edit reply is true how = sound
+      full edit reply is false how =
+          let edits = w.update.records in
+          let his = is_his w.update.limits edits editor q wish edit reply is in
+          let follows : MayFollow w.update.limits edits edit =
+          record { judged = (Edit editor q wish, reply, is); record_room = leb-false w.update.limits.records (length edits) how } in
+          let stands : StandsAt (edits ++ edit ∷ []) editor q (length edits) =
+          record { edit = edit; there = get_last edits edit; by = his.his; numbered = his.numbered } in
+          subst (λ (r : UdcReply). IsSound (with_receipt (with_edit w (Some edit)) editor q (view_of r))) (sym his.reply_is)
+          (sound_receipt (with_edit w (Some edit)) editor q (length edits) (sound_stored w edit sound follows) stands)
 
--- a sound world stays sound whatever row is put: one that is no row of cells is not judged
-sound_seed : (w : World) (name : Name) (row : List ℕ) → IsSound w → IsSound (step_of_put w name (frame_of_cells row)).0
-sound_seed w name row sound = by (list_all (λ cell. leb cell LAST_CELL) row) (AllPass-from_list_all (λ cell. leb cell LAST_CELL) row)
-  where
-    by : (cells : Bool) → (cells ≡ true → (k d : ℕ) → k < length row → leb (get_or row k d) LAST_CELL ≡ true) → IsSound (step_of_put w name (cond cells (Some (frame_of_row row)) None)).0
-    by true all = sound_judged w name (frame_of_row row) (IsValid-frame_of_row row (λ k d within. leb-true (get_or row k d) LAST_CELL (all refl k d within))) sound
-    by false all = sound
+      by : (decision : Decision Record UdcReply) → judge w.update.limits w.update.records (Edit editor q wish) ≡ decision
+          → IsSound (with_verdict w editor q (verdict_by w.update decision))
+      by (Answer reply) is = sound_answered reply (is_answered w.update.limits w.update.records editor q wish reply is)
+      by (Store edit reply) is = full edit reply is (leb w.update.limits.records (length w.update.records)) refl
 
 -- ---- send
 
 -- a sound world stays sound with a packet that carries the list's record of its number
-pub sound_packet : (w : World) (c number : ℕ) (edit : Record) → IsSound w → slice_get w.update.edits number ≡ Some edit → IsSound (with_link w c (with_packet (link_at w c) number edit))
+pub sound_packet : (w : World) (c number : ℕ) (edit : Record) → IsSound w → slice_get w.update.records number ≡ Some edit → IsSound (with_link w c (with_packet (link_at w c) number edit))
 sound_packet w c number edit sound is =
     let here = sound.links c in
     sound_with_link w c sound (with_packet (link_at w c) number edit) (record {
-      packets = All-push (IsGenuine w.update.edits) (link_at w c).down (record { number = number; edit = edit }) here.packets is;
+      packets = All-push (IsGenuine w.update.records) (link_at w c).down (record { number = number; edit = edit }) here.packets is;
       acknowledged = here.acknowledged;
       heard = here.heard;
     })
 
 -- a sound world stays sound if the next record is packed, or there is none to pack
 sound_send : (w : World) (c : ℕ) → IsSound w → IsSound (step_of_send w c).0
-sound_send w c sound = choice IsSound (is_packets_full w.links) _ _ (λ _. sound) (λ _. numbered (next_number (link_at w c).sending (length w.update.edits)))
+sound_send w c sound = choice IsSound (is_packets_full w.links) _ _ (λ _. sound) (λ _. numbered (number_to_send (link_at w c).sending (length w.update.records)))
   where
-    pack : (number : ℕ) (found : Option Record) → slice_get w.update.edits number ≡ found → IsSound (step_of_packing w c number found).0
+    pack : (number : ℕ) (found : Option Record) → slice_get w.update.records number ≡ found → IsSound (step_of_packing w c number found).0
     pack number None is = sound
     pack number (Some edit) is = sound_packet w c number edit sound is
 
     numbered : (number : Option ℕ) → IsSound (step_of_number w c number).0
     numbered None = sound
-    numbered (Some number) = pack number (slice_get w.update.edits number) refl
+    numbered (Some number) = pack number (slice_get w.update.records number) refl
 
 -- ---- deliver
 
@@ -243,10 +275,10 @@ sound_acknowledged : (w : World) (c : ℕ) → IsSound w → IsSound (step_of_ac
 sound_acknowledged w c sound = choice IsSound (is_packets_full w.links) _ _ (λ _. sound) (λ _. sound_count w c sound)
 
 -- the record that comes next is one of the list's
-pub sound_applied : (w : World) (c : ℕ) (packet : Packet) → IsSound w → IsGenuine w.update.edits packet → packet.number ≡ (centre_at w c).applied → IsSound (with_next_at w c)
+pub sound_applied : (w : World) (c : ℕ) (packet : Packet) → IsSound w → IsGenuine w.update.records packet → packet.number ≡ (centre_at w c).applied → IsSound (with_next_at w c)
 sound_applied w c packet sound is next =
     let here = sound.links c in
-    sound_with_centre w c sound _ (omega (arith, slice_get_within w.update.edits packet.number packet.edit is, next)) (record {
+    sound_with_centre w c sound _ (omega (arith, slice_get_within w.update.records packet.number packet.edit is, next)) (record {
       packets = here.packets;
       acknowledged = λ k d within. let le = here.acknowledged k d within in omega (arith, le);
       heard = omega (arith, here.heard);
@@ -260,21 +292,22 @@ taken_is_next applied limit number is = grind (arith, nat_tests)
 pub sound_deliver : (w : World) (c index : ℕ) → IsSound w → IsSound (step_of_deliver w c index).0
 sound_deliver w c index sound = arrives (slice_get (link_at w c).down index) refl
   where
-    by : (packet : Packet) (arrival : Arrival) → IsGenuine w.update.edits packet → arrival_of (centre_at w c).applied w.update.record_limit packet.number ≡ arrival → IsSound (step_of_arrival w c packet.number arrival).0
-    by packet arrivals.Taken is how = sound_acknowledged (with_next_at w c) c (sound_applied w c packet sound is (taken_is_next (centre_at w c).applied w.update.record_limit packet.number how))
+    by : (packet : Packet) (arrival : Arrival) → IsGenuine w.update.records packet → arrival_of (centre_at w c).applied w.update.limits.records packet.number ≡ arrival → IsSound (step_of_arrival w c packet.number arrival).0
+    by packet arrivals.Taken is how = sound_acknowledged (with_next_at w c) c (sound_applied w c packet sound is (taken_is_next (centre_at w c).applied w.update.limits.records packet.number how))
     by packet arrivals.Old is how = sound_acknowledged w c sound
     by packet arrivals.Early is how = sound_acknowledged w c sound
     by packet arrivals.Full is how = sound
 
     arrives : (found : Option Packet) → slice_get (link_at w c).down index ≡ found → IsSound (step_of_packet w c found).0
     arrives None is = sound
-    arrives (Some packet) is = by packet _ (all_get (IsGenuine w.update.edits) (link_at w c).down index packet (sound.links c).packets is) refl
+    arrives (Some packet) is = by packet _ (all_get (IsGenuine w.update.records) (link_at w c).down index packet (sound.links c).packets is) refl
 
 -- ---- all
 
 -- a sound world stays sound whatever event happens, whatever a stop kept
 sound_happens : (w : World) (event : Event) (kept : Bool) → IsSound w → IsSound (happens w event kept).0
-sound_happens w (events.Seed name row) kept sound = sound_seed w name row sound
+sound_happens w (events.Seed name row) kept sound =
+    sound_request w OPERATOR (next_number w.update.records OPERATOR) (Put name (seeded_frame row)) sound
 sound_happens w (events.Send centre) kept sound = sound_send w centre sound
 sound_happens w (events.Deliver centre index) kept sound = sound_deliver w centre index sound
 sound_happens w (events.View centre name) kept sound = sound
@@ -293,8 +326,8 @@ copy_at x (suc n) zero = refl
 copy_at x (suc n) (suc c) = copy_at x n c
 
 -- the start is sound
-pub sound_start : (centres frames records : ℕ) → IsSound (start centres frames records)
-sound_start centres frames records = record {
+pub sound_start : (centres : ℕ) (limits : Limits) → IsSound (start centres limits)
+sound_start centres limits = record {
   law = record {
     run = λ place edit is. absurd cc;
     one_place = λ editor number one other here there. let none = here.there in absurd cc;

@@ -1,63 +1,58 @@
 -- How the parts of a network stand for the parts of a world, and what a part that is replaced leaves as it was.
 use Rattle.std.proofs.Common.{◌≡◌, ℕ, ◌+◌, ◌<◌, List, [], ◌∷◌, ◌++◌, Bool, true, length, get_or, set, take, Option, Some, None, sym, ap, subst, ◌∙◌, arith}
 use Rattle.std.specs.Prelude.{slice_get}
+use Rattle.std.specs.List.{AllZip}
 use Rattle.std.proofs.lemmas.List.{length-take-le, take_more, take-append-le, length-append}
 use Rattle.std.proofs.lemmas.Option.{slice_get_within, get_or_from_slice_get}
 use Rattle.pv_edits.specs.declared.record.Record.{Record}
 use Rattle.pv_edits.specs.Room.{has_room}
+use Rattle.pv_udc.specs.EditList.{EditList, with_record}
+use Rattle.pv_udc.proofs.CallerLemmas.{has_room-judged}
+use Rattle.pv_editor.specs.declared.replies.UdcReplyView.{UdcReplyView}
+use Rattle.pv_editor.specs.declared.replies.UdcReplyView.TheVariants.{Stored, Refused}
 use Rattle.pv_network.specs.Centre.{Centre, CentreStands, Held, new_centre, with_next}
 use Rattle.pv_network.specs.Link.{Link}
 use Rattle.pv_network.specs.Run.{IsRun}
-use Rattle.pv_network.specs.UpdateCentre.{Update, UdcStands, with_record, with_judgement}
-use Rattle.pv_network.specs.World.{World, centre_at, with_centre, with_link}
-use Rattle.pv_network.specs.Step.{world_with}
+use Rattle.pv_network.specs.Verdict.{with_stored}
+use Rattle.pv_network.specs.World.{World, centre_at, with_centre, with_link, with_edit, with_receipt}
 use Rattle.pv_network.specs.Sound.{IsSound}
 use Rattle.pv_network.specs.Standing.{State, StandsFor}
-use Rattle.pv_network.proofs.Counts.{room_for_next}
 use Rattle.pv_network.proofs.Lists.{zip_set, zip_at, zip_weaken}
-
--- ---- the Update Centre: the one lemma that the network cites
-
--- it has as many records as the list
-pub udc_count : (u here : Update) → UdcStands u here → length here.edits ≡ length u.edits
-udc_count u here stands = ap (λ (v : Update). length v.edits) stands.same
 
 -- ---- a centre: all that the network cites
 
-module _ (u : Update) (here : Held) (centre : Centre) (stands : CentreStands u here centre) where
+module _ (u : EditList) (here : Held) (centre : Centre) (stands : CentreStands u here centre) where
   -- it has as many records as were applied
   pub centre_count : length here.records ≡ centre.applied
-  centre_count = ap (λ (l : List Record). length l) stands.prefix ∙ length-take-le centre.applied u.edits stands.within
+  centre_count = ap (λ (l : List Record). length l) stands.prefix ∙ length-take-le centre.applied u.records stands.within
 
   -- it stands for the same prefix as the list grows
   pub centre_longer : (edit : Record) → CentreStands (with_record u edit) here centre
   centre_longer edit = record {
-    within = omega (arith, stands.within, length-append u.edits (edit ∷ []));
-    prefix = stands.prefix ∙ sym (take-append-le centre.applied u.edits (edit ∷ []) stands.within);
-    frame_limit = stands.frame_limit;
-    record_limit = stands.record_limit;
+    within = omega (arith, stands.within, length-append u.records (edit ∷ []));
+    prefix = stands.prefix ∙ sym (take-append-le centre.applied u.records (edit ∷ []) stands.within);
+    limits = stands.limits;
   }
 
-  module _ (edit : Record) (next : slice_get u.edits centre.applied ≡ Some edit) where
+  module _ (edit : Record) (next : slice_get u.records centre.applied ≡ Some edit) where
     -- with the list's next record it stands for the longer prefix
     pub centre_takes : CentreStands u (record here { records = here.records ++ edit ∷ [] }) (with_next centre)
     centre_takes =
-        let below = slice_get_within u.edits centre.applied edit next in
-        let more : take (centre.applied + 1) u.edits ≡ take centre.applied u.edits ++ edit ∷ [] =
-        take_more u.edits centre.applied edit below
-        ∙ ap (λ (e : Record). take centre.applied u.edits ++ e ∷ []) (get_or_from_slice_get u.edits centre.applied edit edit next) in
+        let below = slice_get_within u.records centre.applied edit next in
+        let more : take (centre.applied + 1) u.records ≡ take centre.applied u.records ++ edit ∷ [] =
+        take_more u.records centre.applied edit below
+        ∙ ap (λ (e : Record). take centre.applied u.records ++ e ∷ []) (get_or_from_slice_get u.records centre.applied edit edit next) in
         record {
           within = omega (arith, below);
           prefix = ap (λ (l : List Record). l ++ edit ∷ []) stands.prefix ∙ sym more;
-          frame_limit = stands.frame_limit;
-          record_limit = stands.record_limit;
+          limits = stands.limits;
         }
 
     -- if the list is a run, it has room for that record
-    pub centre_has_room : IsRun u.frame_limit u.record_limit u.edits → has_room here.limits here.records edit ≡ true
+    pub centre_has_room : IsRun u.limits u.records → has_room here.limits here.records edit ≡ true
     centre_has_room run =
-        rw stands.prefix (room_for_next here.limits u.record_limit (take centre.applied u.edits) edit
-        (rw (← stands.frame_limit) at run centre.applied edit next))
+        let judged = (run centre.applied edit next).judged in
+        rw (stands.prefix, stands.limits) (has_room-judged u.limits (take centre.applied u.records) judged.0 edit judged.1 judged.2)
 
 -- ---- the network
 
@@ -66,17 +61,19 @@ module _ (s : State) (w : World) (stands : StandsFor s w) where
   pub out_stands : (out : Bool) → StandsFor (record s { is_out = out }) w
   out_stands out = record { sound = stands.sound; update = stands.update; centres = stands.centres; links = stands.links }
 
-  -- another Update Centre, which stands for the list with what was stored, leaves all else standing
-  pub update_replaced : (stored : Option Record) (here : Update) → UdcStands (with_judgement w.update stored) here → IsSound (world_with w stored)
-      → StandsFor (record s { update = here }) (world_with w stored)
-  update_replaced None here is sound = record { sound = sound; update = is; centres = stands.centres; links = stands.links }
-  update_replaced (Some edit) here is sound = record {
-    sound = sound;
-    update = is;
-    centres = zip_weaken (CentreStands w.update) (CentreStands (with_record w.update edit))
-        (λ held centre stood. centre_longer w.update held centre stood edit) s.centres w.centres stands.centres;
-    links = stands.links;
-  }
+  -- the centres stand for the same with one more record in the list
+  longer : (edit : Record) → AllZip (CentreStands (with_record w.update edit)) s.centres w.centres
+  longer edit =
+      zip_weaken (CentreStands w.update) (CentreStands (with_record w.update edit))
+      (λ held centre stood. centre_longer w.update held centre stood edit) s.centres w.centres stands.centres
+
+  -- another Update Centre, which has stored what the world's stored, leaves all else standing, whatever is acknowledged
+  pub request_stands : (editor q : ℕ) (stored : Option Record) (reply : UdcReplyView) (here : EditList) → here ≡ with_stored w.update stored
+      → IsSound (with_receipt (with_edit w stored) editor q reply) → StandsFor (record s { update = here }) (with_receipt (with_edit w stored) editor q reply)
+  request_stands editor q None (Stored place) here is sound = record { sound = sound; update = is; centres = stands.centres; links = stands.links }
+  request_stands editor q None (Refused code shown) here is sound = record { sound = sound; update = is; centres = stands.centres; links = stands.links }
+  request_stands editor q (Some edit) (Stored place) here is sound = record { sound = sound; update = is; centres = longer edit; links = stands.links }
+  request_stands editor q (Some edit) (Refused code shown) here is sound = record { sound = sound; update = is; centres = longer edit; links = stands.links }
 
   module _ (c : ℕ) where
     -- a centre that is read stands for the world's

@@ -2,9 +2,9 @@
 use Rattle.std.specs.Prelude.{◌≡◌, ℕ, ◌+◌, ◌≤◌, ◌==◌, nat_lt, nat_le, if◌then◌else◌, List, [], length, take}
 use Rattle.pv_outside.specs.declared.limits.Limits.{Limits}
 use Rattle.pv_edits.specs.declared.record.Record.{Record}
+use Rattle.pv_udc.specs.EditList.{EditList}
 use Rattle.pv_network.specs.declared.centre.Arrival.{Arrival}
 use Rattle.pv_network.specs.declared.centre.Arrival.TheVariants.{Taken, Old, Early, Full}
-use Rattle.pv_network.specs.UpdateCentre.{Update}
 
 -- a centre: how many records it has applied
 pub record Centre : Type 0 where
@@ -35,8 +35,7 @@ abbrev pub nothing_held : Limits → Held
 nothing_held limits = record { records = []; limits = limits }
 
 -- its records are a prefix of the edit list, and its limits are the Update Centre's
-pub record CentreStands (u : Update) (here : Held) (centre : Centre) : Type 0 where
-  pub within : centre.applied ≤ length u.edits
-  pub prefix : here.records ≡ take centre.applied u.edits
-  pub frame_limit : here.limits.frames ≡ u.frame_limit
-  pub record_limit : here.limits.records ≡ u.record_limit
+pub record CentreStands (u : EditList) (here : Held) (centre : Centre) : Type 0 where
+  pub within : centre.applied ≤ length u.records
+  pub prefix : here.records ≡ take centre.applied u.records
+  pub limits : here.limits ≡ u.limits

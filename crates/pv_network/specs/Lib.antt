@@ -1,12 +1,9 @@
 pub mod Centre
 pub mod Link
-pub mod Numbers
 pub mod OneList
-pub mod Replies
 pub mod Run
 pub mod Sound
 pub mod Standing
 pub mod Step
-pub mod Texts
-pub mod UpdateCentre
+pub mod Verdict
 pub mod World

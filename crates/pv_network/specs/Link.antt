@@ -35,8 +35,8 @@ is_packets_full links = nat_le 20000 (packet_count links)
 
 -- The number that an end sends next, of those below a count: from the acknowledged one up, in turn, and again. There is
 -- none if all of them are acknowledged.
-abbrev pub next_number : End → ℕ → Option ℕ
-next_number end count = if nat_le count end.acknowledged then None
+abbrev pub number_to_send : End → ℕ → Option ℕ
+number_to_send end count = if nat_le count end.acknowledged then None
     else Some (if nat_le end.acknowledged end.next && nat_lt end.next count then end.next else end.acknowledged)
 
 -- a record goes down in a packet, and the end goes on after it

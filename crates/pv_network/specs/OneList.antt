@@ -3,9 +3,9 @@ use Rattle.std.specs.Prelude.{◌≡◌, ℕ, ◌+◌, ◌≤◌, All, IsTrue, L
 use Rattle.std.specs.List.{count_by}
 use Rattle.pv_edits.specs.declared.record.Record.{Record}
 use Rattle.pv_edits.specs.Edits.{is_edit_of, number_in}
+use Rattle.pv_udc.specs.EditList.{EditList}
 use Rattle.pv_network.specs.Centre.{Centre, new_centre}
 use Rattle.pv_network.specs.Run.{EachFollows, IsRun}
-use Rattle.pv_network.specs.UpdateCentre.{Update}
 use Rattle.pv_network.specs.World.{World, Receipt}
 
 -- the number of an edit is one more than how many edits of its editor come before it
@@ -35,12 +35,12 @@ MatchesReceipt edits receipt = StandsAt edits receipt.editor receipt.number rece
 -- The edit list is a run from nothing within the limits. It holds every acknowledged edit once, in order: an editor and a
 -- number have one place, an editor's numbers are 1, 2, 3 and on, and each acknowledged edit stands at the place of its
 -- receipt. Each centre has applied a prefix of the list.
-pub record IsOneList (u : Update) (centres : List Centre) (receipts : List Receipt) : Type 0 where
-  pub run : IsRun u.frame_limit u.record_limit u.edits
-  pub one_place : HasOnePlaceEach u.edits
-  pub numbered : HasNumbersInOrder u.edits
-  pub kept : All (MatchesReceipt u.edits) receipts
-  pub prefixes : (c : ℕ) → (slice_index_or centres c new_centre).applied ≤ length u.edits
+pub record IsOneList (u : EditList) (centres : List Centre) (receipts : List Receipt) : Type 0 where
+  pub run : IsRun u.limits u.records
+  pub one_place : HasOnePlaceEach u.records
+  pub numbered : HasNumbersInOrder u.records
+  pub kept : All (MatchesReceipt u.records) receipts
+  pub prefixes : (c : ℕ) → (slice_index_or centres c new_centre).applied ≤ length u.records
 
 -- the law of a world
 abbrev pub OneList : World → Type 0

@@ -5,9 +5,9 @@ use Rattle.pv_network.specs.declared.packet.Packet.{Packet}
 use Rattle.pv_edits.specs.declared.record.Record.{Record}
 use Rattle.pv_edits.specs.Edits.{is_edit_of}
 use Rattle.pv_edits.specs.Room.{frame_count}
+use Rattle.pv_udc.specs.Judgement.{next_number}
 use Rattle.pv_network.specs.Centre.{Centre}
 use Rattle.pv_network.specs.Link.{Link}
-use Rattle.pv_network.specs.Numbers.{next_edit_number}
 use Rattle.pv_network.specs.OneList.{OneList}
 use Rattle.pv_network.specs.World.{World, centre_at, link_at}
 
@@ -26,7 +26,7 @@ pub record IsSoundLink (edits : List Record) (centre : Centre) (link : Link) : T
 -- the limits are kept, and each centre's link is sound.
 pub record IsSound (w : World) : Type 0 where
   pub law : OneList w
-  pub next : (editor : ℕ) → next_edit_number w.update.edits editor ≡ count_by (is_edit_of editor) w.update.edits + 1
-  pub records : length w.update.edits ≤ w.update.record_limit
-  pub frames : frame_count w.update.edits ≤ w.update.frame_limit
-  pub links : (c : ℕ) → IsSoundLink w.update.edits (centre_at w c) (link_at w c)
+  pub next : (editor : ℕ) → next_number w.update.records editor ≡ count_by (is_edit_of editor) w.update.records + 1
+  pub records : length w.update.records ≤ w.update.limits.records
+  pub frames : frame_count w.update.records ≤ w.update.limits.frames
+  pub links : (c : ℕ) → IsSoundLink w.update.records (centre_at w c) (link_at w c)

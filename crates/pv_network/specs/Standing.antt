@@ -1,18 +1,17 @@
 -- Which worlds a network stands for, part by part.
 use Rattle.std.specs.Prelude.{◌≡◌, ◌<◌, Bool, List, length}
 use Rattle.std.specs.List.{AllZip}
-use Rattle.pv_screen.specs.Grid.{IsRow}
 use Rattle.pv_network.specs.declared.event.Event.{Event}
 use Rattle.pv_network.specs.declared.event.Event.TheVariants as events
+use Rattle.pv_udc.specs.EditList.{EditList}
 use Rattle.pv_network.specs.Centre.{Held, CentreStands}
 use Rattle.pv_network.specs.Link.{Link}
 use Rattle.pv_network.specs.Sound.{IsSound}
-use Rattle.pv_network.specs.UpdateCentre.{Update, UdcStands}
 use Rattle.pv_network.specs.World.{World}
 
 -- what is seen of a network: its parts, and whether it once was out of memory
 pub record State : Type 0 where
-  pub update : Update
+  pub update : EditList
   pub centres : List Held
   pub links : List Link
   pub is_out : Bool
@@ -20,7 +19,7 @@ pub record State : Type 0 where
 -- the network stands for a sound world, each part for its part
 pub record StandsFor (s : State) (w : World) : Type 0 where
   pub sound : IsSound w
-  pub update : UdcStands w.update s.update
+  pub update : s.update ≡ w.update
   pub centres : AllZip (CentreStands w.update) s.centres w.centres
   pub links : s.links ≡ w.links
 
@@ -32,9 +31,9 @@ IsStanding s = (w : World) × StandsFor s w
 abbrev pub Performs : {A : Type 0} → State → State → A → (World → World × A) → Type 0
 Performs old new outcome step = (w : World) → StandsFor old w → StandsFor new (step w).0 × (outcome ≡ (step w).1)
 
--- the event is at a centre that there is, or puts a row of cells
+-- the event, if it is at a centre, is at one that there is
 abbrev pub IsPossible : State → Event → Type 0
-IsPossible s (events.Seed name row) = IsRow row
+IsPossible s (events.Seed name row) = Unit {0}
 IsPossible s (events.Send centre) = centre < length s.centres
 IsPossible s (events.Deliver centre index) = centre < length s.centres
 IsPossible s (events.View centre name) = centre < length s.centres

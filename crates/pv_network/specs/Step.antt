@@ -1,14 +1,18 @@
 -- What one event makes of the world, and the answer to it.
-use Rattle.std.specs.Prelude.{ℕ, Bool, List, [], ◌∷◌, length, Option, Some, None, slice_get, nat_le, if◌then◌else◌}
-use Rattle.std.specs.List.{list_all}
+use Rattle.std.specs.Prelude.{ℕ, Bool, List, [], ◌∷◌, length, Option, Some, None, slice_get, if◌then◌else◌}
 use Rattle.pv_page.specs.Names.{Name}
-use Rattle.pv_cells.specs.declared.reading.TheConstants.{LAST_CELL}
-use Rattle.pv_frame.specs.Content.{Content, frame_of_row}
+use Rattle.pv_frame.specs.declared.layout.TheConstants.{FIRST_ROW}
+use Rattle.pv_frame.specs.Content.{Content, blank_frame, with_row}
 use Rattle.pv_screen.specs.Composing.{composed_grid}
 use Rattle.pv_screen.specs.declared.screen.Screen.TheVariants.{Whole}
 use Rattle.pv_edits.specs.declared.record.Record.{Record}
 use Rattle.pv_edits.specs.declared.room.TheConstants.{OPERATOR}
+use Rattle.pv_edits.specs.declared.wish.EditWish.{EditWish}
+use Rattle.pv_edits.specs.declared.wish.EditWish.TheVariants.{Put}
 use Rattle.pv_edits.specs.Edits.{frame_at}
+use Rattle.pv_udc.specs.Judgement.{next_number}
+use Rattle.pv_udc.specs.declared.request.UdcRequest.TheVariants.{Edit}
+use Rattle.pv_editor.specs.Replies.{reply_of}
 use Rattle.pv_network.specs.declared.packet.Packet.{Packet}
 use Rattle.pv_network.specs.declared.centre.Arrival.{Arrival}
 use Rattle.pv_network.specs.declared.centre.Arrival.TheVariants as arrivals
@@ -17,30 +21,28 @@ use Rattle.pv_network.specs.declared.event.Event.TheVariants as events
 use Rattle.pv_network.specs.declared.outcome.Outcome.{Outcome}
 use Rattle.pv_network.specs.declared.outcome.Outcome.TheVariants as outcomes
 use Rattle.pv_network.specs.Centre.{with_next, arrival_of}
-use Rattle.pv_network.specs.Link.{is_packets_full, next_number, with_packet, with_acknowledgement}
-use Rattle.pv_network.specs.Replies.{bad_line_reply}
-use Rattle.pv_network.specs.UpdateCentre.{Judgement, judgement_of}
-use Rattle.pv_network.specs.World.{World, centre_at, link_at, with_centre, with_link, with_edit, page_base}
+use Rattle.pv_network.specs.Link.{is_packets_full, number_to_send, with_packet, with_acknowledgement}
+use Rattle.pv_network.specs.Verdict.{Verdict, verdict_of}
+use Rattle.pv_network.specs.World.{World, centre_at, link_at, with_centre, with_link, with_edit, with_receipt, page_base}
 
 -- ---- seed
 
--- the world with the record that is stored, if there is one
-abbrev pub world_with : World → Option Record → World
-world_with w None = w
-world_with w (Some edit) = with_edit w edit
+-- the world after a verdict on an editor's request
+abbrev pub with_verdict : World → ℕ → ℕ → Verdict → World
+with_verdict w editor q verdict = with_receipt (with_edit w verdict.stored) editor q verdict.reply
 
--- the world after a judgement, and its reply
-abbrev pub step_of_judgement : World → Judgement → World × Outcome
-step_of_judgement w judgement = (world_with w judgement.stored, outcomes.Reply judgement.reply)
+-- an editor's request is judged: its record is stored unless it is refused, and an edit that is stored is acknowledged
+abbrev pub step_of_request : World → ℕ → ℕ → EditWish → World × Outcome
+step_of_request w editor q wish =
+    let verdict = verdict_of w.update (Edit editor q wish) in (with_verdict w editor q verdict, outcomes.Reply (reply_of verdict.reply))
 
--- the frame of a row of cells; another row has none
-abbrev pub frame_of_cells : List ℕ → Option Content
-frame_of_cells row = if list_all (λ cell. nat_le cell LAST_CELL) row then Some (frame_of_row row) else None
+-- a frame that is blank except for its row 2
+abbrev pub seeded_frame : List ℕ → Content
+seeded_frame row = record blank_frame { body = with_row FIRST_ROW row blank_frame.body }
 
--- the operator puts a frame under a name; what is no frame is no request
-abbrev pub step_of_put : World → Name → Option Content → World × Outcome
-step_of_put w name None = (w, outcomes.Reply bad_line_reply)
-step_of_put w name (Some frame) = step_of_judgement w (judgement_of w.update OPERATOR name frame)
+-- the operator's next number puts that frame under a name
+abbrev pub step_of_seed : World → Name → List ℕ → World × Outcome
+step_of_seed w name row = step_of_request w OPERATOR (next_number w.update.records OPERATOR) (Put name (seeded_frame row))
 
 -- ---- view
 
@@ -63,12 +65,12 @@ step_of_packing w c number (Some edit) = (with_link w c (with_packet (link_at w 
 -- the record of the number that is sent next is packed, if there is such a number
 abbrev pub step_of_number : World → ℕ → Option ℕ → World × Outcome
 step_of_number w c None = (w, outcomes.Idle)
-step_of_number w c (Some number) = step_of_packing w c number (slice_get w.update.edits number)
+step_of_number w c (Some number) = step_of_packing w c number (slice_get w.update.records number)
 
 -- the next record is packed for a centre, unless no packet can be made
 abbrev pub step_of_send : World → ℕ → World × Outcome
 step_of_send w c = if is_packets_full w.links then (w, outcomes.PacketsFull)
-    else step_of_number w c (next_number (link_at w c).sending (length w.update.edits))
+    else step_of_number w c (number_to_send (link_at w c).sending (length w.update.records))
 
 -- ---- deliver
 
@@ -93,7 +95,7 @@ step_of_arrival w c number arrivals.Full = (w, outcomes.Full (centre_at w c).app
 -- a packet that was made arrives
 abbrev pub step_of_packet : World → ℕ → Option Packet → World × Outcome
 step_of_packet w c None = (w, outcomes.NoPacket)
-step_of_packet w c (Some packet) = step_of_arrival w c packet.number (arrival_of (centre_at w c).applied w.update.record_limit packet.number)
+step_of_packet w c (Some packet) = step_of_arrival w c packet.number (arrival_of (centre_at w c).applied w.update.limits.records packet.number)
 
 -- the packet of an index arrives at a centre
 abbrev pub step_of_deliver : World → ℕ → ℕ → World × Outcome
@@ -107,14 +109,14 @@ step_of_at w c = (w, outcomes.Applied (centre_at w c).applied)
 
 -- so does one for the length of the edit list
 abbrev pub step_of_list : World → World × Outcome
-step_of_list w = (w, outcomes.Records (length w.update.edits))
+step_of_list w = (w, outcomes.Records (length w.update.records))
 
 -- ---- all
 
 -- The world after an event, and the answer. The last argument is a choice of the outside: whether a stop within a write
 -- kept the record that was being written. No event stops a node yet, so that none depends on it.
 abbrev pub happens : World → Event → Bool → World × Outcome
-happens w (events.Seed name row) kept = step_of_put w name (frame_of_cells row)
+happens w (events.Seed name row) kept = step_of_seed w name row
 happens w (events.Send centre) kept = step_of_send w centre
 happens w (events.Deliver centre index) kept = step_of_deliver w centre index
 happens w (events.View centre name) kept = step_of_view w centre name

@@ -1,10 +1,12 @@
 -- The world: the one edit list, what each centre has of it, and every packet that was ever made.
-use Rattle.std.specs.Prelude.{ℕ, List, [], ◌∷◌, ◌++◌, length, take, replicate, slice_index_or, slice_set}
+use Rattle.std.specs.Prelude.{ℕ, Option, Some, None, List, [], ◌∷◌, ◌++◌, length, take, replicate, slice_index_or, slice_set}
+use Rattle.pv_outside.specs.declared.limits.Limits.{Limits}
 use Rattle.pv_edits.specs.declared.record.Record.{Record}
-use Rattle.pv_edits.specs.declared.record.Record.TheVariants.{Put, Drop, Account, Lease, Taken}
+use Rattle.pv_udc.specs.EditList.{EditList, empty_list, with_record}
+use Rattle.pv_editor.specs.declared.replies.UdcReplyView.{UdcReplyView}
+use Rattle.pv_editor.specs.declared.replies.UdcReplyView.TheVariants.{Stored, Refused}
 use Rattle.pv_network.specs.Centre.{Centre, new_centre}
 use Rattle.pv_network.specs.Link.{Link, new_link, link_in}
-use Rattle.pv_network.specs.UpdateCentre.{Update, with_record}
 
 -- an edit that was acknowledged to its editor: under his number, at its place in the list
 pub record Receipt : Type 0 where
@@ -15,7 +17,7 @@ pub record Receipt : Type 0 where
 -- everything there is
 pub record World : Type 0 where
   -- the edit list with its limits
-  pub update : Update
+  pub update : EditList
   -- the centres, and the link of each
   pub centres : List Centre
   pub links : List Link
@@ -23,9 +25,9 @@ pub record World : Type 0 where
   pub receipts : List Receipt
 
 -- the world at the start
-abbrev pub start : ℕ → ℕ → ℕ → World
-start centres frames records = record {
-  update = record { edits = []; frame_limit = frames; record_limit = records };
+abbrev pub start : ℕ → Limits → World
+start centres limits = record {
+  update = empty_list limits;
   centres = replicate centres new_centre;
   links = replicate centres new_link;
   receipts = [];
@@ -41,7 +43,7 @@ link_at w c = link_in w.links c
 
 -- the page base of a centre: the prefix of the edit list that it has applied
 abbrev pub page_base : World → ℕ → List Record
-page_base w c = take (centre_at w c).applied w.update.edits
+page_base w c = take (centre_at w c).applied w.update.records
 
 -- the world with another centre in the place of that number
 abbrev pub with_centre : World → ℕ → Centre → World
@@ -51,17 +53,12 @@ with_centre w c centre = record w { centres = slice_set w.centres c centre }
 abbrev pub with_link : World → ℕ → Link → World
 with_link w c link = record w { links = slice_set w.links c link }
 
--- the receipt of a record at its place; an item that was taken up has no editor and gives none
-abbrev pub receipts_of : Record → ℕ → List Receipt
-receipts_of (Put editor q name frame) place = record { editor = editor; number = q; place = place } ∷ []
-receipts_of (Drop editor q name) place = record { editor = editor; number = q; place = place } ∷ []
-receipts_of (Account editor q account) place = record { editor = editor; number = q; place = place } ∷ []
-receipts_of (Lease editor q root account) place = record { editor = editor; number = q; place = place } ∷ []
-receipts_of (Taken taken) place = []
+-- the world with one more record, if there is one
+abbrev pub with_edit : World → Option Record → World
+with_edit w None = w
+with_edit w (Some edit) = record w { update = with_record w.update edit }
 
--- the world with one more record, which is acknowledged as it is stored
-abbrev pub with_edit : World → Record → World
-with_edit w edit = record w {
-  update = with_record w.update edit;
-  receipts = w.receipts ++ receipts_of edit (length w.update.edits);
-}
+-- the world with one more receipt, if an editor's request under a number is acknowledged
+abbrev pub with_receipt : World → ℕ → ℕ → UdcReplyView → World
+with_receipt w editor q (Stored place) = record w { receipts = w.receipts ++ record { editor = editor; number = q; place = place } ∷ [] }
+with_receipt w editor q (Refused code shown) = w

@@ -27,11 +27,10 @@ mod links;
 mod network;
 mod outcome;
 mod packet;
-mod text;
-mod update_centre;
+mod verdict;
 
 pub use event::Event;
 pub use laws::every_reachable_world_is_sound;
 pub use network::Network;
 pub use outcome::{Outcome, Turn, Why};
-pub use text::Text;
+pub use pv_editor::Text;

@@ -1,6 +1,6 @@
 ghost use Rattle.std.specs.Prelude.{◌≡◌, ◌+◌, ◌<◌, ◌^◌, ℕ, length, slice_get, IfOk};
 ghost use Rattle.pv_network.specs.declared.packet.TheConstants.{MAX_PACKETS};
-ghost use Rattle.pv_network.specs.Link.{no_places, next_number, with_place, with_count};
+ghost use Rattle.pv_network.specs.Link.{no_places, number_to_send, with_place, with_count};
 
 use crate::packet::MAX_PACKETS;
 use std::alloc::{AllocError, Global};
@@ -57,7 +57,7 @@ impl Link {
 
     /// The number that is sent next, of those below this count. `None` if all of them are acknowledged.
     pub(crate) fn next_number(&self, count: u64) -> Option<u64>
-        ensures { result ≡ next_number self.now.sending count }
+        ensures { result ≡ number_to_send self.now.sending count }
     {
         if count <= self.acknowledged {
             return None;

@@ -1,5 +1,5 @@
 ghost use Rattle.std.specs.Prelude.{◌≡◌, ◌+◌, ◌<◌, ◌^◌, ℕ, false, length, replicate, option_copied, slice_get, slice_set, IfOk};
-ghost use Rattle.pv_network.specs.Link.{new_link, link_in, is_packets_full, next_number, with_packet, with_acknowledgement};
+ghost use Rattle.pv_network.specs.Link.{new_link, link_in, is_packets_full, number_to_send, with_packet, with_acknowledgement};
 
 use crate::link::Link;
 use crate::packet::{MAX_PACKETS, Packet};
@@ -66,7 +66,7 @@ impl Links {
     /// The number that a link sends next, of those below this count. `None` if all of them are acknowledged.
     pub(crate) fn next_number(&self, link: usize, count: u64) -> Option<u64>
         requires { link < length self.now }
-        ensures { result ≡ next_number (link_in self.now link).sending count }
+        ensures { result ≡ number_to_send (link_in self.now link).sending count }
     {
         self.links[link].next_number(count)
     }

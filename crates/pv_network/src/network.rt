@@ -1,25 +1,27 @@
 ghost use Rattle.std.specs.Prelude.{◌≡◌, ℕ, ◌+◌, ◌<◌, ◌≤◌, ◌^◌, Bool, false, length, IsTrue, IsOk, IsErr, IfOk};
-ghost use Rattle.pv_frame.specs.Content.{frame_of_row};
-ghost use Rattle.pv_screen.specs.Grid.{IsRow};
 ghost use Rattle.pv_network.specs.World.{start};
 ghost use Rattle.pv_network.specs.Standing.{StandsFor, Performs, IsPossible};
-ghost use Rattle.pv_network.specs.Step.{happens, step_of_put, frame_of_cells, step_of_send, step_of_deliver, step_of_view, step_of_at, step_of_list, step_of_acknowledging};
+ghost use Rattle.pv_network.specs.Step.{happens, step_of_request, step_of_seed, step_of_send, step_of_deliver, step_of_view, step_of_at, step_of_list, step_of_acknowledging};
 
 use crate::centre::{Arrival, Centre, open_centres};
 use crate::event::Event;
 use crate::links::Links;
 use crate::outcome::{Outcome, Turn};
-use crate::update_centre::UpdateCentre;
+use crate::verdict::store;
+use pv_editor::reply_text;
+use pv_edits::{EditWish, OPERATOR};
+use pv_frame::{FIRST_ROW, Frame};
 use pv_outside::Limits;
-use pv_page::FrameName;
+use pv_page::{AccountNo, FrameName};
 use pv_screen::{Screen, compose};
+use pv_udc::{UdcRequest, UdcState};
 use std::alloc::{AllocError, Global};
 use std::marker::Model;
 
 /// One Update Centre and one to four retrieval centres, with the links between them.
 #[derive(Debug, Drop)]
 pub struct Network {
-    update: UpdateCentre,
+    update: UdcState,
     centres: Vec<Centre>,
     links: Links,
     // Whether a step was out of memory; every later step is too.
@@ -54,20 +56,19 @@ impl Network {
     pub fn open(alloc: Global, centres: u8, limits: Limits) -> Result<Network, AllocError>
         requires some { 1 ≤ centres }
         requires few { centres ≤ 4 }
-        ensures ok { IfOk result (λ network. StandsFor network (start centres limits.frames limits.records)) }
+        ensures ok { IfOk result (λ network. StandsFor network (start centres limits)) }
         ensures centres { IfOk result (λ network. length network.centres ≡ centres) }
         ensures memory { IfOk result (λ network. network.is_out ≡ false) }
     {
         Ok(Network {
-            update: UpdateCentre::open(alloc, limits)?,
+            update: UdcState::open(alloc, limits)?,
             centres: open_centres(alloc, centres, limits)?,
             links: Links::open(alloc, centres)?,
             is_out: false,
         })
     }
 
-    /// Lets an event happen, and returns what came of it. The event's centre is one of the network's, and
-    /// its row is one of cells of 0 to 127. The only error is that memory ran out: after it, every later
+    /// Lets an event happen, and returns what came of it. The event's centre is one of the network's. The only error is that memory ran out: after it, every later
     /// step returns it too. No event so far takes memory.
     pub fn step(&mut self, event: &Event) -> Result<Outcome, AllocError>
         requires { IsPossible self.old event.now }
@@ -108,14 +109,25 @@ impl Network {
         })
     }
 
-    /// The operator puts a row under a name.
+    /// The operator's next number puts a frame under a name that is blank except for its row 2.
     fn seed(&mut self, name: FrameName, row: &[u8; 40]) -> Outcome
-        requires { IsRow row.now }
-        ensures performs { Performs self.old self.new result
-            (λ w. step_of_put w name (frame_of_cells row.now)) }
+        ensures performs { Performs self.old self.new result (λ w. step_of_seed w name row.now) }
         ensures centres { length self.new.centres ≡ length self.old.centres }
     {
-        Outcome::Reply(self.update.seed(name, row))
+        let mut frame = Frame::blank();
+        frame.set_row(FIRST_ROW, row);
+        let editor = AccountNo::of_number(OPERATOR).unwrap();
+        let q = self.update.next_number(editor) as u32;
+        self.ask(editor, q, EditWish::Put { name, frame })
+    }
+
+    /// The Update Centre judges an editor's request, and stores its record unless it is refused.
+    fn ask(&mut self, editor: AccountNo, q: u32, wish: EditWish) -> Outcome
+        ensures performs { Performs self.old self.new result (λ w. step_of_request w editor q wish) }
+        ensures centres { length self.new.centres ≡ length self.old.centres }
+    {
+        let reply = store(&mut self.update, &UdcRequest::Edit { editor, q, wish });
+        Outcome::Reply(reply_text(&reply))
     }
 
     /// Packs the next record for a centre.
@@ -127,10 +139,10 @@ impl Network {
         if self.links.is_full() {
             return Outcome::PacketsFull;
         }
-        let Some(number) = self.links.next_number(centre, self.update.count()) else {
+        let Some(number) = self.links.next_number(centre, self.update.front()) else {
             return Outcome::Idle;
         };
-        let Some(edit) = self.update.get(number) else {
+        let Some(edit) = self.update.rec_at(number) else {
             return Outcome::Idle;
         };
         let index = self.links.pack(centre, number, edit);
@@ -195,7 +207,7 @@ impl Network {
     fn list(&self) -> Outcome
         ensures { Performs self.now self.now result step_of_list }
     {
-        let count = self.update.count();
+        let count = self.update.front();
         Outcome::Records { count }
     }
 
@@ -209,9 +221,6 @@ impl Network {
         if self.links.is_full() {
             return None;
         }
-        Some(
-            self.links
-                .acknowledge(centre, self.centres[centre].count()),
-        )
+        Some(self.links.acknowledge(centre, self.centres[centre].count()))
     }
 }

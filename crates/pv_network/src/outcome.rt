@@ -1,4 +1,4 @@
-use crate::text::Text;
+use pv_editor::Text;
 use pv_screen::Screen;
 
 /// Why a call ended.

@@ -19,7 +19,7 @@ pub const CENTRES: usize = 4;
 
 /// What the Update Centre knows: its edit list, what follows from it, and how many items of each centre
 /// were taken up. All room is reserved when it is opened.
-#[derive(Drop)]
+#[derive(Debug, Drop)]
 pub struct UdcState {
     base: Base,
     limits: Limits,

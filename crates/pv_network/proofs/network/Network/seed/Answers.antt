@@ -1,40 +1,28 @@
-use Rattle.std.proofs.Common.{◌≡◌, ap}
-use Rattle.pv_frame.specs.Content.{frame_of_row}
-use Rattle.pv_frame.proofs.CallerLemmas.{IsValid-frame_of_row}
+use Rattle.std.proofs.Common.{rules, ◌≡◌, ℕ, ◌+◌, length, ap, ◌∙◌, arith}
+use Rattle.std.specs.List.{count_by}
+use Rattle.std.proofs.lemmas.List.Sums.{count_by-le-length}
 use Rattle.pv_edits.specs.declared.room.TheConstants.{OPERATOR}
-use Rattle.pv_network.specs.declared.outcome.Outcome.TheVariants.{Reply}
-use Rattle.pv_network.specs.Standing.{State, StandsFor}
-use Rattle.pv_network.specs.Step.{step_of_put, frame_of_cells}
-use Rattle.pv_network.specs.UpdateCentre.{judgement_of}
-use Rattle.pv_network.specs.World.{World}
-use Rattle.pv_network.proofs.Performing.{frame_of_cells-row}
-use Rattle.pv_network.proofs.Soundness.{sound_judged}
-use Rattle.pv_network.proofs.Standing.{update_replaced}
+use Rattle.pv_edits.specs.Edits.{is_edit_of}
+use Rattle.pv_udc.specs.Judgement.{next_number}
+use Rattle.pv_network.specs.Step.{seeded_frame}
 use Rattle.pv_network.proofs.network.Network.seed.Goals as goal
-use Rattle.pv_network.proofs.network.Network.seed.Goals.{After-seed}
 
--- the network as it was
-abbrev before : After-seed → State
-before c =
-    let n = c.self.inside in
-    record { update = n.update; centres = n.centres.items; links = n.links; is_out = n.is_out }
-
--- the Update Centre does it
-put : (c : After-seed) (w : World) → StandsFor (before c) w
-    → StandsFor (record (before c) { update = c.seed.new.self }) (step_of_put w c.args.name (frame_of_cells c.args.row.now)).0
-    × (Reply c.seed.result ≡ (step_of_put w c.args.name (frame_of_cells c.args.row.now)).1)
-put c w stands =
-    let row = c.args.row.now in
-    let sound = sound_judged w c.args.name (frame_of_row row) (IsValid-frame_of_row row c.requires.seven_bits) stands.sound in
-    rw (frame_of_cells-row row c.requires) (
-      update_replaced _ w stands (judgement_of w.update OPERATOR c.args.name (frame_of_row row)).stored c.seed.new.self (c.seed.ensures.stored w.update stands.update) sound,
-      ap Reply (c.seed.ensures.reply w.update stands.update),
-    )
-
-pub invariant_of-self : goal.invariant_of-self
-invariant_of-self c =
-    let stands = c.self.invariant.1 in
-    (c.self.invariant.0, ((step_of_put stands.0 c.args.name (frame_of_cells c.args.row.now)).0, (put c stands.0 stands.1).0))
+-- the operator has no more edits than there are records
+pub overflow_cast-q : goal.overflow_cast-q
+overflow_cast-q c =
+    let w = c.self.invariant.1.0 in
+    let stands = c.self.invariant.1.1 in
+    let editor = c.unwrap-editor.result in
+    let few = count_by-le-length (is_edit_of editor) w.update.records in
+    let next : next_number c.self.inside.update.records editor ≡ count_by (is_edit_of editor) w.update.records + 1 =
+    rw stands.update (stands.sound.next editor) in
+    omega (arith, c.next_number-q.ensures, next, few, stands.sound.records, w.update.limits.records_in_range.1)
 
 pub returns-clause-performs : goal.returns-clause-performs
-returns-clause-performs c = λ w stands. put c w (rw (← c.self.view_is) at stands)
+returns-clause-performs c = λ w stands.
+    let here = rw (← c.self.view_is) at stands.update in
+    let his : c.unwrap-editor.result ≡ OPERATOR = search rules in
+    let frame : c.set_row.new.self ≡ seeded_frame c.args.row.now = rw c.blank-frame.ensures.blank at c.set_row.ensures.written in
+    let q = rw (here, his) at c.next_number-q.ensures in
+    let asked = c.ask.ensures.performs w stands in
+    rw (his, q, frame) at asked

@@ -16,3 +16,8 @@ noted (Err e) old new out step is = tt
 pub returns-clause-performs : goal.returns-clause-performs
 returns-clause-performs c =
     noted c.happen-outcome.result _ _ c.is_err-self-inside.result (λ kept w. happens w c.args.event.now kept) (rw (← c.self-2.view_is) at c.happen-outcome.ensures.performs)
+
+-- it stands for the world that it stood for
+pub invariant_of-self : goal.invariant_of-self
+invariant_of-self c =
+    let stands = c.self-2.invariant.1 in (c.self-2.invariant.0, (stands.0, out_stands _ stands.0 stands.1 c.is_err-self-inside.result))

@@ -1,0 +1,43 @@
+-- What the Update Centre makes of an editor's request: the record that it stores, and its reply.
+use Rattle.std.specs.Prelude.{ℕ, nat_le, if◌then◌else◌, Option, Some, None, length}
+use Rattle.pv_outside.specs.declared.limits.Limits.{Limits}
+use Rattle.pv_edits.specs.declared.record.Record.{Record}
+use Rattle.pv_node.specs.declared.decision.Decision.{Decision}
+use Rattle.pv_node.specs.declared.decision.Decision.TheVariants.{Answer, Store}
+use Rattle.pv_udc.specs.EditList.{EditList, with_record}
+use Rattle.pv_udc.specs.Judgement.{judge}
+use Rattle.pv_udc.specs.declared.reply.UdcReply.{UdcReply}
+use Rattle.pv_udc.specs.declared.reply.UdcReply.TheVariants.{Stored, Again, Old, Early, Refused}
+use Rattle.pv_udc.specs.declared.request.UdcRequest.{UdcRequest}
+use Rattle.pv_editor.specs.declared.replies.UdcReplyView.{UdcReplyView}
+use Rattle.pv_editor.specs.declared.replies.UdcReplyView.TheVariants as told
+use Rattle.pv_network.specs.declared.verdict.TheConstants.{FULL}
+
+-- the record that is stored, if one is, and what the editor is told
+pub record Verdict : Type 0 where
+  pub stored : Option Record
+  pub reply : UdcReplyView
+
+-- what an editor is told of a reply, the same of a repeated request as of a new one; the replies to items go to no editor
+abbrev pub view_of : UdcReply → UdcReplyView
+view_of (Stored place) = told.Stored place
+view_of (Again place) = told.Stored place
+view_of (Refused code) = told.Refused code.code code.shown
+view_of (Old count) = told.Stored count
+view_of (Early count) = told.Stored count
+
+-- the verdict of a decision: a record that is one too many is refused after all
+abbrev pub verdict_by : EditList → Decision Record UdcReply → Verdict
+verdict_by u (Answer reply) = record { stored = None; reply = view_of reply }
+verdict_by u (Store edit reply) =
+    if nat_le u.limits.records (length u.records) then record { stored = None; reply = told.Refused FULL (length u.records) }
+    else record { stored = Some edit; reply = view_of reply }
+
+-- the verdict on a request
+abbrev pub verdict_of : EditList → UdcRequest → Verdict
+verdict_of u request = verdict_by u (judge u.limits u.records request)
+
+-- the list with the record that is stored, if there is one
+abbrev pub with_stored : EditList → Option Record → EditList
+with_stored u None = u
+with_stored u (Some edit) = with_record u edit

@@ -1,0 +1,40 @@
+ghost use Rattle.std.specs.Prelude.{◌≡◌};
+ghost use Rattle.pv_udc.specs.Requests.{HasCentre};
+ghost use Rattle.pv_network.specs.Verdict.{view_of, verdict_of, with_stored};
+
+use pv_editor::UdcReplyView;
+use pv_node::Decision;
+use pv_udc::{UdcReply, UdcRequest, UdcState};
+
+/// The code of a request whose record would be one too many: it prints how many there are.
+pub(crate) const FULL: u8 = 14;
+
+/// Judges a request, stores its record unless it is refused, and returns what the editor is told.
+pub(crate) fn store(update: &mut UdcState, request: &UdcRequest) -> UdcReplyView
+    requires { HasCentre request.now }
+    ensures reply { result ≡ (verdict_of update.old request.now).reply }
+    ensures stored { update.new ≡ with_stored update.old (verdict_of update.old request.now).stored }
+{
+    match update.decide(request) {
+        Decision::Answer(reply) => view_of(reply),
+        Decision::Store(record, reply) => {
+            let place = update.front();
+            if update.is_full() {
+                return UdcReplyView::Refused(FULL, place);
+            }
+            update.absorb(&record, place);
+            view_of(reply)
+        }
+    }
+}
+
+/// What an editor is told of a reply.
+fn view_of(reply: UdcReply) -> UdcReplyView
+    ensures { result ≡ view_of reply }
+{
+    match reply {
+        UdcReply::Stored(place) | UdcReply::Again(place) => UdcReplyView::Stored(place),
+        UdcReply::Refused(code) => UdcReplyView::Refused(code.code, code.shown),
+        UdcReply::Old(count) | UdcReply::Early(count) => UdcReplyView::Stored(count),
+    }
+}
