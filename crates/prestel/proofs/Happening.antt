@@ -11,6 +11,7 @@ pub can_happen : (s : State) (word : Word) (tail : List ℕ) (event : Event) →
 can_happen s words.Seed tail event asks = subst (IsPossible s) (sym asks.is) tt
 can_happen s words.Send tail event asks = subst (IsPossible s) (sym asks.is) asks.are.first.0
 can_happen s words.Deliver tail event asks = subst (IsPossible s) (sym asks.is) asks.are.first.0
+can_happen s words.Back tail event asks = subst (IsPossible s) (sym asks.is) asks.are.first.0
 can_happen s words.View tail event asks = subst (IsPossible s) (sym asks.is) asks.are.first.0
 can_happen s words.At tail event asks = subst (IsPossible s) (sym asks.is) asks.are.first.0
 can_happen s words.List tail event asks = subst (IsPossible s) (sym asks.1) tt

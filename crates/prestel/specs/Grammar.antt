@@ -19,6 +19,7 @@ abbrev pub AsksAs : ℕ → Word → List ℕ → Event → Type 0
 AsksAs centres words.Seed tail = Gives (AreTwo IsFrameText IsRowText) (λ parts. events.Seed parts.0 parts.1) tail
 AsksAs centres words.Send tail = Gives (IsOne (IsBelow centres)) (λ centre. events.Send centre) tail
 AsksAs centres words.Deliver tail = Gives (AreTwo (IsBelow centres) IsNumber) (λ parts. events.Deliver parts.0 parts.1) tail
+AsksAs centres words.Back tail = Gives (AreTwo (IsBelow centres) IsNumber) (λ parts. events.Back parts.0 parts.1) tail
 AsksAs centres words.View tail = Gives (AreTwo (IsBelow centres) IsFrameText) (λ parts. events.View parts.0 parts.1) tail
 AsksAs centres words.At tail = Gives (IsOne (IsBelow centres)) (λ centre. events.At centre) tail
 AsksAs centres words.List tail = GivesAlone events.List tail

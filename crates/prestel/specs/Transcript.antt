@@ -40,6 +40,7 @@ answer_text (outcomes.SentRecord index number) = codes "sent " ++ decimal index 
 answer_text (outcomes.Taken number ack) = codes "taken " ++ decimal number ++ ack_text ack ++ newline
 answer_text (outcomes.Old number ack) = codes "old " ++ decimal number ++ ack_text ack ++ newline
 answer_text (outcomes.Early number ack) = codes "early " ++ decimal number ++ ack_text ack ++ newline
+answer_text (outcomes.Heard number) = codes "heard " ++ decimal number ++ newline
 answer_text (outcomes.Full count) = codes "full " ++ decimal count ++ newline
 answer_text outcomes.NotHeld = codes "-" ++ newline
 answer_text (outcomes.Applied count) = codes "applied " ++ decimal count ++ newline

@@ -14,6 +14,7 @@ word_of_text text =
     if is_text text (codes "seed") then Some words.Seed else
     if is_text text (codes "send") then Some words.Send else
     if is_text text (codes "deliver") then Some words.Deliver else
+    if is_text text (codes "back") then Some words.Back else
     if is_text text (codes "view") then Some words.View else
     if is_text text (codes "at") then Some words.At else
     if is_text text (codes "list") then Some words.List else

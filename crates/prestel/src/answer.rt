@@ -28,6 +28,7 @@ pub fn push_answer(text: &mut Vec<u8>, outcome: &Outcome) -> Result<(), AllocErr
         Outcome::Taken { number, ack } => push_arrival(text, b"taken ", *number, *ack),
         Outcome::Old { number, ack } => push_arrival(text, b"old ", *number, *ack),
         Outcome::Early { number, ack } => push_arrival(text, b"early ", *number, *ack),
+        Outcome::Heard { number } => push_line(text, b"heard ", *number),
         Outcome::Full { count } => push_line(text, b"full ", *count),
         Outcome::NotHeld => push_words(text, b"-\n"),
         Outcome::Applied { count } => push_line(text, b"applied ", *count),

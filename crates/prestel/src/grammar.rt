@@ -61,6 +61,12 @@ fn asked_event(word: Word, tail: &[u8], centres: u8) -> Option<Event>
             tail,
             |(centre, index)| Event::Deliver { centre, index },
         ),
+        Word::Back => two_as(
+            &centre,
+            &Number,
+            tail,
+            |(centre, index)| Event::Back { centre, index },
+        ),
         Word::View => two_as(
             &centre,
             &FrameText,

@@ -10,6 +10,8 @@ pub enum Word {
     Send,
     /// `deliver C K`
     Deliver,
+    /// `back C K`
+    Back,
     /// `view C NAME`
     View,
     /// `at C`
@@ -28,6 +30,8 @@ pub fn word_of(text: &[u8]) -> Option<Word>
         Some(Word::Send)
     } else if text == b"deliver".as_slice() {
         Some(Word::Deliver)
+    } else if text == b"back".as_slice() {
+        Some(Word::Back)
     } else if text == b"view".as_slice() {
         Some(Word::View)
     } else if text == b"at".as_slice() {

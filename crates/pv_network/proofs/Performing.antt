@@ -3,7 +3,7 @@ use Rattle.std.proofs.Common.{◌≡◌, ℕ, ◌<◌, true, false, cond, leb, L
 use Rattle.std.specs.Prelude.{slice_get}
 use Rattle.pv_network.specs.declared.centre.Arrival.{Arrival}
 use Rattle.pv_network.specs.declared.centre.Arrival.TheVariants as arrivals
-use Rattle.pv_network.specs.declared.outcome.Outcome.TheVariants.{Reply, SentRecord}
+use Rattle.pv_network.specs.declared.outcome.Outcome.TheVariants.{Reply, SentRecord, Heard}
 use Rattle.pv_network.specs.declared.packet.Packet.{Packet}
 use Rattle.pv_edits.specs.declared.record.Record.{Record}
 use Rattle.pv_edits.specs.declared.wish.EditWish.{EditWish}
@@ -13,14 +13,14 @@ use Rattle.pv_udc.specs.declared.request.UdcRequest.TheVariants.{Edit}
 use Rattle.pv_editor.specs.Replies.{reply_of}
 use Rattle.pv_editor.specs.declared.replies.UdcReplyView.{UdcReplyView}
 use Rattle.pv_network.specs.Centre.{CentreStands, Held, arrival_of, with_next}
-use Rattle.pv_network.specs.Link.{Link, link_in, is_packets_full, number_to_send, with_packet, with_acknowledgement}
+use Rattle.pv_network.specs.Link.{Link, link_in, is_packets_full, number_to_send, with_packet, with_acknowledgement, heard_link}
 use Rattle.pv_network.specs.Sound.{IsGenuine}
 use Rattle.pv_network.specs.Standing.{State, StandsFor}
-use Rattle.pv_network.specs.Step.{step_of_request, step_of_send, step_of_acknowledging, with_next_at, step_of_arrival, step_of_deliver}
+use Rattle.pv_network.specs.Step.{step_of_request, step_of_send, step_of_acknowledging, with_next_at, step_of_arrival, step_of_deliver, step_of_back}
 use Rattle.pv_network.specs.Verdict.{verdict_of, with_stored}
 use Rattle.pv_network.specs.World.{World, link_at, centre_at}
 use Rattle.pv_network.proofs.Lists.{all_get}
-use Rattle.pv_network.proofs.Soundness.{sound_request, sound_packet, sound_count, sound_applied, taken_is_next}
+use Rattle.pv_network.proofs.Soundness.{sound_request, sound_packet, sound_count, sound_heard, sound_applied, taken_is_next}
 use Rattle.pv_network.proofs.Standing.{request_stands, centre_count, centre_takes, centre_has_room, centre_stands, centre_replaced, link_replaced}
 
 -- an editor's request is judged
@@ -43,6 +43,14 @@ module _ (s : State) (w : World) (stands : StandsFor s w) (c : ℕ) where
         link_replaced s w stands c links _ (rw stands.links at made) (sound_packet w c number edit stands.sound found),
         ap (λ (n : ℕ). SentRecord n number) (rw stands.links at index-is),
       )
+
+  -- an acknowledgement is heard
+  pub hears : (links : List Link) (front number index : ℕ) → front ≡ length s.update.records → slice_get (link_in s.links c).up index ≡ Some number
+      → links ≡ set s.links c (heard_link (link_in s.links c) front number)
+      → StandsFor (record s { links = links }) (step_of_back w c index).0 × (Heard number ≡ (step_of_back w c index).1)
+  hears links front number index front-is found made =
+      let there : slice_get (link_at w c).up index ≡ Some number = rw stands.links at found in
+      rw there (link_replaced s w stands c links _ (rw (front-is, stands.update, stands.links) at made) (sound_heard w c index number stands.sound there), refl)
 
   module _ (here : Held) (there : c < length s.centres) (read : here ≡ get_or s.centres c here) where
     -- the centre stands for the world's

@@ -1,5 +1,5 @@
 -- What an event makes of a sound world is sound.
-use Rattle.std.proofs.Common.{◌≡◌, ℕ, zero, suc, ◌+◌, ◌<◌, ◌≤◌, Bool, true, false, cond, leb, List, [], ◌∷◌, ◌++◌, length, get_or, Option, Some, None, take, refl, sym, ap, subst, ◌∙◌, arith, inl, inr}
+use Rattle.std.proofs.Common.{◌≡◌, ℕ, zero, suc, ◌+◌, ◌<◌, ◌≤◌, Bool, true, false, cond, ◌&&◌, leb, ltb, List, [], ◌∷◌, ◌++◌, length, get_or, Option, Some, None, take, refl, sym, ap, subst, ◌∙◌, arith, inl, inr}
 use Rattle.std.specs.Prelude.{slice_get, replicate}
 use Rattle.std.specs.List.{count_by}
 use Rattle.std.specs.Option.{option_map_or}
@@ -31,11 +31,11 @@ use Rattle.pv_network.specs.declared.event.Event.TheVariants as events
 use Rattle.pv_network.specs.declared.packet.Packet.{Packet}
 use Rattle.pv_network.specs.declared.verdict.TheConstants.{FULL}
 use Rattle.pv_network.specs.Centre.{Centre, new_centre, arrival_of}
-use Rattle.pv_network.specs.Link.{Link, new_link, is_packets_full, number_to_send, with_packet, with_acknowledgement}
+use Rattle.pv_network.specs.Link.{End, Link, new_link, is_packets_full, number_to_send, with_packet, with_acknowledgement, with_heard, heard_link}
 use Rattle.pv_network.specs.OneList.{IsNextOfEditor, HasNumbersInOrder, StandsAt, HasOnePlaceEach, MatchesReceipt}
 use Rattle.pv_network.specs.Run.{EachFollows, MayFollow}
 use Rattle.pv_network.specs.Sound.{IsGenuine, IsSoundLink, IsSound}
-use Rattle.pv_network.specs.Step.{with_verdict, step_of_request, seeded_frame, step_of_packing, step_of_number, step_of_send, step_of_acknowledging, with_next_at, step_of_arrival, step_of_packet, step_of_deliver, happens, after}
+use Rattle.pv_network.specs.Step.{with_verdict, step_of_request, seeded_frame, step_of_packing, step_of_number, step_of_send, step_of_acknowledging, with_next_at, step_of_arrival, step_of_packet, step_of_deliver, step_of_heard, step_of_back, happens, after}
 use Rattle.pv_network.specs.Verdict.{view_of, verdict_by}
 use Rattle.pv_network.specs.World.{World, Receipt, start, centre_at, link_at, with_centre, with_link, with_edit, with_receipt}
 use Rattle.pv_network.proofs.Counts.{count_by-grows, frame_count-none, frames_within}
@@ -302,6 +302,37 @@ sound_deliver w c index sound = arrives (slice_get (link_at w c).down index) ref
     arrives None is = sound
     arrives (Some packet) is = by packet _ (all_get (IsGenuine w.update.records) (link_at w c).down index packet (sound.links c).packets is) refl
 
+-- ---- back
+
+-- what an end heard of is no more than this if both were
+heard_within : (end : End) (front count most : ℕ) → end.acknowledged ≤ most → count ≤ most → (with_heard end front count).acknowledged ≤ most
+heard_within end front count most old new = by (ltb end.acknowledged count && leb count front)
+  where
+    by : (test : Bool) → (cond test (record end { acknowledged = count }) end).acknowledged ≤ most
+    by true = new
+    by false = old
+
+-- a sound world stays sound if an end hears an acknowledgement that was made
+pub sound_heard : (w : World) (c index count : ℕ) → IsSound w → slice_get (link_at w c).up index ≡ Some count
+    → IsSound (with_link w c (heard_link (link_at w c) (length w.update.records) count))
+sound_heard w c index count sound is =
+    let here = sound.links c in
+    let applied = (centre_at w c).applied in
+    sound_with_link w c sound _ (record {
+      packets = here.packets;
+      acknowledged = here.acknowledged;
+      heard = heard_within (link_at w c).sending (length w.update.records) count applied here.heard
+          (all_get (λ n. n ≤ applied) (link_at w c).up index count here.acknowledged is);
+    })
+
+-- a sound world stays sound whatever acknowledgement arrives
+sound_back : (w : World) (c index : ℕ) → IsSound w → IsSound (step_of_back w c index).0
+sound_back w c index sound = arrives (slice_get (link_at w c).up index) refl
+  where
+    arrives : (found : Option ℕ) → slice_get (link_at w c).up index ≡ found → IsSound (step_of_heard w c found).0
+    arrives None is = sound
+    arrives (Some count) is = sound_heard w c index count sound is
+
 -- ---- all
 
 -- a sound world stays sound whatever event happens, whatever a stop kept
@@ -310,6 +341,7 @@ sound_happens w (events.Seed name row) kept sound =
     sound_request w OPERATOR (next_number w.update.records OPERATOR) (Put name (seeded_frame row)) sound
 sound_happens w (events.Send centre) kept sound = sound_send w centre sound
 sound_happens w (events.Deliver centre index) kept sound = sound_deliver w centre index sound
+sound_happens w (events.Back centre index) kept sound = sound_back w centre index sound
 sound_happens w (events.View centre name) kept sound = sound
 sound_happens w (events.At centre) kept sound = sound
 sound_happens w events.List kept sound = sound

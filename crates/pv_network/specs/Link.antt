@@ -50,6 +50,14 @@ with_packet link number edit = record link {
 abbrev pub with_acknowledgement : Link → ℕ → Link
 with_acknowledgement link count = record link { up = link.up ++ count ∷ [] }
 
+-- an end that hears of this many records, if there are so many: it keeps the greatest count that it heard of
+abbrev pub with_heard : End → ℕ → ℕ → End
+with_heard end front count = if nat_lt end.acknowledged count && nat_le count front then record end { acknowledged = count } else end
+
+-- a link whose sending end hears of this many records
+abbrev pub heard_link : Link → ℕ → ℕ → Link
+heard_link link front count = record link { sending = with_heard link.sending front count }
+
 -- ---- how the code keeps the links: all packets in one row, and of each link the places of its own
 
 -- of a link: the places of the packets that went down, the acknowledgements that went up, and the end that sends down
@@ -96,3 +104,7 @@ with_place here number place = record here {
 -- an acknowledgement of this many records goes up
 abbrev pub with_count : Places → ℕ → Places
 with_count here count = record here { up = here.up ++ count ∷ [] }
+
+-- the sending end hears of this many records
+abbrev pub heard_places : Places → ℕ → ℕ → Places
+heard_places here front count = record here { sending = with_heard here.sending front count }

@@ -36,6 +36,7 @@ abbrev pub IsPossible : State → Event → Type 0
 IsPossible s (events.Seed name row) = Unit {0}
 IsPossible s (events.Send centre) = centre < length s.centres
 IsPossible s (events.Deliver centre index) = centre < length s.centres
+IsPossible s (events.Back centre index) = centre < length s.centres
 IsPossible s (events.View centre name) = centre < length s.centres
 IsPossible s (events.At centre) = centre < length s.centres
 IsPossible s events.List = Unit {0}

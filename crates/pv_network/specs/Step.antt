@@ -21,7 +21,7 @@ use Rattle.pv_network.specs.declared.event.Event.TheVariants as events
 use Rattle.pv_network.specs.declared.outcome.Outcome.{Outcome}
 use Rattle.pv_network.specs.declared.outcome.Outcome.TheVariants as outcomes
 use Rattle.pv_network.specs.Centre.{with_next, arrival_of}
-use Rattle.pv_network.specs.Link.{is_packets_full, number_to_send, with_packet, with_acknowledgement}
+use Rattle.pv_network.specs.Link.{is_packets_full, number_to_send, with_packet, with_acknowledgement, heard_link}
 use Rattle.pv_network.specs.Verdict.{Verdict, verdict_of}
 use Rattle.pv_network.specs.World.{World, centre_at, link_at, with_centre, with_link, with_edit, with_receipt, page_base}
 
@@ -101,6 +101,18 @@ step_of_packet w c (Some packet) = step_of_arrival w c packet.number (arrival_of
 abbrev pub step_of_deliver : World → ℕ → ℕ → World × Outcome
 step_of_deliver w c index = step_of_packet w c (slice_get (link_at w c).down index)
 
+-- ---- back
+
+-- an acknowledgement that was made arrives at the Update Centre, whose end hears it
+abbrev pub step_of_heard : World → ℕ → Option ℕ → World × Outcome
+step_of_heard w c None = (w, outcomes.NoPacket)
+step_of_heard w c (Some count) =
+    (with_link w c (heard_link (link_at w c) (length w.update.records) count), outcomes.Heard count)
+
+-- the acknowledgement of an index arrives
+abbrev pub step_of_back : World → ℕ → ℕ → World × Outcome
+step_of_back w c index = step_of_heard w c (slice_get (link_at w c).up index)
+
 -- ---- at, list
 
 -- a question for what a centre has applied leaves the world as it is
@@ -119,6 +131,7 @@ abbrev pub happens : World → Event → Bool → World × Outcome
 happens w (events.Seed name row) kept = step_of_seed w name row
 happens w (events.Send centre) kept = step_of_send w centre
 happens w (events.Deliver centre index) kept = step_of_deliver w centre index
+happens w (events.Back centre index) kept = step_of_back w centre index
 happens w (events.View centre name) kept = step_of_view w centre name
 happens w (events.At centre) kept = step_of_at w centre
 happens w events.List kept = step_of_list w

@@ -10,6 +10,8 @@ pub enum Event {
     Send { centre: u8 },
     /// The packet of this index, of those that were made for a centre, arrives there.
     Deliver { centre: u8, index: u64 },
+    /// The packet of this index, of those that a centre made, arrives at the Update Centre.
+    Back { centre: u8, index: u64 },
     /// Somebody reads a frame as a centre holds it.
     View { centre: u8, name: FrameName },
     /// Somebody asks how many records a centre has applied.

@@ -1,6 +1,6 @@
 ghost use Rattle.std.specs.Prelude.{◌≡◌, ◌+◌, ◌<◌, ◌^◌, ℕ, length, slice_get, IfOk};
 ghost use Rattle.pv_network.specs.declared.packet.TheConstants.{MAX_PACKETS};
-ghost use Rattle.pv_network.specs.Link.{no_places, number_to_send, with_place, with_count};
+ghost use Rattle.pv_network.specs.Link.{no_places, number_to_send, with_place, with_count, heard_places};
 
 use crate::packet::MAX_PACKETS;
 use std::alloc::{AllocError, Global};
@@ -66,6 +66,22 @@ impl Link {
             Some(self.next)
         } else {
             Some(self.acknowledged)
+        }
+    }
+
+    /// The count that the acknowledgement of an index names.
+    pub(crate) fn count(&self, index: u64) -> Option<u64>
+        ensures { result ≡ slice_get self.now.up index }
+    {
+        self.up.get(index as usize).copied()
+    }
+
+    /// Hears that a centre has this many records. An end keeps the greatest count, of those up to this front.
+    pub(crate) fn hear(&mut self, front: u64, count: u64)
+        ensures { self.new ≡ heard_places self.old front count }
+    {
+        if self.acknowledged < count && count <= front {
+            self.acknowledged = count;
         }
     }
 

@@ -1,5 +1,5 @@
 ghost use Rattle.std.specs.Prelude.{◌≡◌, ◌+◌, ◌<◌, ◌^◌, ℕ, false, length, replicate, option_copied, slice_get, slice_set, IfOk};
-ghost use Rattle.pv_network.specs.Link.{new_link, link_in, is_packets_full, number_to_send, with_packet, with_acknowledgement};
+ghost use Rattle.pv_network.specs.Link.{new_link, link_in, is_packets_full, number_to_send, with_packet, with_acknowledgement, heard_link};
 
 use crate::link::Link;
 use crate::packet::{MAX_PACKETS, Packet};
@@ -61,6 +61,22 @@ impl Links {
     {
         let place = self.links[link].place(index)?;
         Some(&self.packets[place])
+    }
+
+    /// The count that the acknowledgement of an index names that went up a link.
+    pub(crate) fn count(&self, link: usize, index: u64) -> Option<u64>
+        requires { link < length self.now }
+        ensures { result ≡ slice_get (link_in self.now link).up index }
+    {
+        self.links[link].count(index)
+    }
+
+    /// The end that sends down a link hears that a centre has this many records, of this many in all.
+    pub(crate) fn hear(&mut self, link: usize, front: u64, count: u64)
+        requires { link < length self.old }
+        ensures { self.new ≡ slice_set self.old link (heard_link (link_in self.old link) front count) }
+    {
+        self.links[link].hear(front, count);
     }
 
     /// The number that a link sends next, of those below this count. `None` if all of them are acknowledged.

@@ -1,7 +1,7 @@
 ghost use Rattle.std.specs.Prelude.{◌≡◌, ℕ, ◌+◌, ◌<◌, ◌≤◌, ◌^◌, Bool, false, length, IsTrue, IsOk, IsErr, IfOk};
 ghost use Rattle.pv_network.specs.World.{start};
 ghost use Rattle.pv_network.specs.Standing.{StandsFor, Performs, IsPossible};
-ghost use Rattle.pv_network.specs.Step.{happens, step_of_request, step_of_seed, step_of_send, step_of_deliver, step_of_view, step_of_at, step_of_list, step_of_acknowledging};
+ghost use Rattle.pv_network.specs.Step.{happens, step_of_request, step_of_seed, step_of_send, step_of_deliver, step_of_back, step_of_view, step_of_at, step_of_list, step_of_acknowledging};
 
 use crate::centre::{Arrival, Centre, open_centres};
 use crate::event::Event;
@@ -103,6 +103,7 @@ impl Network {
             Event::Seed { name, row } => self.seed(*name, row),
             Event::Send { centre } => self.send(*centre as usize),
             Event::Deliver { centre, index } => self.deliver(*centre as usize, *index),
+            Event::Back { centre, index } => self.back(*centre as usize, *index),
             Event::View { centre, name } => self.view(*centre as usize, *name),
             Event::At { centre } => self.at(*centre as usize),
             Event::List => self.list(),
@@ -178,6 +179,19 @@ impl Network {
                 Outcome::Full { count }
             }
         }
+    }
+
+    /// An acknowledgement arrives at the Update Centre.
+    fn back(&mut self, centre: usize, index: u64) -> Outcome
+        requires { centre < length self.old.centres }
+        ensures performs { Performs self.old self.new result (λ w. step_of_back w centre index) }
+        ensures centres { length self.new.centres ≡ length self.old.centres }
+    {
+        let Some(number) = self.links.count(centre, index) else {
+            return Outcome::NoPacket;
+        };
+        self.links.hear(centre, self.update.front(), number);
+        Outcome::Heard { number }
     }
 
     /// A frame as a centre holds it.

@@ -43,6 +43,8 @@ pub enum Outcome {
     Old { number: u64, ack: Option<u64> },
     /// A record before the one of this number has not been taken.
     Early { number: u64, ack: Option<u64> },
+    /// The Update Centre heard that a centre has this many records.
+    Heard { number: u64 },
     /// The centre has this many records, which is its limit, and took none.
     Full { count: u64 },
     /// The centre has no such frame.
