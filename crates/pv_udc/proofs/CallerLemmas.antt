@@ -13,9 +13,9 @@ use Rattle.pv_edits.specs.declared.record.Record.{Record}
 use Rattle.pv_edits.specs.declared.wish.EditWish.{EditWish}
 use Rattle.pv_node.specs.declared.decision.Decision.{Decision}
 use Rattle.pv_node.specs.declared.decision.Decision.TheVariants.{Answer, Store}
-use Rattle.pv_udc.specs.EditList.{places_of}
+use Rattle.pv_udc.specs.EditList.{all_places}
 use Rattle.pv_udc.specs.Requests.{edit_of, record_of}
-use Rattle.pv_udc.specs.Judgement.{last_edit, next_number, kept_place, editor_refusal, refusal_of, refused, answers_of, answered_or_stored, judge}
+use Rattle.pv_udc.specs.Judgement.{last_edit, wanted_number, kept_place, editor_refusal, refusal_of, refused, answers_of, answered_or_stored, judge}
 use Rattle.pv_udc.specs.declared.refusal.Refusal.{Refusal}
 use Rattle.pv_udc.specs.declared.reply.UdcReply.{UdcReply}
 use Rattle.pv_udc.specs.declared.reply.UdcReply.TheVariants.{Stored, Again, Old, Early, Refused}
@@ -46,12 +46,12 @@ or_none (Some p) = p
 
 -- its number is its editor's next
 pub next-judged : (limits : Limits) (records : List Record) (request : UdcRequest) (edit : Record) (reply : UdcReply)
-    → judge limits records request ≡ Store edit reply → (e : ℕ) → is_edit_of e edit ≡ true → number_in edit ≡ Some (next_number records e)
+    → judge limits records request ≡ Store edit reply → (e : ℕ) → is_edit_of e edit ≡ true → number_in edit ≡ Some (wanted_number records e)
 next-judged limits records (Edit editor q wish) edit reply is e his =
     let done = is_done limits records editor q wish edit reply is in
     let same : e ≡ editor = eqb-true e editor (sym (is_edit_of-wish e editor q wish) ∙ ap (is_edit_of e) done.edit_is ∙ his) in
     ap number_in (sym done.edit_is) ∙ number_in-wish editor q wish ∙ ap Some (numbered limits records editor q wish done.not_refused)
-    ∙ ap (λ (n : ℕ). Some (next_number records n)) (sym same)
+    ∙ ap (λ (n : ℕ). Some (wanted_number records n)) (sym same)
 next-judged limits records (TakeUp centre k item) edit reply is e his =
     let asked = record_of (TakeUp centre k item) in
     let answer = first_of (answers_of limits records (TakeUp centre k item)) in
@@ -153,13 +153,13 @@ last_edit-there records editor q place is = by (last_index (is_edit_of editor) r
     named edit None at is = absurd cc
 
     found : (i : ℕ) (edit : Record) (at : Option ℕ) → last_index (is_edit_of editor) records ≡ Some i → slice_get records i ≡ Some edit
-        → slice_get (places_of records) i ≡ at → (at >>= λ p. placed p (number_in edit)) ≡ pair q place
+        → slice_get (all_places records) i ≡ at → (at >>= λ p. placed p (number_in edit)) ≡ pair q place
         → IsThere records editor q place
     found i edit None last here at is = absurd cc
     found i edit (Some p) last here at is =
         let both = named edit (number_in edit) p is in
         let within : i < length records = slice_get_within records i edit here in
-        let index : p ≡ i = sym (get_or_from_slice_get (places_of records) i p 0 at) ∙ get_or-range_with_len 0 (length records) i 0 within ∙ (let none : 0 + i ≡ i = omega arith in none) in
+        let index : p ≡ i = sym (get_or_from_slice_get (all_places records) i p 0 at) ∙ get_or-range_with_len 0 (length records) i 0 within ∙ (let none : 0 + i ≡ i = omega arith in none) in
         record {
           edit = edit;
           there = ap (slice_get records) (sym both.1 ∙ index) ∙ here;
@@ -168,13 +168,13 @@ last_edit-there records editor q place is = by (last_index (is_edit_of editor) r
         }
 
     there : (i : ℕ) (edit : Option Record) → last_index (is_edit_of editor) records ≡ Some i → slice_get records i ≡ edit
-        → (edit >>= λ e. slice_get (places_of records) i >>= λ p. placed p (number_in e)) ≡ pair q place
+        → (edit >>= λ e. slice_get (all_places records) i >>= λ p. placed p (number_in e)) ≡ pair q place
         → IsThere records editor q place
     there i None last here is = absurd cc
-    there i (Some edit) last here is = found i edit (slice_get (places_of records) i) last here refl is
+    there i (Some edit) last here is = found i edit (slice_get (all_places records) i) last here refl is
 
     by : (i : Option ℕ) → last_index (is_edit_of editor) records ≡ i
-        → (i >>= λ k. slice_get records k >>= λ e. slice_get (places_of records) k >>= λ p. placed p (number_in e)) ≡ pair q place
+        → (i >>= λ k. slice_get records k >>= λ e. slice_get (all_places records) k >>= λ p. placed p (number_in e)) ≡ pair q place
         → IsThere records editor q place
     by None last is = absurd cc
     by (Some i) last is = there i (slice_get records i) last refl is
