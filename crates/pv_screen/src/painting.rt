@@ -99,7 +99,12 @@ fn put_row(row: &[u8; COLUMNS], out: &mut Out)
     requires { 2 * length (shown_cells row.now) ≤ room_of out.old }
     ensures { Appends out.old out.new (cells_bytes (shown_cells row.now)) }
 {
-    put_cells(shown_cells(row), out);
+    let cells = shown_cells(row);
+    if are_ordinary(cells) {
+        out.put_run(cells);
+    } else {
+        put_cells(cells, out);
+    }
 }
 
 /// A row without the spaces at its end.
