@@ -76,7 +76,8 @@ module _ (at : ℕ) (field : Field) (others : List Field) where
           → ¬ ShareCell (field_at (field ∷ others) p) (field_at (field ∷ others) q)
       before p zero order within is = absurd (omega arith)
       before zero (suc q) order within (inl less) = absurd (omega arith)
-      before zero (suc q) order within (inr same) = apart q no_field ((position-Some (meets field) others k no_field is).2 q (omega (arith, same.1)))
+      before zero (suc q) order within (inr same) =
+          apart q no_field ((position-Some (meets field) others k no_field is).2 q (omega (arith, same.1)))
       before (suc p) (suc q) order within (inl less) = absurd (omega arith)
       before (suc p) (suc q) order within (inr same) = absurd (omega (arith, same.0))
 
@@ -137,7 +138,8 @@ module _ (frame : Content) where
   by_range : HasRanges frame → (i : Option ℕ) → position (λ field. not (lies_in_body field)) frame.fields ≡ i
       → Says frame (first_of (option_map FieldRange i ∷ meeting_error frame.fields ∷ shape_error frame.kind frame.fields ∷ []))
   by_range ranges None is =
-      by_meeting ranges (λ k d within. (Decides-lies_in_body (get_or frame.fields k d)).0 (not-false _ (all_fail _ frame.fields is k d within)))
+      by_meeting ranges
+      (λ k d within. (Decides-lies_in_body (get_or frame.fields k d)).0 (not-false _ (all_fail _ frame.fields is k d within)))
       (first_meeting 0 frame.fields) (says_meeting 0 frame.fields)
   by_range ranges (Some i) is =
       let found = position-Some (λ field. not (lies_in_body field)) frame.fields i no_field is in (
