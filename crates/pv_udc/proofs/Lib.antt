@@ -1,7 +1,9 @@
+pub mod CallerLemmas
 mod Deciding
 mod Facts
 mod Growing
 mod LastEdits
+mod Least
 mod Numbering
 mod Repeating
 mod Replying

@@ -125,10 +125,10 @@ answers_of limits records (TakeUp centre k item) =
     ∷ some_if (nat_lt (taken_of records centre) k) (Early (taken_of records centre))
     ∷ []
 
--- an answer, or the record that is stored after so many
+-- an answer, or the record that is stored at this place
 abbrev pub answered_or_stored : Option UdcReply → Record → ℕ → Decision Record UdcReply
-answered_or_stored (Some reply) edit count = Answer reply
-answered_or_stored None edit count = Store edit (Stored count)
+answered_or_stored (Some reply) edit place = Answer reply
+answered_or_stored None edit place = Store edit (Stored place)
 
 -- what is decided on a request: the first answer that applies, or its record is stored at the end of the list
 abbrev pub judge : Limits → List Record → UdcRequest → Decision Record UdcReply
