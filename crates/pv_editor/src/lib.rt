@@ -9,7 +9,7 @@
 //! - [`Text`] is a reply. [`reply_text`] is what the Update Centre's verdict reads, and
 //!   [`responses_text`] what was keyed into a response frame.
 //!
-//! No call allocates. A caller hands in a line and does the step:
+//! No call allocates. A caller hands in a line and does the step.
 //!
 //! ```text
 //! match seat.line(b"STORE 7", &base) {

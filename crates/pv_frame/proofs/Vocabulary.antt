@@ -12,7 +12,7 @@ unfoldable pub use Rattle.pv_frame.specs.Content.{frame_of_row}
 unfoldable pub use Rattle.pv_frame.specs.Raw.{raw_at}
 pub use Rattle.pv_frame.specs.Errors.{is_cell, end_of, lies_in_body, meets, ShareCell, first_meeting, is_digits, takes_text, has_shape}
 pub use Rattle.pv_frame.specs.Errors.{price_error, meeting_error, shape_error, field_errors, error_of, IsValid, HasRanges}
-pub use Rattle.pv_frame.specs.Meaning.{LiesInBody, HasShape, IsWellFormed, field_at, IsBefore, IsFirstMeeting, Says}
+pub use Rattle.pv_frame.specs.Meaning.{LiesInBody, HasShape, IsWellFormed, field_at, IsBefore, IsFirstMeeting, HasCause}
 pub use Rattle.pv_frame.specs.Memory.{no_field}
 pub use Rattle.pv_frame.specs.Raw.{IsRaw, raw_bytes, all_at, Raw}
 pub use Rattle.pv_frame.specs.Reading.{frame_of, field_size, first_bad, head_errors, tail_errors, kind_error, route_error, count_error}
