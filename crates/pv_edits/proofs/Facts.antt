@@ -10,7 +10,11 @@ use Rattle.pv_edits.specs.OpenPages.{open_frame_at}
 use Rattle.pv_edits.specs.Room.{frame_count, account_count, lease_count}
 use Rattle.pv_edits.specs.declared.record.Record.TheVariants.{Put, Drop, Lease}
 use Rattle.pv_edits.specs.declared.down.DownRecord.TheVariants.{Blank}
-use Rattle.pv_edits.specs.declared.room.TheConstants.{MAX_ACCOUNTS, MAX_LEASES}
+use Rattle.pv_edits.specs.declared.room.TheConstants.{MAX_ACCOUNTS, MAX_LEASES, OPERATOR}
+
+-- the operator's account is 0
+pub operator-is-nought : OPERATOR ≡ 0
+operator-is-nought = refl
 
 -- a thousand accounts, and a thousand leased roots
 pub most-accounts : MAX_ACCOUNTS ≡ 1000

@@ -1,5 +1,7 @@
 pub mod CallerLemmas
+mod Chains
 mod Counting
 mod Facts
+mod Growing
 mod LastIndex
 mod OneSpelling

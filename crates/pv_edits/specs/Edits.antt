@@ -7,6 +7,7 @@ use Rattle.pv_frame.specs.Content.{Content}
 use Rattle.pv_account.specs.Profile.{Profile, digest_of}
 use Rattle.pv_edits.specs.declared.record.Record.{Record}
 use Rattle.pv_edits.specs.declared.record.Record.TheVariants.{Put, Drop, Account, Lease, Taken}
+use Rattle.pv_edits.specs.declared.room.TheConstants.{OPERATOR}
 use Rattle.pv_edits.specs.declared.subject.Subject.{Subject}
 use Rattle.pv_edits.specs.declared.subject.Subject.TheVariants as about
 
@@ -99,13 +100,13 @@ number_in (Taken taken) = None
 abbrev pub frame_at : List Record → Name → Option Content
 frame_at records name = last_record (names name) records >>= frame_in
 
--- the operator, as he is at first: account 0 with the password 0000, at centre 0, in no group
+-- the operator, as he is at first: his account with the password 0000, at centre 0, in no group
 abbrev pub operator_profile : Profile
-operator_profile = record { number = 0; digest = digest_of 0 (codes "0000"); home = 0; groups = [] }
+operator_profile = record { number = OPERATOR; digest = digest_of OPERATOR (codes "0000"); home = 0; groups = [] }
 
 -- the operator, if the number is his
 abbrev pub first_account : ℕ → Option Profile
-first_account number = if number == 0 then Some operator_profile else None
+first_account number = if number == OPERATOR then Some operator_profile else None
 
 -- what the last record of an account says, or the operator if there is none
 abbrev pub account_or_first : ℕ → Option Record → Option Profile

@@ -2,6 +2,7 @@ pub mod Taken
 pub mod Record
 pub mod Down
 pub mod Edits
+pub mod Chain
 pub mod Owner
 pub mod OpenPages
 pub mod Room

@@ -5,6 +5,7 @@ use Rattle.std.specs.Option.{option_or}
 use Rattle.pv_page.specs.Names.{covers}
 use Rattle.pv_edits.specs.declared.owner.Lot.{Lot}
 use Rattle.pv_edits.specs.declared.record.Record.{Record}
+use Rattle.pv_edits.specs.declared.room.TheConstants.{OPERATOR}
 use Rattle.pv_edits.specs.declared.record.Record.TheVariants.{Put, Drop, Account, Lease, Taken}
 
 -- the root is as long as the best so far, or longer: of two roots that cover a page, the shorter covers the longer
@@ -31,7 +32,7 @@ lot_of records page = fold (lot_after page) None records
 
 -- the account of a lot, or the operator's if there is no lot
 abbrev pub account_of_lot : Option Lot → ℕ
-account_of_lot None = 0
+account_of_lot None = OPERATOR
 account_of_lot (Some lot) = lot.account
 
 -- whom a page belongs to

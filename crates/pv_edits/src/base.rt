@@ -1,14 +1,17 @@
 ghost use Rattle.std.specs.Prelude.{◌≡◌, ℕ, ◌+◌, ◌<◌, ◌≤◌, ◌↔◌, List, [], ◌∷◌, ◌++◌, length, slice_get, is_some, option_copied, option_map, IfOk, IfSome, IsTrue};
 ghost use Rattle.std.specs.Vec.{vec_capacity};
+ghost use Rattle.pv_frame.specs.Errors.{IsValid};
 ghost use Rattle.pv_edits.specs.declared.record.Record.{Record};
 ghost use Rattle.pv_edits.specs.OpenPages.{is_open_to};
 ghost use Rattle.pv_edits.specs.Room.{frame_count, frames_after, account_count, accounts_after, lease_count, leases_after, has_editor, frame_fits, account_fits, lease_fits, has_room};
-ghost use Rattle.pv_edits.specs.Edits.{is_about, leases, last_index, frame_at, frame_in, account_at, account_in, last_of, number_in, operator_profile};
+ghost use Rattle.pv_edits.specs.Chain.{IsChained};
+ghost use Rattle.pv_edits.specs.Edits.{is_about, is_edit_of, leases, last_index, frame_at, frame_in, account_at, account_in, last_of, number_in, operator_profile};
 
+use crate::chain::{BUCKETS, bucket_in, last_in_bucket};
 use crate::owner::lot_of;
 use crate::record::Record;
-use crate::room::{MAX_ACCOUNTS, MAX_LEASES};
-use crate::subject::{Subject, is_about};
+use crate::room::{MAX_ACCOUNTS, MAX_LEASES, OPERATOR};
+use crate::subject::{Subject, is_edit_of};
 use pv_account::{Account, Groups, digest};
 use pv_frame::Frame;
 use pv_outside::Limits;
@@ -16,8 +19,9 @@ use pv_page::{AccountNo, FrameName, PageNo};
 use std::alloc::{AllocError, Global};
 
 /// The frames, the accounts, the leases and the editors' numbers of a list of records. All room is
-/// reserved when it is opened.
-#[derive(Drop)]
+/// reserved when it is opened. A search goes through the records of one bucket, and for an editor's
+/// last edit from the last record back.
+#[derive(Debug, Drop)]
 pub struct Base {
     records: Vec<Record>,
     places: Vec<u64>,
@@ -26,12 +30,16 @@ pub struct Base {
     frames: u32,
     accounts: u32,
     leased: u32,
+    heads: Vec<usize>,
+    links: Vec<usize>,
     ghost paired: { length places.items ≡ length records.items },
-    ghost reserved: { (limits.records ≤ vec_capacity records) × (limits.records ≤ vec_capacity places) },
+    ghost reserved: { (limits.records ≤ vec_capacity records) × (limits.records ≤ vec_capacity places)
+        × (limits.records ≤ vec_capacity links) },
     ghost opening: { operator ≡ operator_profile },
     ghost frames_counted: { frames ≡ frame_count records.items },
     ghost accounts_counted: { accounts ≡ account_count records.items },
     ghost leases_counted: { leased ≡ lease_count records.items },
+    ghost chained: { IsChained heads.items links.items records.items },
 }
 
 impl Base {
@@ -54,6 +62,8 @@ impl Base {
             frames: 0,
             accounts: 1,
             leased: 0,
+            heads: vec![in alloc; 0; BUCKETS]?,
+            links: Vec::with_capacity(alloc, room)?,
         })
     }
 
@@ -70,16 +80,45 @@ impl Base {
         let frames = self.frames_after(rec);
         let accounts = self.accounts_after(rec);
         let leased = self.leases_after(rec);
+        let bucket = bucket_in(rec);
+        let before = self.heads[bucket];
         self.records.push_reserved(*rec);
         self.places.push_reserved(place);
+        self.links.push_reserved(before);
+        self.heads[bucket] = self.records.len();
         self.frames = frames;
         self.accounts = accounts;
         self.leased = leased;
     }
 
+    /// How many records were absorbed.
+    pub fn count(&self) -> u64
+        ensures { (records : List Record) (places : List ℕ) → IsBaseOf self.now records places →
+            result ≡ length records }
+    {
+        self.records.len() as u64
+    }
+
+    /// The record at an index, in the order in which they were absorbed. `None` exactly from the count
+    /// on.
+    pub fn record_at(&self, index: u64) -> Option<&Record>
+        ensures { (records : List Record) (places : List ℕ) → IsBaseOf self.now records places →
+            option_copied result ≡ slice_get records index }
+    {
+        self.records.get(index as usize)
+    }
+
+    /// The limits that it was opened with.
+    pub fn limits(&self) -> Limits
+        ensures { result ≡ self.now.limits }
+    {
+        self.limits
+    }
+
     /// The frame of a name. `None` exactly when it has none.
     pub fn get(&self, name: FrameName) -> Option<&Frame>
-        ensures { (records : List Record) (places : List ℕ) → IsBaseOf self.now records places →
+        ensures valid { IfSome result (λ frame. IsValid frame.now) }
+        ensures frame { (records : List Record) (places : List ℕ) → IsBaseOf self.now records places →
             option_copied result ≡ frame_at records name }
     {
         self.find_frame(name)
@@ -88,7 +127,8 @@ impl Base {
     /// The frame of a name, if it is open to the account: if its group is 0 or one of the account's.
     /// `None` exactly when there is no such frame.
     pub fn open_to(&self, account: &Account, name: FrameName) -> Option<&Frame>
-        ensures { (records : List Record) (places : List ℕ) → IsBaseOf self.now records places →
+        ensures valid { IfSome result (λ frame. IsValid frame.now) }
+        ensures frame { (records : List Record) (places : List ℕ) → IsBaseOf self.now records places →
             option_copied result ≡ open_frame_at records account.now.groups name }
     {
         let frame = self.find_frame(name)?;
@@ -152,14 +192,6 @@ impl Base {
         self.has_lease(root) || self.leased < MAX_LEASES
     }
 
-    /// The record at a place in the order of absorbing, from 0. `None` exactly from the count on.
-    pub fn record_at(&self, place: u64) -> Option<&Record>
-        ensures { (records : List Record) (places : List ℕ) → IsBaseOf self.now records places →
-            option_copied result ≡ slice_get records place }
-    {
-        self.records.get(place as usize)
-    }
-
     /// An editor's last number, and the place of his last record. `None` exactly when he has none.
     pub fn last(&self, editor: AccountNo) -> Option<(u32, u64)>
         ensures { (records : List Record) (places : List ℕ) → IsBaseOf self.now records places →
@@ -172,7 +204,8 @@ impl Base {
 
     /// The frame of a name.
     fn find_frame(&self, name: FrameName) -> Option<&Frame>
-        ensures { option_copied result ≡ frame_at self.now.records.items name }
+        ensures valid { IfSome result (λ frame. IsValid frame.now) }
+        ensures frame { option_copied result ≡ frame_at self.now.records.items name }
     {
         let index = self.last_about(Subject::Name(name))?;
         frame_in(&self.records[index])
@@ -184,7 +217,7 @@ impl Base {
     {
         match self.last_about(Subject::Account(number)) {
             Some(index) => account_in(&self.records[index]),
-            None if number.number() == 0 => Some(&self.operator),
+            None if number.number() == OPERATOR => Some(&self.operator),
             None => None,
         }
     }
@@ -299,10 +332,21 @@ impl Base {
         ensures last { result ≡ last_index (is_about subject) self.now.records.items }
         ensures within { IfSome result (λ index. index < length self.now.records.items) }
     {
+        match subject {
+            Subject::Editor(account) => self.last_edit_of(account),
+            _ => last_in_bucket(&self.records, &self.heads, &self.links, &subject),
+        }
+    }
+
+    /// The index of an editor's last edit.
+    fn last_edit_of(&self, account: AccountNo) -> Option<usize>
+        ensures last { result ≡ last_index (is_edit_of account) self.now.records.items }
+        ensures within { IfSome result (λ index. index < length self.now.records.items) }
+    {
         let index = self
             .records
             .iter()
-            .rposition(|edit| is_about(edit, subject))?;
+            .rposition(|edit| is_edit_of(edit, account))?;
         Some(index)
     }
 }
@@ -316,7 +360,8 @@ fn is_open_to(account: &Account, frame: &Frame) -> bool
 
 /// The frame that the record gives its name.
 fn frame_in(edit: &Record) -> Option<&Frame>
-    ensures { option_copied result ≡ frame_in edit.now }
+    ensures valid { IfSome result (λ frame. IsValid frame.now) }
+    ensures frame { option_copied result ≡ frame_in edit.now }
 {
     match edit {
         Record::Put { frame, .. } => Some(frame.frame()),
@@ -352,7 +397,7 @@ fn number_in(edit: &Record) -> Option<u32>
 fn operator() -> Account
     ensures { result ≡ operator_profile }
 {
-    let number = AccountNo::of_number(0).unwrap();
+    let number = AccountNo::of_number(OPERATOR).unwrap();
     Account {
         number,
         digest: digest(number, b"0000"),

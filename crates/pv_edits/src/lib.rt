@@ -12,6 +12,7 @@
 #![tactic(auto)]
 
 mod base;
+mod chain;
 mod down;
 mod law;
 mod owner;
@@ -27,7 +28,7 @@ pub use down::{BLANK_TAG, DownRecord};
 pub use law::no_record_begins_another;
 pub use owner::Lot;
 pub use record::Record;
-pub use room::{MAX_ACCOUNTS, MAX_LEASES};
+pub use room::{MAX_ACCOUNTS, MAX_LEASES, OPERATOR};
 pub use subject::Subject;
 pub use taken::Taken;
 pub use wish::EditWish;

@@ -61,7 +61,7 @@ fn leases(edit: &Record, page: PageNo) -> bool
 }
 
 /// Whether the record is an edit of this editor.
-fn is_edit_of(edit: &Record, account: AccountNo) -> bool
+pub(crate) fn is_edit_of(edit: &Record, account: AccountNo) -> bool
     ensures { result ≡ is_edit_of account edit.now }
 {
     match edit {

@@ -5,19 +5,17 @@ use Rattle.pv_frame.specs.Content.{blank_frame}
 use Rattle.pv_network.specs.declared.centre.Arrival.TheVariants.{Taken, Old, Early, Full}
 use Rattle.pv_network.specs.declared.outcome.Outcome.{Outcome}
 use Rattle.pv_network.specs.declared.outcome.Outcome.TheVariants as outcomes
-use Rattle.pv_network.specs.declared.record.Record.{Record}
-use Rattle.pv_network.specs.declared.record.TheConstants.{OPERATOR}
-use Rattle.pv_network.specs.Edits.{count_of_frames, last_number, edit_at}
+use Rattle.pv_edits.specs.declared.record.Record.{Record}
+use Rattle.pv_edits.specs.declared.record.Record.TheVariants.{Put}
+use Rattle.pv_edits.specs.declared.room.TheConstants.{OPERATOR}
+use Rattle.pv_edits.specs.Room.{frame_count}
+use Rattle.pv_network.specs.Numbers.{next_edit_number}
 use Rattle.pv_network.specs.Replies.{stored_reply, frames_full_reply, full_reply, bad_line_reply}
 use Rattle.pv_network.specs.Centre.{arrival_of}
 use Rattle.pv_network.specs.Link.{next_number}
 use Rattle.pv_network.specs.Step.{step_of_judgement, step_of_send}
 use Rattle.pv_network.specs.UpdateCentre.{judgement_of}
 use Rattle.pv_network.specs.World.{World, start}
-
--- the operator's account is 0
-pub operator : OPERATOR ≡ 0
-operator = refl
 
 -- the replies: the first record is stored, 2,000 names have a frame, there are 10,000 records, a line is no request
 pub replies : (stored_reply 0 ≡ codes "OK 0")
@@ -27,21 +25,15 @@ pub replies : (stored_reply 0 ≡ codes "OK 0")
 unfolding digits
 replies = (refl, refl, refl, refl)
 
--- a record by its editor, his number, and the letter of a frame of page 1
+-- a blank frame that an editor puts under a letter of page 1, by his number
 abbrev edit : ℕ → ℕ → ℕ → Record
-edit editor number letter = record { editor = editor; number = number; name = record { page = 1; letter = letter }; frame = blank_frame }
+edit editor number letter = Put editor number (record { page = 1; letter = letter }) blank_frame
 
--- two edits of one frame are one frame, and the frames a and b of a page are two
-pub frames : (count_of_frames (edit 0 1 97 ∷ edit 0 2 97 ∷ []) ≡ 1) × (count_of_frames (edit 0 1 97 ∷ edit 0 2 98 ∷ []) ≡ 2)
-frames = (refl, refl)
-
--- the last edit of a name counts
-pub last-stands : edit_at (edit 0 1 97 ∷ edit 0 2 97 ∷ edit 0 3 98 ∷ []) (record { page = 1; letter = 97 }) ≡ Some (edit 0 2 97)
-last-stands = refl
-
--- another editor's number does not count
-pub own-number : last_number (edit 0 1 97 ∷ edit 7 5 97 ∷ []) 0 ≡ 1
-own-number = refl
+-- the first edit has the number 1; then it is one more than his last, and another editor's does not count
+pub own-numbers : (next_edit_number [] 0 ≡ 1)
+    × (next_edit_number (edit 0 1 97 ∷ edit 7 5 97 ∷ []) 0 ≡ 2)
+    × (next_edit_number (edit 0 1 97 ∷ edit 7 5 97 ∷ []) 7 ≡ 6)
+own-numbers = (refl, refl, refl)
 
 -- The next record is taken, one that was taken is old, one after the next is early. At the limit the next one finds the centre
 -- full, and an old one is old there too.
@@ -61,17 +53,17 @@ put w letter = step_of_judgement w (judgement_of w.update OPERATOR (record { pag
 
 -- if the limit is one frame, a second name is refused
 pub second_name : (put (put (start 1 1 5) 97).0 98).1 ≡ outcomes.Reply (codes "NO 5 FRAMES FULL 1")
-unfolding digits
+unfolding digits frame_count
 second_name = refl
 
 -- if both limits are met, the frame too many comes first
 pub frames_first : (put (put (start 1 1 1) 97).0 98).1 ≡ outcomes.Reply (codes "NO 5 FRAMES FULL 1")
-unfolding digits
+unfolding digits frame_count
 frames_first = refl
 
 -- a frame that is there may be edited up to the limit of records alone
 pub same_frame : (put (put (start 1 1 1) 97).0 97).1 ≡ outcomes.Reply (codes "NO 14 FULL 1")
-unfolding digits
+unfolding digits frame_count
 same_frame = refl
 
 -- there is nothing to send at the start

@@ -1,6 +1,5 @@
 pub mod Counts
 pub mod Facts
-pub mod Finding
 pub mod Lists
 pub mod Packets
 pub mod Performing

@@ -6,7 +6,7 @@ use Rattle.std.proofs.lemmas.List.{get_or-map, get_or_append_left, get_or_push, 
 use Rattle.std.proofs.lemmas.List.Elements.{All-push, All-set, All-weaker}
 use Rattle.std.proofs.lemmas.List.Sums.{sum_by-cons, sum_by-set}
 use Rattle.pv_network.specs.declared.packet.Packet.{Packet}
-use Rattle.pv_network.specs.declared.record.Record.{Record}
+use Rattle.pv_edits.specs.declared.record.Record.{Record}
 use Rattle.pv_network.specs.Link.{AreWithin, Link, Places, link_in, link_of, links_of, new_link, no_packet, packet_at, packet_count, place_count, with_packet, with_place}
 
 -- the places of a link are in a row

@@ -1,5 +1,5 @@
 -- Each event at a network is that event at each world that it stands for.
-use Rattle.std.proofs.Common.{◌≡◌, ℕ, ◌<◌, false, cond, leb, List, length, get_or, set, Some, None, refl, sym, ap, ◌∙◌}
+use Rattle.std.proofs.Common.{◌≡◌, ℕ, ◌<◌, true, false, cond, leb, List, [], ◌∷◌, ◌++◌, length, get_or, set, Some, None, refl, sym, ap, subst, ◌∙◌}
 use Rattle.std.specs.Prelude.{slice_get}
 use Rattle.std.proofs.lemmas.Bool.{le-leb}
 use Rattle.std.proofs.lemmas.List.Sums.{list_all-from_AllPass}
@@ -10,8 +10,9 @@ use Rattle.pv_network.specs.declared.centre.Arrival.{Arrival}
 use Rattle.pv_network.specs.declared.centre.Arrival.TheVariants as arrivals
 use Rattle.pv_network.specs.declared.outcome.Outcome.TheVariants.{SentRecord}
 use Rattle.pv_network.specs.declared.packet.Packet.{Packet}
-use Rattle.pv_network.specs.declared.record.Record.{Record}
-use Rattle.pv_network.specs.Centre.{CentreStands, Index, arrival_of, with_next}
+use Rattle.pv_edits.specs.declared.record.Record.{Record}
+use Rattle.pv_edits.specs.Room.{has_room}
+use Rattle.pv_network.specs.Centre.{CentreStands, Held, arrival_of, with_next}
 use Rattle.pv_network.specs.Link.{Link, link_in, is_packets_full, next_number, with_packet, with_acknowledgement}
 use Rattle.pv_network.specs.Sound.{IsGenuine}
 use Rattle.pv_network.specs.Standing.{State, StandsFor}
@@ -19,7 +20,7 @@ use Rattle.pv_network.specs.Step.{frame_of_cells, step_of_send, step_of_acknowle
 use Rattle.pv_network.specs.World.{World, link_at, centre_at}
 use Rattle.pv_network.proofs.Lists.{all_get}
 use Rattle.pv_network.proofs.Soundness.{sound_packet, sound_count, sound_applied, taken_is_next}
-use Rattle.pv_network.proofs.Standing.{udc_count, centre_stands, centre_replaced, link_replaced}
+use Rattle.pv_network.proofs.Standing.{udc_count, centre_count, centre_takes, centre_has_room, centre_stands, centre_replaced, link_replaced}
 
 -- a row of cells is a frame
 pub frame_of_cells-row : (row : List ℕ) → IsRow row → frame_of_cells row ≡ Some (frame_of_row row)
@@ -37,34 +38,57 @@ module _ (s : State) (w : World) (stands : StandsFor s w) (c : ℕ) where
         ap (λ (n : ℕ). SentRecord n number) (rw stands.links at index-is),
       )
 
-  module _ (here : Index) (there : c < length s.centres) (read : here ≡ get_or s.centres c here) where
+  module _ (here : Held) (there : c < length s.centres) (read : here ≡ get_or s.centres c here) where
     -- the centre stands for the world's
-    stood : CentreStands w.update.record_limit w.update.edits here (centre_at w c)
+    stood : CentreStands w.update here (centre_at w c)
     stood = centre_stands s w stands c here there read
 
+    -- it has as many records as the world's has applied
+    count_there : length here.records ≡ (centre_at w c).applied
+    count_there = centre_count w.update here (centre_at w c) stood
+
     -- an acknowledgement is made
-    pub acknowledges : (links : List Link) (index : ℕ) → is_packets_full s.links ≡ false → index ≡ length (link_in s.links c).up → links ≡ set s.links c (with_acknowledgement (link_in s.links c) here.count)
+    pub acknowledges : (links : List Link) (index : ℕ) → is_packets_full s.links ≡ false → index ≡ length (link_in s.links c).up → links ≡ set s.links c (with_acknowledgement (link_in s.links c) (length here.records))
         → StandsFor (record s { links = links }) (step_of_acknowledging w c).0 × (Some index ≡ (step_of_acknowledging w c).1)
     acknowledges links index room index-is made =
-        rw (rw stands.links at room) (link_replaced s w stands c links _ (rw (stood.count, stands.links) at made) (sound_count w c stands.sound), ap Some (rw stands.links at index-is))
+        rw (rw stands.links at room) (link_replaced s w stands c links _ (rw (count_there, stands.links) at made) (sound_count w c stands.sound), ap Some (rw stands.links at index-is))
 
-    module _ (index : ℕ) (packet : Packet) (found : slice_get (link_in s.links c).down index ≡ Some packet) (arrival : Arrival) (how : arrival_of here.count here.limit packet.number ≡ arrival) where
+    module _ (index : ℕ) (packet : Packet) (found : slice_get (link_in s.links c).down index ≡ Some packet) (arrival : Arrival) (how : arrival_of (length here.records) here.limits.records packet.number ≡ arrival) where
       -- the packet is the world's
       found_there : slice_get (link_at w c).down index ≡ Some packet
       found_there = rw stands.links at found
 
       -- what the centre makes of it is what the world's does
       how_there : arrival_of (centre_at w c).applied w.update.record_limit packet.number ≡ arrival
-      how_there = rw (stood.count, stood.room) at how
+      how_there = rw (count_there, stood.record_limit) at how
 
       -- what is delivered is that packet
       pub delivers : step_of_deliver w c index ≡ step_of_arrival w c packet.number arrival
       delivers = rw (found_there, how_there) refl
 
-      -- the centre takes the record
-      pub takes : arrival ≡ arrivals.Taken → (new : Index) → (slice_get w.update.edits (centre_at w c).applied ≡ Some packet.edit → CentreStands w.update.record_limit w.update.edits new (with_next (centre_at w c)))
-          → StandsFor (record s { centres = set s.centres c new }) (with_next_at w c)
-      takes is new follows =
-          let genuine = all_get (IsGenuine w.update.edits) (link_at w c).down index packet (stands.sound.links c).packets found_there in
-          let next = (taken_is_next (centre_at w c).applied w.update.record_limit packet.number (how_there ∙ is)) in
-          centre_replaced s w stands c new (with_next (centre_at w c)) (follows (ap (slice_get w.update.edits) (sym next) ∙ genuine)) (sound_applied w c packet stands.sound genuine next)
+      module _ (is : arrival ≡ arrivals.Taken) where
+        -- the packet carries the list's record of its number
+        genuine : IsGenuine w.update.edits packet
+        genuine = all_get (IsGenuine w.update.edits) (link_at w c).down index packet (stands.sound.links c).packets found_there
+
+        -- that is the one that comes next
+        next : packet.number ≡ (centre_at w c).applied
+        next = taken_is_next (centre_at w c).applied w.update.record_limit packet.number (how_there ∙ is)
+
+        -- the list has it there
+        next_there : slice_get w.update.edits (centre_at w c).applied ≡ Some packet.edit
+        next_there = ap (slice_get w.update.edits) (sym next) ∙ genuine
+
+        -- the centre, however it is read
+        module _ (now : Held) (again : now ≡ get_or s.centres c now) where
+          -- it has room for the record
+          pub room_there : has_room now.limits now.records packet.edit ≡ true
+          room_there = centre_has_room w.update now (centre_at w c) (centre_stands s w stands c now there again) packet.edit next_there stands.sound.law.run
+
+          -- it takes the record
+          pub takes : (new : Held) → new ≡ record now { records = now.records ++ packet.edit ∷ [] } → StandsFor (record s { centres = set s.centres c new }) (with_next_at w c)
+          takes new taken =
+              let follows =
+              subst (λ (h : Held). CentreStands w.update h (with_next (centre_at w c))) (sym taken)
+              (centre_takes w.update now (centre_at w c) (centre_stands s w stands c now there again) packet.edit next_there) in
+              centre_replaced s w stands c new (with_next (centre_at w c)) follows (sound_applied w c packet stands.sound genuine next)

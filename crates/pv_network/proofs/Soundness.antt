@@ -1,7 +1,7 @@
 -- What an event makes of a sound world is sound.
 use Rattle.std.proofs.Common.{◌≡◌, ℕ, zero, suc, ◌+◌, ◌<◌, ◌≤◌, Bool, true, false, cond, not, ◌&&◌, leb, eqb, List, [], ◌∷◌, ◌++◌, length, get_or, Option, Some, None, take, refl, sym, ap, subst, ◌∙◌, arith, inl, inr}
 use Rattle.std.specs.Prelude.{is_none, slice_get, replicate}
-use Rattle.std.specs.List.{count_by, list_all, list_any}
+use Rattle.std.specs.List.{count_by, list_all}
 use Rattle.std.proofs.lemmas.Bool.{leb-false, leb-true, eqb-true, eq-eqb}
 use Rattle.std.proofs.lemmas.List.{length-append, take-append-le}
 use Rattle.std.proofs.lemmas.List.Elements.{All-push}
@@ -14,23 +14,26 @@ use Rattle.pv_cells.specs.declared.reading.TheConstants.{LAST_CELL}
 use Rattle.pv_frame.specs.Content.{Content, frame_of_row}
 use Rattle.pv_frame.specs.Errors.{IsValid}
 use Rattle.pv_frame.proofs.CallerLemmas.{IsValid-frame_of_row}
+use Rattle.pv_edits.specs.declared.record.Record.{Record}
+use Rattle.pv_edits.specs.declared.record.Record.TheVariants.{Put}
+use Rattle.pv_edits.specs.declared.room.TheConstants.{OPERATOR}
+use Rattle.pv_edits.specs.Edits.{is_edit_of, number_in, frame_at}
+use Rattle.pv_edits.specs.Room.{frame_count}
 use Rattle.pv_network.specs.declared.centre.Arrival.{Arrival}
 use Rattle.pv_network.specs.declared.centre.Arrival.TheVariants as arrivals
 use Rattle.pv_network.specs.declared.event.Event.{Event}
 use Rattle.pv_network.specs.declared.event.Event.TheVariants as events
 use Rattle.pv_network.specs.declared.packet.Packet.{Packet}
-use Rattle.pv_network.specs.declared.record.Record.{Record}
-use Rattle.pv_network.specs.declared.record.TheConstants.{OPERATOR}
 use Rattle.pv_network.specs.Centre.{Centre, new_centre, arrival_of}
-use Rattle.pv_network.specs.Edits.{puts, is_by, frame_under, count_of_frames, last_number}
 use Rattle.pv_network.specs.Link.{Link, new_link, is_packets_full, next_number, with_packet, with_acknowledgement}
+use Rattle.pv_network.specs.Numbers.{next_edit_number}
 use Rattle.pv_network.specs.OneList.{IsNextOfEditor, HasNumbersInOrder, StandsAt, HasOnePlaceEach, MatchesReceipt}
-use Rattle.pv_network.specs.Run.{EachFollows, MayFollow}
+use Rattle.pv_network.specs.Run.{EachFollows, MayPut, MayFollow}
 use Rattle.pv_network.specs.Sound.{IsGenuine, IsSoundLink, IsSound}
 use Rattle.pv_network.specs.Step.{world_with, step_of_judgement, frame_of_cells, step_of_put, step_of_packing, step_of_number, step_of_send, step_of_acknowledging, with_next_at, step_of_arrival, step_of_packet, step_of_deliver, happens, after}
 use Rattle.pv_network.specs.UpdateCentre.{Update, next_record, refusal_reply, judgement_by, judgement_of}
 use Rattle.pv_network.specs.World.{World, Receipt, start, centre_at, link_at, with_centre, with_link, with_edit}
-use Rattle.pv_network.proofs.Counts.{none-frame_at, count_of_frames-push, last_number-push, count_by-grows}
+use Rattle.pv_network.proofs.Counts.{next_edit_number-push, count_by-grows, frame_count-none, frames_put}
 use Rattle.pv_network.proofs.Lists.{set_at, all_get, get_prefix, get_push, get_last}
 
 -- what holds of the world on each side of a test holds of the one that it chooses
@@ -55,7 +58,7 @@ module _ (w : World) (c : ℕ) (sound : IsSound w) where
       kept = sound.law.kept;
       prefixes = set_at (λ k centre. centre.applied ≤ length w.update.edits) w.centres c centre new_centre sound.law.prefixes within;
     };
-    last = sound.last;
+    next = sound.next;
     records = sound.records;
     frames = sound.frames;
     links = set_at (λ k centre. IsSoundLink w.update.edits centre (link_at w k)) w.centres c centre new_centre sound.links here;
@@ -65,7 +68,7 @@ module _ (w : World) (c : ℕ) (sound : IsSound w) where
   sound_with_link : (link : Link) → IsSoundLink w.update.edits (centre_at w c) link → IsSound (with_link w c link)
   sound_with_link link here = record {
     law = sound.law;
-    last = sound.last;
+    next = sound.next;
     records = sound.records;
     frames = sound.frames;
     links = set_at (λ k link. IsSoundLink w.update.edits (centre_at w k) link) w.links c link new_link sound.links here;
@@ -113,83 +116,82 @@ one_place : (edits : List Record) → HasNumbersInOrder edits → HasOnePlaceEac
 one_place edits numbered editor number one other here there =
     neither_below one other (λ less. earlier one other here there less) (λ less. earlier other one there here less)
   where
-    counted : (place : ℕ) → StandsAt edits editor number place → number ≡ count_by (is_by editor) (take place edits) + 1
-    counted place s = sym s.numbered ∙ numbered place s.edit s.there ∙ ap (λ (e : ℕ). count_by (is_by e) (take place edits) + 1) s.by
+    counted : (place : ℕ) → StandsAt edits editor number place → number ≡ count_by (is_edit_of editor) (take place edits) + 1
+    counted place s =
+        let same : Some number ≡ Some (count_by (is_edit_of editor) (take place edits) + 1) = sym s.numbered ∙ numbered place s.edit s.there editor s.by in
+        cc
 
     earlier : (a b : ℕ) → StandsAt edits editor number a → StandsAt edits editor number b → a < b → ⊥
     earlier a b s t less =
-        let more = count_by-grows (is_by editor) edits a b s.edit s.there (eq-eqb s.edit.editor editor s.by) less in
+        let more = count_by-grows (is_edit_of editor) edits a b s.edit s.there s.by less in
         omega (arith, counted a s, counted b t, more)
 
--- an editor's last number stays how many records he has
-last_push : (edits : List Record) (edit : Record) → edit.number ≡ last_number edits edit.editor + 1 → ((e : ℕ) → last_number edits e ≡ count_by (is_by e) edits)
-    → (e : ℕ) → last_number (edits ++ edit ∷ []) e ≡ count_by (is_by e) (edits ++ edit ∷ [])
-last_push edits edit next last e =
-    last_number-push edits edit e ∙ go (eqb edit.editor e) (eqb-true edit.editor e) ∙ sym (sum_by_push (λ x. cond (is_by e x) 1 0) edits edit)
-  where
-    go : (b : Bool) → (b ≡ true → edit.editor ≡ e) → cond b edit.number (last_number edits e) ≡ count_by (is_by e) edits + cond b 1 0
-    go true is = next ∙ ap (λ (k : ℕ). last_number edits k + 1) (is refl) ∙ ap (λ (n : ℕ). n + 1) (last e)
-    go false is = omega (arith, last e)
+module _ (edits : List Record) (editor q : ℕ) (name : Name) (frame : Content) (next : q ≡ next_edit_number edits editor)
+    (sound : (e : ℕ) → next_edit_number edits e ≡ count_by (is_edit_of e) edits + 1) where
+  -- the edit's number is one more than how many edits of its editor there are
+  next_of_editor : IsNextOfEditor edits (Put editor q name frame)
+  next_of_editor e his = ap Some (next ∙ sound editor ∙ ap (λ (k : ℕ). count_by (is_edit_of k) edits + 1) (sym (eqb-true e editor his)))
 
--- a record leaves the number of frames within a limit if there is room for a new name's
-frames_push : (edits : List Record) (edit : Record) (limit : ℕ) → count_of_frames edits ≤ limit → (frame_under edits edit.name ≡ None → count_of_frames edits < limit) → count_of_frames (edits ++ edit ∷ []) ≤ limit
-frames_push edits edit limit within room =
-    go (frame_under edits edit.name) (list_any (puts edit.name) edits) (none-frame_at edits edit.name) (count_of_frames-push edits edit) room
-  where
-    go : (frame : Option Content) (named : Bool) → is_none frame ≡ not named → count_of_frames (edits ++ edit ∷ []) ≡ count_of_frames edits + cond named 0 1
-        → (frame ≡ None → count_of_frames edits < limit) → count_of_frames (edits ++ edit ∷ []) ≤ limit
-    go frame true is count less = omega (arith, count, within)
-    go None false is count less = omega (arith, count, less refl)
-    go (Some frame) false is count less = absurd cc
+  -- an editor's next number stays one more than how many edits he has
+  next_push : (e : ℕ) → next_edit_number (edits ++ Put editor q name frame ∷ []) e ≡ count_by (is_edit_of e) (edits ++ Put editor q name frame ∷ []) + 1
+  next_push e =
+      next_edit_number-push edits editor q name frame e ∙ go (eqb e editor) (eqb-true e editor)
+      ∙ ap (λ (n : ℕ). n + 1) (sym (sum_by_push (λ x. cond (is_edit_of e x) 1 0) edits (Put editor q name frame)))
+    where
+      go : (his : Bool) → (his ≡ true → e ≡ editor) → cond his (q + 1) (next_edit_number edits e) ≡ count_by (is_edit_of e) edits + cond his 1 0 + 1
+      go true is = let own : next_edit_number edits e ≡ next_edit_number edits editor = ap (next_edit_number edits) (is refl) in omega (arith, next, own, sound e)
+      go false is = omega (arith, sound e)
 
--- a sound world stays sound with a record that may follow
-sound_edit : (w : World) (edit : Record) → IsSound w → MayFollow w.update.frame_limit w.update.record_limit w.update.edits edit → IsSound (with_edit w edit)
-sound_edit w edit sound follows =
+-- a sound world stays sound with a frame that may be put
+sound_put : (w : World) (editor q : ℕ) (name : Name) (frame : Content) → IsSound w → MayPut w.update.frame_limit w.update.record_limit w.update.edits editor q name frame
+    → IsSound (with_edit w (Put editor q name frame))
+sound_put w editor q name frame sound follows =
     let edits = w.update.edits in
+    let edit = Put editor q name frame in
     let longer = edits ++ edit ∷ [] in
-    let numbered : HasNumbersInOrder longer = follows_push IsNextOfEditor edits edit sound.law.numbered (follows.number ∙ ap (λ (n : ℕ). n + 1) (sound.last edit.editor)) in
+    let numbered : HasNumbersInOrder longer = follows_push IsNextOfEditor edits edit sound.law.numbered (next_of_editor edits editor q name frame follows.number sound.next) in
     record {
       law = record {
         run = follows_push (MayFollow w.update.frame_limit w.update.record_limit) edits edit sound.law.run follows;
         one_place = one_place longer numbered;
         numbered = numbered;
         kept = All-push (MatchesReceipt longer) w.receipts _ (λ k d within. kept_longer edits (edit ∷ []) _ (sound.law.kept k d within))
-            (record { edit = edit; there = get_last edits edit; by = refl; numbered = refl });
+            (record { edit = edit; there = get_last edits edit; by = eq-eqb editor editor refl; numbered = refl });
         prefixes = λ c. omega (arith, sound.law.prefixes c, length-append edits (edit ∷ []));
       };
-      last = last_push edits edit follows.number sound.last;
+      next = next_push edits editor q name frame follows.number sound.next;
       records = omega (arith, follows.record_room, length-append edits (edit ∷ []));
-      frames = frames_push edits edit w.update.frame_limit sound.frames follows.frame_room;
+      frames = frames_put edits editor q name frame w.update.frame_limit sound.frames follows.frame_room;
       links = λ c. link_longer edits (edit ∷ []) (centre_at w c) (link_at w c) (sound.links c);
     }
 
 -- ---- seed
 
 -- nothing is refused: neither test says so
-not_refused : (frames records : Bool) (a b : List ℕ) → cond frames (Some a) (cond records (Some b) None) ≡ None → (frames ≡ false) × (records ≡ false)
+pub not_refused : (frames records : Bool) (a b : List ℕ) → cond frames (Some a) (cond records (Some b) None) ≡ None → (frames ≡ false) × (records ≡ false)
 not_refused frames records a b is = grind arith
 
--- what is judged and not refused may follow
-may_follow : (u : Update) (name : Name) (frame : Content) → IsValid frame → refusal_reply u (is_none (frame_under u.edits name)) ≡ None
-    → MayFollow u.frame_limit u.record_limit u.edits (next_record u OPERATOR name frame)
-may_follow u name frame valid is =
-    let full = leb u.frame_limit (count_of_frames u.edits) in
-    let tests = not_refused (is_none (frame_under u.edits name) && full) (leb u.record_limit (length u.edits)) _ _ is in
+-- what is judged and not refused may be put
+may_put : (u : Update) (name : Name) (frame : Content) → IsValid frame → refusal_reply u (is_none (frame_at u.edits name)) ≡ None
+    → MayPut u.frame_limit u.record_limit u.edits OPERATOR (next_edit_number u.edits OPERATOR) name frame
+may_put u name frame valid is =
+    let full = leb u.frame_limit (frame_count u.edits) in
+    let tests = not_refused (is_none (frame_at u.edits name) && full) (leb u.record_limit (length u.edits)) _ _ is in
     record {
-      editor = refl;
+      operator = refl;
       number = refl;
       valid = valid;
-      frame_room = λ new. leb-false u.frame_limit (count_of_frames u.edits) (ap (λ (o : Option Content). is_none o && full) (sym new) ∙ tests.0);
+      frame_room = λ new. leb-false u.frame_limit (frame_count u.edits) (ap (λ (o : Option Content). is_none o && full) (sym new) ∙ tests.0);
       record_room = leb-false u.record_limit (length u.edits) tests.1;
     }
 
 -- a sound world stays sound if a valid frame is judged
 pub sound_judged : (w : World) (name : Name) (frame : Content) → IsValid frame → IsSound w → IsSound (step_of_judgement w (judgement_of w.update OPERATOR name frame)).0
-sound_judged w name frame valid sound = by (refusal_reply w.update (is_none (frame_under w.update.edits name))) refl
+sound_judged w name frame valid sound = by (refusal_reply w.update (is_none (frame_at w.update.edits name))) refl
   where
-    by : (refusal : Option (List ℕ)) → refusal_reply w.update (is_none (frame_under w.update.edits name)) ≡ refusal
+    by : (refusal : Option (List ℕ)) → refusal_reply w.update (is_none (frame_at w.update.edits name)) ≡ refusal
         → IsSound (world_with w (judgement_by w.update (next_record w.update OPERATOR name frame) refusal).stored)
-    by None is = sound_edit w _ sound (may_follow w.update name frame valid is)
+    by None is = sound_put w OPERATOR (next_edit_number w.update.edits OPERATOR) name frame sound (may_put w.update name frame valid is)
     by (Some refusal) is = sound
 
 -- a sound world stays sound whatever row is put: one that is no row of cells is not judged
@@ -300,8 +302,8 @@ sound_start centres frames records = record {
     kept = λ k d none. absurd (omega (arith, none));
     prefixes = λ c. omega (arith, ap (λ (centre : Centre). centre.applied) (copy_at new_centre centres c));
   };
-  last = λ editor. refl;
+  next = λ editor. refl;
   records = omega arith;
-  frames = omega arith;
+  frames = omega (arith, frame_count-none);
   links = λ c. rw (copy_at new_centre centres c, copy_at new_link centres c) (sound_new []);
 }

@@ -1,18 +1,19 @@
 -- How the parts of a network stand for the parts of a world, and what a part that is replaced leaves as it was.
-use Rattle.std.proofs.Common.{◌≡◌, ℕ, ◌+◌, ◌<◌, List, [], ◌∷◌, ◌++◌, Bool, cond, length, get_or, set, take, Option, Some, None, sym, ap, subst, ◌∙◌, arith}
-use Rattle.std.specs.Prelude.{slice_get, find}
-use Rattle.std.proofs.lemmas.List.{reverse-append, take_more, take-append-le, length-append}
+use Rattle.std.proofs.Common.{◌≡◌, ℕ, ◌+◌, ◌<◌, List, [], ◌∷◌, ◌++◌, Bool, true, length, get_or, set, take, Option, Some, None, sym, ap, subst, ◌∙◌, arith}
+use Rattle.std.specs.Prelude.{slice_get}
+use Rattle.std.proofs.lemmas.List.{length-take-le, take_more, take-append-le, length-append}
 use Rattle.std.proofs.lemmas.Option.{slice_get_within, get_or_from_slice_get}
-use Rattle.pv_network.specs.declared.record.Record.{Record}
-use Rattle.pv_page.specs.Names.{Name}
-use Rattle.pv_network.specs.Edits.{puts, edit_at}
-use Rattle.pv_network.specs.Centre.{Centre, CentreStands, Index, entry_of, new_centre, with_next}
+use Rattle.pv_edits.specs.declared.record.Record.{Record}
+use Rattle.pv_edits.specs.Room.{has_room}
+use Rattle.pv_network.specs.Centre.{Centre, CentreStands, Held, new_centre, with_next}
 use Rattle.pv_network.specs.Link.{Link}
-use Rattle.pv_network.specs.UpdateCentre.{Update, UdcStands, with_judgement}
+use Rattle.pv_network.specs.Run.{IsRun}
+use Rattle.pv_network.specs.UpdateCentre.{Update, UdcStands, with_record, with_judgement}
 use Rattle.pv_network.specs.World.{World, centre_at, with_centre, with_link}
 use Rattle.pv_network.specs.Step.{world_with}
 use Rattle.pv_network.specs.Sound.{IsSound}
 use Rattle.pv_network.specs.Standing.{State, StandsFor}
+use Rattle.pv_network.proofs.Counts.{room_for_next}
 use Rattle.pv_network.proofs.Lists.{zip_set, zip_at, zip_weaken}
 
 -- ---- the Update Centre: the one lemma that the network cites
@@ -23,35 +24,40 @@ udc_count u here stands = ap (λ (v : Update). length v.edits) stands.same
 
 -- ---- a centre: all that the network cites
 
--- the last record of a name, as the list grows
-pub edit_at-push : (edits : List Record) (edit : Record) (name : Name) → edit_at (edits ++ edit ∷ []) name ≡ cond (puts name edit) (Some edit) (edit_at edits name)
-edit_at-push edits edit name = ap (find (puts name)) (reverse-append edits (edit ∷ []))
+module _ (u : Update) (here : Held) (centre : Centre) (stands : CentreStands u here centre) where
+  -- it has as many records as were applied
+  pub centre_count : length here.records ≡ centre.applied
+  centre_count = ap (λ (l : List Record). length l) stands.prefix ∙ length-take-le centre.applied u.edits stands.within
 
-module _ (limit : ℕ) (edits : List Record) (here : Index) (centre : Centre) (stands : CentreStands limit edits here centre) where
   -- it stands for the same prefix as the list grows
-  pub centre_longer : (more : List Record) → CentreStands limit (edits ++ more) here centre
-  centre_longer more = record {
-    within = omega (arith, stands.within, length-append edits more);
-    count = stands.count;
-    room = stands.room;
-    last = λ name. stands.last name ∙ ap (λ (prefix : List Record). edit_at prefix name) (sym (take-append-le centre.applied edits more stands.within));
+  pub centre_longer : (edit : Record) → CentreStands (with_record u edit) here centre
+  centre_longer edit = record {
+    within = omega (arith, stands.within, length-append u.edits (edit ∷ []));
+    prefix = stands.prefix ∙ sym (take-append-le centre.applied u.edits (edit ∷ []) stands.within);
+    frame_limit = stands.frame_limit;
+    record_limit = stands.record_limit;
   }
 
-  -- with the list's next record it stands for the longer prefix
-  pub centre_takes : (edit : Record) (new : Index) → slice_get edits centre.applied ≡ Some edit → new.count ≡ here.count + 1 → new.limit ≡ here.limit
-      → ((name : Name) → entry_of new name ≡ cond (puts name edit) (Some edit) (entry_of here name)) → CentreStands limit edits new (with_next centre)
-  centre_takes edit new is count room last =
-      let below = slice_get_within edits centre.applied edit is in
-      let more : take (centre.applied + 1) edits ≡ take centre.applied edits ++ edit ∷ [] =
-      take_more edits centre.applied edit below
-      ∙ ap (λ (e : Record). take centre.applied edits ++ e ∷ []) (get_or_from_slice_get edits centre.applied edit edit is) in
-      record {
-        within = omega (arith, below);
-        count = omega (arith, count, stands.count);
-        room = room ∙ stands.room;
-        last = λ name. last name ∙ ap (cond (puts name edit) (Some edit)) (stands.last name)
-            ∙ sym (edit_at-push (take centre.applied edits) edit name) ∙ ap (λ (prefix : List Record). edit_at prefix name) (sym more);
-      }
+  module _ (edit : Record) (next : slice_get u.edits centre.applied ≡ Some edit) where
+    -- with the list's next record it stands for the longer prefix
+    pub centre_takes : CentreStands u (record here { records = here.records ++ edit ∷ [] }) (with_next centre)
+    centre_takes =
+        let below = slice_get_within u.edits centre.applied edit next in
+        let more : take (centre.applied + 1) u.edits ≡ take centre.applied u.edits ++ edit ∷ [] =
+        take_more u.edits centre.applied edit below
+        ∙ ap (λ (e : Record). take centre.applied u.edits ++ e ∷ []) (get_or_from_slice_get u.edits centre.applied edit edit next) in
+        record {
+          within = omega (arith, below);
+          prefix = ap (λ (l : List Record). l ++ edit ∷ []) stands.prefix ∙ sym more;
+          frame_limit = stands.frame_limit;
+          record_limit = stands.record_limit;
+        }
+
+    -- if the list is a run, it has room for that record
+    pub centre_has_room : IsRun u.frame_limit u.record_limit u.edits → has_room here.limits here.records edit ≡ true
+    centre_has_room run =
+        rw stands.prefix (room_for_next here.limits u.record_limit (take centre.applied u.edits) edit
+        (rw (← stands.frame_limit) at run centre.applied edit next))
 
 -- ---- the network
 
@@ -67,25 +73,25 @@ module _ (s : State) (w : World) (stands : StandsFor s w) where
   update_replaced (Some edit) here is sound = record {
     sound = sound;
     update = is;
-    centres = zip_weaken (CentreStands w.update.record_limit w.update.edits) (CentreStands w.update.record_limit (w.update.edits ++ edit ∷ []))
-        (λ index centre stood. centre_longer w.update.record_limit w.update.edits index centre stood (edit ∷ [])) s.centres w.centres stands.centres;
+    centres = zip_weaken (CentreStands w.update) (CentreStands (with_record w.update edit))
+        (λ held centre stood. centre_longer w.update held centre stood edit) s.centres w.centres stands.centres;
     links = stands.links;
   }
 
   module _ (c : ℕ) where
     -- a centre that is read stands for the world's
-    pub centre_stands : (here : Index) → c < length s.centres → here ≡ get_or s.centres c here → CentreStands w.update.record_limit w.update.edits here (centre_at w c)
+    pub centre_stands : (here : Held) → c < length s.centres → here ≡ get_or s.centres c here → CentreStands w.update here (centre_at w c)
     centre_stands here there read =
-        subst (λ (h : Index). CentreStands w.update.record_limit w.update.edits h (centre_at w c)) (sym read)
-        (zip_at (CentreStands w.update.record_limit w.update.edits) s.centres w.centres c here new_centre stands.centres there)
+        subst (λ (h : Held). CentreStands w.update h (centre_at w c)) (sym read)
+        (zip_at (CentreStands w.update) s.centres w.centres c here new_centre stands.centres there)
 
     -- another centre in the place of one leaves all others standing
-    pub centre_replaced : (here : Index) (centre : Centre) → CentreStands w.update.record_limit w.update.edits here centre → IsSound (with_centre w c centre)
+    pub centre_replaced : (here : Held) (centre : Centre) → CentreStands w.update here centre → IsSound (with_centre w c centre)
         → StandsFor (record s { centres = set s.centres c here }) (with_centre w c centre)
     centre_replaced here centre is sound = record {
       sound = sound;
       update = stands.update;
-      centres = zip_set (CentreStands w.update.record_limit w.update.edits) s.centres w.centres c here centre stands.centres is;
+      centres = zip_set (CentreStands w.update) s.centres w.centres c here centre stands.centres is;
       links = stands.links;
     }
 

@@ -1,10 +1,10 @@
 -- A retrieval centre: what it has applied of the edit list, and what it does with a record that arrives.
-use Rattle.std.specs.Prelude.{◌≡◌, ℕ, ◌+◌, ◌≤◌, ◌==◌, nat_lt, nat_le, if◌then◌else◌, Option, List, [], length, take, find}
-use Rattle.pv_page.specs.Names.{Name}
+use Rattle.std.specs.Prelude.{◌≡◌, ℕ, ◌+◌, ◌≤◌, ◌==◌, nat_lt, nat_le, if◌then◌else◌, List, [], length, take}
+use Rattle.pv_outside.specs.declared.limits.Limits.{Limits}
+use Rattle.pv_edits.specs.declared.record.Record.{Record}
 use Rattle.pv_network.specs.declared.centre.Arrival.{Arrival}
 use Rattle.pv_network.specs.declared.centre.Arrival.TheVariants.{Taken, Old, Early, Full}
-use Rattle.pv_network.specs.declared.record.Record.{Record}
-use Rattle.pv_network.specs.Edits.{puts, edit_at}
+use Rattle.pv_network.specs.UpdateCentre.{Update}
 
 -- a centre: how many records it has applied
 pub record Centre : Type 0 where
@@ -25,23 +25,18 @@ arrival_of applied limit number = if number == applied then (if nat_le limit app
 
 -- ---- what the code shows of a centre, and what it stands for
 
--- how many records it has and may have, and entries in which a name is looked up; not the list
-pub record Index : Type 0 where
-  pub count : ℕ
-  pub limit : ℕ
-  pub entries : List Record
+-- the records of its base, and the limits that it was opened with
+pub record Held : Type 0 where
+  pub records : List Record
+  pub limits : Limits
 
--- the record that an index has of a name
-abbrev pub entry_of : Index → Name → Option Record
-entry_of here name = find (puts name) here.entries
+-- what a centre that has no record shows
+abbrev pub nothing_held : Limits → Held
+nothing_held limits = record { records = []; limits = limits }
 
--- the index of a centre that has no record
-abbrev pub empty_index : ℕ → Index
-empty_index limit = record { count = 0; limit = limit; entries = [] }
-
--- the index stands for a prefix of the edit list: it finds what is found there
-pub record CentreStands (limit : ℕ) (edits : List Record) (here : Index) (centre : Centre) : Type 0 where
-  pub within : centre.applied ≤ length edits
-  pub count : here.count ≡ centre.applied
-  pub room : here.limit ≡ limit
-  pub last : (name : Name) → entry_of here name ≡ edit_at (take centre.applied edits) name
+-- its records are a prefix of the edit list, and its limits are the Update Centre's
+pub record CentreStands (u : Update) (here : Held) (centre : Centre) : Type 0 where
+  pub within : centre.applied ≤ length u.edits
+  pub prefix : here.records ≡ take centre.applied u.edits
+  pub frame_limit : here.limits.frames ≡ u.frame_limit
+  pub record_limit : here.limits.records ≡ u.record_limit

@@ -1,7 +1,6 @@
 pub mod Centre
-pub mod Edits
 pub mod Link
-pub mod Listing
+pub mod Numbers
 pub mod OneList
 pub mod Replies
 pub mod Run

@@ -2,7 +2,8 @@
 use Rattle.std.specs.Prelude.{ℕ, ◌+◌, ◌<◌, All, Bool, ◌&&◌, nat_lt, nat_le, List, [], ◌∷◌, ◌++◌, length, map, Option, Some, None, slice_index_or, if◌then◌else◌}
 use Rattle.std.specs.List.{sum_by}
 use Rattle.pv_frame.specs.Content.{blank_frame}
-use Rattle.pv_network.specs.declared.record.Record.{Record}
+use Rattle.pv_edits.specs.declared.record.Record.{Record}
+use Rattle.pv_edits.specs.declared.record.Record.TheVariants.{Put}
 use Rattle.pv_network.specs.declared.packet.Packet.{Packet}
 
 -- an end that sends: all numbers below the one are acknowledged, and the other is to be sent next
@@ -63,7 +64,7 @@ no_places = record { down = []; up = []; sending = record { acknowledged = 0; ne
 
 -- a packet that is in no row
 abbrev pub no_packet : Packet
-no_packet = record { number = 0; edit = record { editor = 0; number = 0; name = record { page = 1; letter = 97 }; frame = blank_frame } }
+no_packet = record { number = 0; edit = Put 0 0 (record { page = 1; letter = 97 }) blank_frame }
 
 -- the packet at a place of the row
 abbrev pub packet_at : List Packet → ℕ → Packet

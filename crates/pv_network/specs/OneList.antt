@@ -1,34 +1,34 @@
 -- The law of the one edit list: what it holds of the edits that were acknowledged, and what the centres have of it.
-use Rattle.std.specs.Prelude.{◌≡◌, ℕ, ◌+◌, ◌≤◌, All, List, length, Some, slice_get, slice_index_or}
+use Rattle.std.specs.Prelude.{◌≡◌, ℕ, ◌+◌, ◌≤◌, All, IsTrue, List, length, Some, slice_get, slice_index_or}
 use Rattle.std.specs.List.{count_by}
+use Rattle.pv_edits.specs.declared.record.Record.{Record}
+use Rattle.pv_edits.specs.Edits.{is_edit_of, number_in}
 use Rattle.pv_network.specs.Centre.{Centre, new_centre}
-use Rattle.pv_network.specs.declared.record.Record.{Record}
-use Rattle.pv_network.specs.Edits.{is_by}
 use Rattle.pv_network.specs.Run.{EachFollows, IsRun}
 use Rattle.pv_network.specs.UpdateCentre.{Update}
 use Rattle.pv_network.specs.World.{World, Receipt}
 
--- the number of a record is one more than how many records of its editor come before it
+-- the number of an edit is one more than how many edits of its editor come before it
 abbrev pub IsNextOfEditor : List Record → Record → Type 0
-IsNextOfEditor before edit = edit.number ≡ count_by (is_by edit.editor) before + 1
+IsNextOfEditor before edit = (editor : ℕ) → IsTrue (is_edit_of editor edit) → number_in edit ≡ Some (count_by (is_edit_of editor) before + 1)
 
--- so the records of each editor have the numbers 1, 2, 3 and on, in order
+-- so the edits of each editor have the numbers 1, 2, 3 and on, in order
 abbrev pub HasNumbersInOrder : List Record → Type 0
 HasNumbersInOrder edits = EachFollows IsNextOfEditor edits
 
--- the record of an editor under a number stands at this place
+-- the edit of an editor under a number stands at this place
 pub record StandsAt (edits : List Record) (editor number place : ℕ) : Type 0 where
   pub edit : Record
   pub there : slice_get edits place ≡ Some edit
-  pub by : edit.editor ≡ editor
-  pub numbered : edit.number ≡ number
+  pub by : IsTrue (is_edit_of editor edit)
+  pub numbered : number_in edit ≡ Some number
 
 -- an editor and a number have one place at most
 abbrev pub HasOnePlaceEach : List Record → Type 0
 HasOnePlaceEach edits = (editor number one other : ℕ)
     → StandsAt edits editor number one → StandsAt edits editor number other → one ≡ other
 
--- the record that was acknowledged stands at the place of its receipt
+-- the edit that was acknowledged stands at the place of its receipt
 abbrev pub MatchesReceipt : List Record → Receipt → Type 0
 MatchesReceipt edits receipt = StandsAt edits receipt.editor receipt.number receipt.place
 

@@ -1,11 +1,13 @@
 -- What every world that can be reached keeps.
-use Rattle.std.specs.Prelude.{◌≡◌, ℕ, ◌≤◌, All, List, length, Some, slice_get}
+use Rattle.std.specs.Prelude.{◌≡◌, ℕ, ◌+◌, ◌≤◌, All, List, length, Some, slice_get}
 use Rattle.std.specs.List.{count_by}
 use Rattle.pv_network.specs.declared.packet.Packet.{Packet}
-use Rattle.pv_network.specs.declared.record.Record.{Record}
+use Rattle.pv_edits.specs.declared.record.Record.{Record}
+use Rattle.pv_edits.specs.Edits.{is_edit_of}
+use Rattle.pv_edits.specs.Room.{frame_count}
 use Rattle.pv_network.specs.Centre.{Centre}
-use Rattle.pv_network.specs.Edits.{is_by, count_of_frames, last_number}
 use Rattle.pv_network.specs.Link.{Link}
+use Rattle.pv_network.specs.Numbers.{next_edit_number}
 use Rattle.pv_network.specs.OneList.{OneList}
 use Rattle.pv_network.specs.World.{World, centre_at, link_at}
 
@@ -20,11 +22,11 @@ pub record IsSoundLink (edits : List Record) (centre : Centre) (link : Link) : T
   pub acknowledged : All (λ n. n ≤ centre.applied) link.up
   pub heard : link.sending.acknowledged ≤ centre.applied
 
--- The law of the one list holds, and with it what keeps it so: an editor's last number is how many records he has, the limits
--- are kept, and each centre's link is sound.
+-- The law of the one list holds, and with it what keeps it so: an editor's next number is one more than how many edits he has,
+-- the limits are kept, and each centre's link is sound.
 pub record IsSound (w : World) : Type 0 where
   pub law : OneList w
-  pub last : (editor : ℕ) → last_number w.update.edits editor ≡ count_by (is_by editor) w.update.edits
+  pub next : (editor : ℕ) → next_edit_number w.update.edits editor ≡ count_by (is_edit_of editor) w.update.edits + 1
   pub records : length w.update.edits ≤ w.update.record_limit
-  pub frames : count_of_frames w.update.edits ≤ w.update.frame_limit
+  pub frames : frame_count w.update.edits ≤ w.update.frame_limit
   pub links : (c : ℕ) → IsSoundLink w.update.edits (centre_at w c) (link_at w c)

@@ -4,7 +4,7 @@ use Rattle.std.specs.List.{AllZip}
 use Rattle.pv_screen.specs.Grid.{IsRow}
 use Rattle.pv_network.specs.declared.event.Event.{Event}
 use Rattle.pv_network.specs.declared.event.Event.TheVariants as events
-use Rattle.pv_network.specs.Centre.{Index, CentreStands}
+use Rattle.pv_network.specs.Centre.{Held, CentreStands}
 use Rattle.pv_network.specs.Link.{Link}
 use Rattle.pv_network.specs.Sound.{IsSound}
 use Rattle.pv_network.specs.UpdateCentre.{Update, UdcStands}
@@ -13,7 +13,7 @@ use Rattle.pv_network.specs.World.{World}
 -- what is seen of a network: its parts, and whether it once was out of memory
 pub record State : Type 0 where
   pub update : Update
-  pub centres : List Index
+  pub centres : List Held
   pub links : List Link
   pub is_out : Bool
 
@@ -21,8 +21,12 @@ pub record State : Type 0 where
 pub record StandsFor (s : State) (w : World) : Type 0 where
   pub sound : IsSound w
   pub update : UdcStands w.update s.update
-  pub centres : AllZip (CentreStands w.update.record_limit w.update.edits) s.centres w.centres
+  pub centres : AllZip (CentreStands w.update) s.centres w.centres
   pub links : s.links ≡ w.links
+
+-- there is a world that the network stands for
+abbrev pub IsStanding : State → Type 0
+IsStanding s = (w : World) × StandsFor s w
 
 -- whatever world the network stood for, it stands afterwards for that world's next, and what it answers is that answer
 abbrev pub Performs : {A : Type 0} → State → State → A → (World → World × A) → Type 0

@@ -6,8 +6,9 @@ use Rattle.pv_cells.specs.declared.reading.TheConstants.{LAST_CELL}
 use Rattle.pv_frame.specs.Content.{Content, frame_of_row}
 use Rattle.pv_screen.specs.Composing.{composed_grid}
 use Rattle.pv_screen.specs.declared.screen.Screen.TheVariants.{Whole}
-use Rattle.pv_network.specs.declared.record.Record.{Record}
-use Rattle.pv_network.specs.declared.record.TheConstants.{OPERATOR}
+use Rattle.pv_edits.specs.declared.record.Record.{Record}
+use Rattle.pv_edits.specs.declared.room.TheConstants.{OPERATOR}
+use Rattle.pv_edits.specs.Edits.{frame_at}
 use Rattle.pv_network.specs.declared.packet.Packet.{Packet}
 use Rattle.pv_network.specs.declared.centre.Arrival.{Arrival}
 use Rattle.pv_network.specs.declared.centre.Arrival.TheVariants as arrivals
@@ -16,7 +17,6 @@ use Rattle.pv_network.specs.declared.event.Event.TheVariants as events
 use Rattle.pv_network.specs.declared.outcome.Outcome.{Outcome}
 use Rattle.pv_network.specs.declared.outcome.Outcome.TheVariants as outcomes
 use Rattle.pv_network.specs.Centre.{with_next, arrival_of}
-use Rattle.pv_network.specs.Edits.{frame_under}
 use Rattle.pv_network.specs.Link.{is_packets_full, next_number, with_packet, with_acknowledgement}
 use Rattle.pv_network.specs.Replies.{bad_line_reply}
 use Rattle.pv_network.specs.UpdateCentre.{Judgement, judgement_of}
@@ -51,7 +51,7 @@ view_answer name (Some frame) = outcomes.Shown (record { screen = Whole (compose
 
 -- a view leaves the world as it is, and shows what the centre has under the name
 abbrev pub step_of_view : World → ℕ → Name → World × Outcome
-step_of_view w c name = (w, view_answer name (frame_under (page_base w c) name))
+step_of_view w c name = (w, view_answer name (frame_at (page_base w c) name))
 
 -- ---- send
 

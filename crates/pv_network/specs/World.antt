@@ -1,6 +1,7 @@
 -- The world: the one edit list, what each centre has of it, and every packet that was ever made.
 use Rattle.std.specs.Prelude.{ℕ, List, [], ◌∷◌, ◌++◌, length, take, replicate, slice_index_or, slice_set}
-use Rattle.pv_network.specs.declared.record.Record.{Record}
+use Rattle.pv_edits.specs.declared.record.Record.{Record}
+use Rattle.pv_edits.specs.declared.record.Record.TheVariants.{Put, Drop, Account, Lease, Taken}
 use Rattle.pv_network.specs.Centre.{Centre, new_centre}
 use Rattle.pv_network.specs.Link.{Link, new_link, link_in}
 use Rattle.pv_network.specs.UpdateCentre.{Update, with_record}
@@ -50,13 +51,17 @@ with_centre w c centre = record w { centres = slice_set w.centres c centre }
 abbrev pub with_link : World → ℕ → Link → World
 with_link w c link = record w { links = slice_set w.links c link }
 
--- the receipt of a record at its place
-abbrev pub receipt_of : Record → ℕ → Receipt
-receipt_of edit place = record { editor = edit.editor; number = edit.number; place = place }
+-- the receipt of a record at its place; an item that was taken up has no editor and gives none
+abbrev pub receipts_of : Record → ℕ → List Receipt
+receipts_of (Put editor q name frame) place = record { editor = editor; number = q; place = place } ∷ []
+receipts_of (Drop editor q name) place = record { editor = editor; number = q; place = place } ∷ []
+receipts_of (Account editor q account) place = record { editor = editor; number = q; place = place } ∷ []
+receipts_of (Lease editor q root account) place = record { editor = editor; number = q; place = place } ∷ []
+receipts_of (Taken taken) place = []
 
 -- the world with one more record, which is acknowledged as it is stored
 abbrev pub with_edit : World → Record → World
 with_edit w edit = record w {
   update = with_record w.update edit;
-  receipts = w.receipts ++ receipt_of edit (length w.update.edits) ∷ [];
+  receipts = w.receipts ++ receipts_of edit (length w.update.edits);
 }

@@ -1,11 +1,12 @@
-ghost use Rattle.std.specs.Prelude.{◌≡◌, ℕ, ◌<◌, ◌≤◌, List, [], length, take, option_copied, Some, slice_get, slice_set, slice_index_or, replicate, IfOk};
-ghost use Rattle.pv_network.specs.declared.record.Record.{Record};
-ghost use Rattle.pv_network.specs.Edits.{edit_at};
-ghost use Rattle.pv_network.specs.Centre.{CentreStands, empty_index, arrival_of, with_next};
-ghost use Rattle.pv_network.specs.Centre as Spec;
+ghost use Rattle.std.specs.Prelude.{◌≡◌, ◌<◌, ◌≤◌, List, [], ◌∷◌, ◌++◌, length, option_copied, replicate, IfOk, IfSome, IsTrue};
+ghost use Rattle.pv_frame.specs.Errors.{IsValid};
+ghost use Rattle.pv_edits.specs.Edits.{frame_at};
+ghost use Rattle.pv_edits.specs.Room.{has_room};
+ghost use Rattle.pv_network.specs.Centre.{nothing_held, arrival_of};
 
-use crate::edit_list::EditList;
-use crate::record::Record;
+use pv_edits::{Base, Record};
+use pv_frame::Frame;
+use pv_outside::Limits;
 use pv_page::FrameName;
 use std::alloc::{AllocError, Global};
 use std::marker::Model;
@@ -23,59 +24,57 @@ pub enum Arrival {
     Full,
 }
 
-/// A retrieval centre: the records that it has applied.
+/// A retrieval centre: the base of the records that it has applied.
 #[derive(Debug, Drop)]
 pub struct Centre {
-    held: EditList,
+    base: Base,
 }
 
 impl Model for Centre {
-    ghost use Rattle.std.specs.Prelude.{length, reverse};
-    ghost use Rattle.pv_network.specs.Centre.{Index};
+    ghost use Rattle.std.specs.Prelude.{◌≤◌, length};
+    ghost use Rattle.pv_edits.specs.Standing.{records_of, limits_of};
+    ghost use Rattle.pv_network.specs.Centre.{Held};
 
-    ghost Value = { Index };
+    ghost Value = { Held };
 
-    ghost view = { λ c. record {
-      count = length c.held.edits;
-      limit = c.held.room;
-      entries = reverse c.held.edits;
-    } };
+    ghost view = { λ c. record { records = records_of c.base; limits = limits_of c.base } };
+
+    ghost invariant = { λ c. length (records_of c.base) ≤ (limits_of c.base).records };
 }
 
 impl Centre {
-    /// A centre that nothing has reached, with room for this many records.
-    pub(crate) fn open(alloc: Global, room: usize) -> Result<Centre, AllocError>
-        ensures { IfOk result (λ c. c ≡ empty_index room) }
+    /// A centre that nothing has reached, with these limits.
+    pub(crate) fn open(alloc: Global, limits: Limits) -> Result<Centre, AllocError>
+        ensures { IfOk result (λ c. c ≡ nothing_held limits) }
     {
         Ok(Centre {
-            held: EditList::open(alloc, room)?,
+            base: Base::open(alloc, limits)?,
         })
     }
 
     /// How many records it has applied.
-    pub(crate) fn count(&self) -> usize
-        ensures value { result ≡ self.now.count }
-        ensures within { self.now.count ≤ self.now.limit }
+    pub(crate) fn count(&self) -> u64
+        ensures value { result ≡ length self.now.records }
+        ensures within { length self.now.records ≤ self.now.limits.records }
     {
-        self.held.len()
+        self.base.count()
     }
 
-    /// The last record of a name that the centre has applied.
-    pub(crate) fn last_of(&self, name: FrameName) -> Option<&Record>
-        ensures { (limit : ℕ) (edits : List Record) (centre : Spec.Centre)
-            → CentreStands limit edits self.now centre
-            → option_copied result ≡ edit_at (take centre.applied edits) name }
+    /// The frame that a name has in the records that the centre has applied.
+    pub(crate) fn frame(&self, name: FrameName) -> Option<&Frame>
+        ensures valid { IfSome result (λ frame. IsValid frame.now) }
+        ensures frame { option_copied result ≡ frame_at self.now.records name }
     {
-        self.held.last_of(name)
+        self.base.get(name)
     }
 
     /// What the centre does with the record of a number.
     pub(crate) fn arrival(&self, number: u64) -> Arrival
-        ensures { result ≡ arrival_of self.now.count self.now.limit number }
+        ensures { result ≡ arrival_of (length self.now.records) self.now.limits.records number }
     {
-        let count = self.held.len() as u64;
+        let count = self.base.count();
         if number == count {
-            if self.held.room() as u64 <= count {
+            if self.base.limits().records as u64 <= count {
                 Arrival::Full
             } else {
                 Arrival::Taken
@@ -87,25 +86,24 @@ impl Centre {
         }
     }
 
-    /// Takes a record, which is the next one.
+    /// Takes a record, which is the next one. There is room for it.
     pub(crate) fn take(&mut self, edit: &Record)
-        requires { self.old.count < self.old.limit }
-        ensures { (limit : ℕ) (edits : List Record) (centre : Spec.Centre)
-            → CentreStands limit edits self.old centre
-            → slice_get edits centre.applied ≡ Some edit.now
-            → CentreStands limit edits self.new (with_next centre) }
+        requires fits { length self.old.records < self.old.limits.records }
+        requires room { IsTrue (has_room self.old.limits self.old.records edit.now) }
+        ensures { self.new ≡ record self.old { records = self.old.records ++ edit.now ∷ [] } }
     {
-        self.held.push(*edit);
+        let place = self.base.count();
+        self.base.absorb(edit, place);
     }
 }
 
-/// This many centres that nothing has reached, each with the same room for records.
-pub(crate) fn open_centres(alloc: Global, count: u8, room: usize) -> Result<Vec<Centre>, AllocError>
-    ensures { IfOk result (λ centres. centres.items ≡ replicate count (empty_index room)) }
+/// This many centres that nothing has reached, with these limits for each.
+pub(crate) fn open_centres(alloc: Global, count: u8, limits: Limits) -> Result<Vec<Centre>, AllocError>
+    ensures { IfOk result (λ centres. centres.items ≡ replicate count (nothing_held limits)) }
 {
     let mut centres = Vec::with_capacity(alloc, count as usize)?;
     for _ in 0..count {
-        centres.push(Centre::open(alloc, room)?)?;
+        centres.push(Centre::open(alloc, limits)?)?;
     }
     Ok(centres)
 }

@@ -20,7 +20,6 @@
 #![tactic(auto)]
 
 mod centre;
-mod edit_list;
 mod event;
 mod laws;
 mod link;
@@ -28,7 +27,6 @@ mod links;
 mod network;
 mod outcome;
 mod packet;
-mod record;
 mod text;
 mod update_centre;
 
@@ -36,5 +34,4 @@ pub use event::Event;
 pub use laws::every_reachable_world_is_sound;
 pub use network::Network;
 pub use outcome::{Outcome, Turn, Why};
-pub use record::OPERATOR;
 pub use text::Text;

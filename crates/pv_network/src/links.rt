@@ -3,7 +3,7 @@ ghost use Rattle.pv_network.specs.Link.{new_link, link_in, is_packets_full, next
 
 use crate::link::Link;
 use crate::packet::{MAX_PACKETS, Packet};
-use crate::record::Record;
+use pv_edits::Record;
 use std::alloc::{AllocError, Global};
 use std::marker::Model;
 

@@ -28,7 +28,7 @@ pub struct Network {
 
 impl Model for Network {
     ghost use Rattle.std.specs.Prelude.{◌≡◌, length};
-    ghost use Rattle.pv_network.specs.Standing.{State};
+    ghost use Rattle.pv_network.specs.Standing.{State, IsStanding};
 
     ghost Value = { State };
 
@@ -39,7 +39,13 @@ impl Model for Network {
       is_out = n.is_out;
     } };
 
-    ghost invariant = { λ n. length n.links ≡ length n.centres.items };
+    // It stands for a world: so each record of a packet has room at the centre that takes it.
+    ghost invariant = { λ n. (length n.links ≡ length n.centres.items) × IsStanding (record {
+      update = n.update;
+      centres = n.centres.items;
+      links = n.links;
+      is_out = n.is_out;
+    }) };
 }
 
 impl Network {
@@ -54,7 +60,7 @@ impl Network {
     {
         Ok(Network {
             update: UpdateCentre::open(alloc, limits)?,
-            centres: open_centres(alloc, centres, limits.records as usize)?,
+            centres: open_centres(alloc, centres, limits)?,
             links: Links::open(alloc, centres)?,
             is_out: false,
         })
@@ -124,7 +130,10 @@ impl Network {
         let Some(number) = self.links.next_number(centre, self.update.count()) else {
             return Outcome::Idle;
         };
-        let index = self.links.pack(centre, number, self.update.get(number));
+        let Some(edit) = self.update.get(number) else {
+            return Outcome::Idle;
+        };
+        let index = self.links.pack(centre, number, edit);
         Outcome::SentRecord { index, number }
     }
 
@@ -153,7 +162,7 @@ impl Network {
                 Outcome::Early { number, ack }
             }
             Arrival::Full => {
-                let count = self.centres[centre].count() as u64;
+                let count = self.centres[centre].count();
                 Outcome::Full { count }
             }
         }
@@ -164,9 +173,9 @@ impl Network {
         requires { centre < length self.now.centres }
         ensures { Performs self.now self.now result (λ w. step_of_view w centre name) }
     {
-        match self.centres[centre].last_of(name) {
-            Some(edit) => Outcome::Shown(Turn {
-                screen: Screen::Whole(compose(edit.frame.frame(), name)),
+        match self.centres[centre].frame(name) {
+            Some(frame) => Outcome::Shown(Turn {
+                screen: Screen::Whole(compose(frame, name)),
                 ended: None,
             }),
             None => Outcome::NotHeld,
@@ -178,7 +187,7 @@ impl Network {
         requires { centre < length self.now.centres }
         ensures { Performs self.now self.now result (λ w. step_of_at w centre) }
     {
-        let count = self.centres[centre].count() as u64;
+        let count = self.centres[centre].count();
         Outcome::Applied { count }
     }
 
@@ -202,7 +211,7 @@ impl Network {
         }
         Some(
             self.links
-                .acknowledge(centre, self.centres[centre].count() as u64),
+                .acknowledge(centre, self.centres[centre].count()),
         )
     }
 }

@@ -1,4 +1,4 @@
-use crate::record::Record;
+use pv_edits::Record;
 
 /// How many packets a network may make, in both directions and at all centres.
 pub const MAX_PACKETS: usize = 20_000;

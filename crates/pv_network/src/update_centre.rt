@@ -1,46 +1,45 @@
-ghost use Rattle.std.specs.Prelude.{◌≡◌, ℕ, ◌<◌, ◌≤◌, ◌^◌, List, [], length, slice_get, Some, None, is_none, IfOk};
-ghost use Rattle.pv_frame.specs.Content.{frame_of_row};
+ghost use Rattle.std.specs.Prelude.{◌≡◌, ℕ, ◌<◌, ◌^◌, List, [], ◌∷◌, ◌++◌, length, option_copied, slice_get, None, is_none, IfOk, IsTrue};
+ghost use Rattle.pv_page.specs.Names.{Name};
+ghost use Rattle.pv_frame.specs.Content.{Content, frame_of_row};
 ghost use Rattle.pv_screen.specs.Grid.{IsRow};
-ghost use Rattle.pv_network.specs.declared.record.TheConstants.{OPERATOR};
-ghost use Rattle.pv_network.specs.Edits.{frame_under};
+ghost use Rattle.pv_edits.specs.declared.room.TheConstants.{OPERATOR};
+ghost use Rattle.pv_edits.specs.Edits.{frame_at};
+ghost use Rattle.pv_network.specs.Numbers.{next_edit_number};
 ghost use Rattle.pv_network.specs.UpdateCentre as Spec;
 ghost use Rattle.pv_network.specs.UpdateCentre.{UdcStands, judgement_of, next_record, refusal_reply, with_record, with_judgement};
 
-use crate::edit_list::EditList;
-use crate::record::{OPERATOR, Record};
 use crate::text::Text;
+use pv_edits::{Base, OPERATOR, Record};
 use pv_frame::CheckedFrame;
 use pv_outside::Limits;
 use pv_page::{AccountNo, FrameName};
 use std::alloc::{AllocError, Global};
 use std::marker::Model;
 
-/// The Update Centre: the list of all edits, how many names have a frame, and the operator's last number.
+/// The Update Centre: the base of all records.
 #[derive(Debug, Drop)]
 pub struct UpdateCentre {
-    edits: EditList,
-    frame_limit: u32,
-    frames: u32,
-    last: u32,
+    base: Base,
 }
 
 impl Model for UpdateCentre {
-    ghost use Rattle.std.specs.Prelude.{◌≡◌, ◌<◌, ◌≤◌, ◌^◌, length};
-    ghost use Rattle.pv_network.specs.declared.record.TheConstants.{OPERATOR};
-    ghost use Rattle.pv_network.specs.Edits.{count_of_frames, last_number};
+    ghost use Rattle.std.specs.Prelude.{◌≡◌, ◌+◌, ◌≤◌, length};
+    ghost use Rattle.pv_edits.specs.declared.room.TheConstants.{OPERATOR};
+    ghost use Rattle.pv_edits.specs.Standing.{records_of, places_of, limits_of};
+    ghost use Rattle.pv_network.specs.Numbers.{first_places, next_edit_number};
     ghost use Rattle.pv_network.specs.UpdateCentre.{Update};
 
     ghost Value = { Update };
 
     ghost view = { λ u. record {
-      edits = u.edits.edits;
-      frame_limit = u.frame_limit;
-      record_limit = u.edits.room;
+      edits = records_of u.base;
+      frame_limit = (limits_of u.base).frames;
+      record_limit = (limits_of u.base).records;
     } };
 
-    ghost invariant = { λ u. (u.frames ≡ count_of_frames u.edits.edits)
-        × (u.last ≡ last_number u.edits.edits OPERATOR)
-        × (u.last ≤ length u.edits.edits) × (u.edits.room < 2 ^ 32) };
+    ghost invariant = { λ u. (places_of u.base ≡ first_places (length (records_of u.base)))
+        × (next_edit_number (records_of u.base) OPERATOR ≤ length (records_of u.base) + 1)
+        × (length (records_of u.base) ≤ (limits_of u.base).records) };
 }
 
 impl UpdateCentre {
@@ -50,10 +49,7 @@ impl UpdateCentre {
             (record { edits = []; frame_limit = limits.frames; record_limit = limits.records })) }
     {
         Ok(UpdateCentre {
-            edits: EditList::open(alloc, limits.records as usize)?,
-            frame_limit: limits.frames,
-            frames: 0,
-            last: 0,
+            base: Base::open(alloc, limits)?,
         })
     }
 
@@ -62,15 +58,14 @@ impl UpdateCentre {
         ensures value { result ≡ length self.now.edits }
         ensures within { length self.now.edits < 2 ^ 32 }
     {
-        self.edits.len() as u64
+        self.base.count()
     }
 
-    /// The record at a place.
-    pub(crate) fn get(&self, place: u64) -> &Record
-        requires { place < length self.now.edits }
-        ensures { (u : Spec.Update) → UdcStands u self.now → slice_get u.edits place ≡ Some result.now }
+    /// The record at a place. `None` exactly from the count on.
+    pub(crate) fn get(&self, place: u64) -> Option<&Record>
+        ensures { (u : Spec.Update) → UdcStands u self.now → option_copied result ≡ slice_get u.edits place }
     {
-        self.edits.get(place as usize)
+        self.base.record_at(place)
     }
 
     /// Judges a row that the operator puts under a name, stores its record unless it is refused, and returns the reply.
@@ -84,46 +79,57 @@ impl UpdateCentre {
             → UdcStands (with_judgement u
             (judgement_of u OPERATOR name (frame_of_row row.now)).stored) self.new }
     {
-        let is_new = self.edits.last_of(name).is_none();
-        match self.refusal(is_new) {
+        let edit = self.next_record(name, CheckedFrame::of_row(row));
+        match self.refusal(name, &edit) {
             Some(reply) => reply,
             None => {
-                let place = self.store(name, CheckedFrame::of_row(row), is_new);
+                let place = self.store(name, &edit);
                 Text::stored(place)
             }
         }
     }
 
-    /// Why no frame may be put under a name that is new, or under one that has a frame. `None` if it may.
-    fn refusal(&self, is_new: bool) -> Option<Text>
-        ensures { result ≡ refusal_reply self.now is_new }
+    /// The operator's record that puts a frame under a name, by his next number.
+    fn next_record(&self, name: FrameName, frame: CheckedFrame) -> Record
+        ensures { result ≡ next_record self.now OPERATOR name frame }
     {
-        if is_new && self.frames >= self.frame_limit {
-            return Some(Text::frames_full(self.frame_limit as u64));
+        let editor = AccountNo::of_number(OPERATOR).unwrap();
+        let q = match self.base.last(editor) {
+            Some((last, _)) => last + 1,
+            None => 1,
+        };
+        Record::Put {
+            editor,
+            q,
+            name,
+            frame,
         }
-        if self.edits.len() >= self.edits.room() {
-            return Some(Text::full(self.edits.room() as u64));
+    }
+
+    /// Why no frame may be put under a name. `None` if it may.
+    fn refusal(&self, name: FrameName, edit: &Record) -> Option<Text>
+        requires { (frame : Content) × (edit.now ≡ next_record self.now OPERATOR name frame) }
+        ensures { result ≡ refusal_reply self.now (is_none (frame_at self.now.edits name)) }
+    {
+        let limits = self.base.limits();
+        if !self.base.has_room(edit) {
+            return Some(Text::frames_full(limits.frames as u64));
+        }
+        if self.base.count() >= limits.records as u64 {
+            return Some(Text::full(limits.records as u64));
         }
         None
     }
 
-    /// Stores the operator's next record, and returns its place.
-    fn store(&mut self, name: FrameName, frame: CheckedFrame, is_new: bool) -> u64
-        requires new { is_new ≡ is_none (frame_under self.old.edits name) }
-        requires taken { refusal_reply self.old is_new ≡ None }
+    /// Stores a record that is not refused, and returns its place.
+    fn store(&mut self, name: FrameName, edit: &Record) -> u64
+        requires next { (frame : Content) × (edit.now ≡ next_record self.old OPERATOR name frame) }
+        requires taken { refusal_reply self.old (is_none (frame_at self.old.edits name)) ≡ None }
         ensures place { result ≡ length self.old.edits }
-        ensures stored { self.new ≡ with_record self.old (next_record self.old OPERATOR name frame) }
+        ensures stored { self.new ≡ with_record self.old edit.now }
     {
-        let place = self.edits.len();
-        let number = self.last + 1;
-        self.edits.push(Record {
-            editor: AccountNo::of_number(OPERATOR).unwrap(),
-            number,
-            name,
-            frame,
-        });
-        self.frames += u32::from(is_new);
-        self.last = number;
-        place as u64
+        let place = self.base.count();
+        self.base.absorb(edit, place);
+        place
     }
 }

@@ -21,12 +21,9 @@ use Rattle.pv_udc.specs.declared.refusal.Refusal.TheVariants.{BadNumber, BadFram
 use Rattle.pv_udc.specs.declared.reply.Code.{Code}
 use Rattle.pv_udc.specs.declared.reply.UdcReply.TheVariants.{Stored, Again, Old, Early, Refused}
 use Rattle.pv_udc.specs.declared.request.UdcRequest.TheVariants.{Edit, TakeUp}
-use Rattle.pv_udc.specs.declared.state.TheConstants.{OPERATOR, CENTRES}
+use Rattle.pv_udc.specs.declared.state.TheConstants.{CENTRES}
 
--- the operator is account 0, and there can be four centres
-pub operator : OPERATOR ≡ 0
-operator = refl
-
+-- there can be four centres
 pub centres : CENTRES ≡ 4
 centres = refl
 

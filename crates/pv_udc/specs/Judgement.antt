@@ -10,7 +10,7 @@ use Rattle.pv_frame.specs.Errors.{error_of}
 use Rattle.pv_edits.specs.Edits.{frame_at, account_at, last_of, taken_of}
 use Rattle.pv_edits.specs.Owner.{owner_of}
 use Rattle.pv_edits.specs.Room.{has_editor, frame_fits, account_fits, lease_fits}
-use Rattle.pv_edits.specs.declared.room.TheConstants.{MAX_ACCOUNTS, MAX_LEASES}
+use Rattle.pv_edits.specs.declared.room.TheConstants.{MAX_ACCOUNTS, MAX_LEASES, OPERATOR}
 use Rattle.pv_edits.specs.declared.wish.EditWish.{EditWish}
 use Rattle.pv_edits.specs.declared.wish.EditWish.TheVariants as wishes
 use Rattle.pv_edits.specs.declared.record.Record.{Record}
@@ -25,7 +25,6 @@ use Rattle.pv_udc.specs.declared.reply.UdcReply.{UdcReply}
 use Rattle.pv_udc.specs.declared.reply.UdcReply.TheVariants.{Stored, Again, Old, Early, Refused}
 use Rattle.pv_udc.specs.declared.request.UdcRequest.{UdcRequest}
 use Rattle.pv_udc.specs.declared.request.UdcRequest.TheVariants.{Edit, TakeUp}
-use Rattle.pv_udc.specs.declared.state.TheConstants.{OPERATOR}
 
 -- ---- an editor's numbers
 

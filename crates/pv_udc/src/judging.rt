@@ -10,9 +10,9 @@ ghost use Rattle.pv_udc.specs.declared.request.UdcRequest.TheVariants as request
 use crate::refusal::Refusal;
 use crate::reply::UdcReply;
 use crate::request::UdcRequest;
-use crate::state::{OPERATOR, UdcState};
+use crate::state::UdcState;
 use pv_account::Account;
-use pv_edits::{EditWish, MAX_ACCOUNTS, MAX_LEASES, Record, Taken};
+use pv_edits::{EditWish, MAX_ACCOUNTS, MAX_LEASES, OPERATOR, Record, Taken};
 use pv_frame::{CheckedFrame, Frame};
 use pv_node::Decision;
 use pv_page::{AccountNo, FrameName, PageNo};

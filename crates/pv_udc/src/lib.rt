@@ -40,7 +40,7 @@ pub use refusal::Refusal;
 pub use reply::{Code, UdcReply};
 pub use request::UdcRequest;
 pub use sending::down;
-pub use state::{CENTRES, OPERATOR, UdcState};
+pub use state::{CENTRES, UdcState};
 
 #[cfg(test)]
 mod tests;

@@ -14,10 +14,6 @@ use pv_post::Item;
 use std::alloc::{AllocError, Global};
 use std::marker::Model;
 
-/// The number of the operator's account. He alone makes accounts and leases pages, and pages that nobody
-/// has leased are his.
-pub const OPERATOR: u64 = 0;
-
 /// How many centres there can be.
 pub const CENTRES: usize = 4;
 

@@ -1,24 +1,16 @@
-use Rattle.std.proofs.Common.{◌≡◌, ℕ, ◌<◌, true, false, length, get_or, sym, ◌∙◌, rules}
+use Rattle.std.proofs.Common.{◌≡◌, ℕ, ◌<◌, Bool, List, length, Option, Some, None, sym, ap, ◌∙◌}
+use Rattle.std.specs.Prelude.{IfSome}
 use Rattle.pv_edits.specs.declared.record.Record.{Record}
-use Rattle.pv_edits.specs.Edits.{is_about}
-use Rattle.pv_edits.proofs.LastIndex.{last_index-none, last_index-at}
+use Rattle.pv_edits.specs.Edits.{is_about, last_index}
+use Rattle.pv_edits.proofs.LastIndex.{last_index-within}
 use Rattle.pv_edits.proofs.base.Base.last_about.Goals as goal
 
--- no record is about this
-pub returns-in_err-index-clause-last : goal.returns-in_err-index-clause-last
-returns-in_err-index-clause-last c =
-    let test = is_about c.args.subject in
-    let records = c.args.self.now.records.items in
-    let fails : (k : ℕ) (d : Record) → k < length records → test (get_or records k d) ≡ false = search rules in
-    c.from_residual.ensures ∙ sym (last_index-none test records fails)
+-- the index that is found is one of the list's
+found_within : (found : Option ℕ) (test : Record → Bool) (records : List Record) → found ≡ last_index test records → IfSome found (λ index. index < length records)
+found_within None test records is = tt
+found_within (Some index) test records is = last_index-within test records index (sym is)
 
--- the record at the index is, and no later one
-pub returns-clause-last : goal.returns-clause-last
-returns-clause-last c =
-    let test = is_about c.args.subject in
-    let records = c.args.self.now.records.items in
-    let i = c.in_ok-index.index in
-    let within : i < length records = search rules in
-    let passes : (d : Record) → test (get_or records i d) ≡ true = search rules in
-    let later : (k : ℕ) (e : Record) → i < k → k < length records → test (get_or records k e) ≡ false = search rules in
-    sym (last_index-at test records i within passes later)
+pub returns-in_default : goal.returns-in_default
+returns-in_default c =
+    let last = c.last_in_bucket.ensures ∙ ap (last_index (is_about c.args.subject)) c.deref.ensures.value in
+    record { last = last; within = found_within c.last_in_bucket.result (is_about c.args.subject) c.args.self.now.records.items last }

@@ -1,16 +1,33 @@
-use Rattle.std.proofs.Common.{[], refl, arith}
-use Rattle.pv_network.specs.Centre.{CentreStands, empty_index, new_centre}
+use Rattle.std.proofs.Common.{◌≡◌, [], length, false, refl, sym, ◌∙◌, arith}
+use Rattle.std.proofs.lemmas.List.{length-replicate}
+use Rattle.pv_network.specs.Centre.{CentreStands, nothing_held, new_centre}
+use Rattle.pv_network.specs.Link.{new_link}
+use Rattle.pv_network.specs.Standing.{StandsFor}
+use Rattle.pv_network.specs.UpdateCentre.{Update}
+use Rattle.pv_network.specs.World.{start}
 use Rattle.pv_network.proofs.Lists.{zip_replicate}
 use Rattle.pv_network.proofs.Soundness.{sound_start}
 use Rattle.pv_network.proofs.network.Network.open.Goals as goal
+use Rattle.pv_network.proofs.network.Network.open.Goals.{In_ok-open-2}
 
 -- nothing has happened to any centre
-pub returns-clause-ok : goal.returns-clause-ok
-returns-clause-ok c =
-    let records = c.args.limits.records in
+started : (c : In_ok-open-2) → StandsFor (record { update = c.in_ok-open.field-0; centres = c.in_ok-open_centres.field-0.items; links = c.in_ok-open-2.field-0; is_out = false }) (start c.args.centres c.args.limits.frames c.args.limits.records)
+started c =
+    let limits = c.args.limits in
+    let u : Update = record { edits = []; frame_limit = limits.frames; record_limit = limits.records } in
     record {
-      sound = sound_start c.args.centres c.args.limits.frames records;
+      sound = sound_start c.args.centres limits.frames limits.records;
       update = c.in_ok-open.ensures;
-      centres = rw c.in_ok-open_centres.ensures (zip_replicate (CentreStands records []) c.args.centres (empty_index records) new_centre (record { within = omega arith; count = refl; room = refl; last = λ name. refl }));
+      centres = rw c.in_ok-open_centres.ensures (zip_replicate (CentreStands u) c.args.centres (nothing_held limits) new_centre (record { within = omega arith; prefix = refl; frame_limit = refl; record_limit = refl }));
       links = c.in_ok-open-2.ensures;
     }
+
+pub invariant_of-result : goal.invariant_of-result
+invariant_of-result c =
+    let made = started (goal.at.invariant_of-result c).In_ok-open-2 in (
+      rw (c.in_ok-open-2.ensures, c.in_ok-open_centres.ensures) (length-replicate c.args.centres new_link ∙ sym (length-replicate c.args.centres (nothing_held c.args.limits))),
+      (start c.args.centres c.args.limits.frames c.args.limits.records, made),
+    )
+
+pub returns-clause-ok : goal.returns-clause-ok
+returns-clause-ok c = started (goal.at.returns-clause-ok c).In_ok-open-2

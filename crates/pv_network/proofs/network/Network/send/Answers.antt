@@ -1,10 +1,32 @@
-use Rattle.std.proofs.Common.{sym}
+use Rattle.std.proofs.Common.{◌≡◌, length, sym, ap, ◌∙◌}
+use Rattle.std.proofs.lemmas.List.{length-set}
+use Rattle.pv_network.specs.declared.outcome.Outcome.TheVariants.{SentRecord}
+use Rattle.pv_network.specs.Standing.{State, StandsFor}
+use Rattle.pv_network.specs.Step.{step_of_send}
+use Rattle.pv_network.specs.World.{World}
 use Rattle.pv_network.proofs.Performing.{sends}
 use Rattle.pv_network.proofs.network.Network.send.Goals as goal
+use Rattle.pv_network.proofs.network.Network.send.Goals.{After-pack-index}
+
+-- the network as it was
+abbrev before : After-pack-index → State
+before c =
+    let n = c.self.inside in
+    record { update = n.update; centres = n.centres.items; links = n.links; is_out = n.is_out }
 
 -- the record of the next number goes down in a packet
+sent : (c : After-pack-index) (w : World) → StandsFor (before c) w
+    → StandsFor (record (before c) { links = c.pack-index.new.self }) (step_of_send w c.args.centre).0 × (SentRecord c.pack-index.result c.in-Some.number ≡ (step_of_send w c.args.centre).1)
+sent c w stands =
+    sends _ w stands c.args.centre c.pack-index.new.self c.count.result c.in-Some.number c.pack-index.result c.in-Some-get.edit.now (sym c.if-is_full.ensures) c.count.ensures.value (sym c.in-Some.ensures)
+    (sym (c.in-Some-get.ensures w.update stands.update)) c.pack-index.ensures.index c.pack-index.ensures.packed
+
+pub invariant_of-self : goal.invariant_of-self
+invariant_of-self c =
+    let stands = c.self.invariant.1 in (
+      ap length c.pack-index.ensures.packed ∙ length-set c.self.inside.links c.args.centre _ ∙ c.self.invariant.0,
+      ((step_of_send stands.0 c.args.centre).0, (sent c stands.0 stands.1).0),
+    )
+
 pub returns-clause-performs : goal.returns-clause-performs
-returns-clause-performs c = λ w stands.
-    let here = rw (← c.self.view_is) at stands in
-    sends _ w here c.args.centre c.pack-index.new.self c.count.result c.in-Some.number c.pack-index.result c.get.result.now (sym c.if-is_full.ensures) c.count.ensures.value (sym c.in-Some.ensures)
-    (c.get.ensures w.update here.update) c.pack-index.ensures.index c.pack-index.ensures.packed
+returns-clause-performs c = λ w stands. sent c w (rw (← c.self.view_is) at stands)
