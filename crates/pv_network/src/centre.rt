@@ -98,7 +98,11 @@ impl Centre {
 }
 
 /// This many centres that nothing has reached, with these limits for each.
-pub(crate) fn open_centres(alloc: Global, count: u8, limits: Limits) -> Result<Vec<Centre>, AllocError>
+pub(crate) fn open_centres(
+    alloc: Global,
+    count: u8,
+    limits: Limits,
+) -> Result<Vec<Centre>, AllocError>
     ensures { IfOk result (λ centres. centres.items ≡ replicate count (nothing_held limits)) }
 {
     let mut centres = Vec::with_capacity(alloc, count as usize)?;

@@ -209,9 +209,6 @@ impl Network {
         if self.links.is_full() {
             return None;
         }
-        Some(
-            self.links
-                .acknowledge(centre, self.centres[centre].count()),
-        )
+        Some(self.links.acknowledge(centre, self.centres[centre].count()))
     }
 }
