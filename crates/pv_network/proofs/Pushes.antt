@@ -5,15 +5,15 @@ use Rattle.std.proofs.lemmas.Slice.{take-put_mid, drop-put_mid}
 use Rattle.std.specs.Prelude.{replicate}
 use borrow.Rule.Slice.PartMut.{put_mid}
 use Rattle.pv_network.specs.declared.text.TheConstants.{ROOM}
-use Rattle.pv_network.specs.Texts.{IsZeroed, text_in, length-text_in}
+use Rattle.pv_network.specs.Texts.{IsFilledText, reply_in, length-reply_in}
 
-module _ (len k : ℕ) (bytes more : List ℕ) (zeroed : IsZeroed len bytes) (many : k ≡ length more) (room : len + k ≤ ROOM) where
+module _ (len k : ℕ) (bytes more : List ℕ) (zeroed : IsFilledText len bytes) (many : k ≡ length more) (room : len + k ≤ ROOM) where
   -- the array's end comes after what is written
   within : len ≤ length bytes
   within = omega (arith, zeroed.whole, zeroed.within)
 
   -- the text has the bytes at its end
-  pub shown_more : text_in (len + k) (put_mid len k bytes more) ≡ text_in len bytes ++ more
+  pub shown_more : reply_in (len + k) (put_mid len k bytes more) ≡ reply_in len bytes ++ more
   shown_more = take-put_mid len k bytes more (len + k) (omega (arith, many)) within
 
   -- the rest are zeros
@@ -28,9 +28,9 @@ module _ (len k : ℕ) (bytes more : List ℕ) (zeroed : IsZeroed len bytes) (ma
   same_length = simp (length-append, length-take, length-drop) (omega (arith, zeroed.whole, zeroed.within, many, room))
 
   -- zeros follow the longer text
-  pub zeroed_more : IsZeroed (len + k) (put_mid len k bytes more)
+  pub zeroed_more : IsFilledText (len + k) (put_mid len k bytes more)
   zeroed_more = record { within = room; whole = same_length; zeros = zeros_behind }
 
 -- what is shown of a text that fits is as long as the text, so with more it still fits
-pub still_fits : (len more : ℕ) (bytes text : List ℕ) → IsZeroed len bytes → text_in len bytes ≡ text → length text + more ≤ ROOM → len + more ≤ ROOM
-still_fits len more bytes text zeroed is fits = omega (arith, length-text_in len bytes zeroed, ap length is)
+pub still_fits : (len more : ℕ) (bytes text : List ℕ) → IsFilledText len bytes → reply_in len bytes ≡ text → length text + more ≤ ROOM → len + more ≤ ROOM
+still_fits len more bytes text zeroed is fits = omega (arith, length-reply_in len bytes zeroed, ap length is)

@@ -17,19 +17,19 @@ pub struct Text {
 
 impl Model for Text {
     ghost use Rattle.std.specs.Prelude.{List, ℕ, length};
-    ghost use Rattle.pv_network.specs.Texts.{text_in, IsZeroed, array_of, length-text_in, array_of-text_in};
+    ghost use Rattle.pv_network.specs.Texts.{reply_in, IsFilledText, array_of_reply, length-reply_in, array_of_reply-reply_in};
 
     ghost Value = { List ℕ };
 
-    ghost view = { λ t. text_in t.len t.bytes };
+    ghost view = { λ t. reply_in t.len t.bytes };
 
-    ghost invariant = { λ t. IsZeroed t.len t.bytes };
+    ghost invariant = { λ t. IsFilledText t.len t.bytes };
 
-    ghost inverse = { λ text. record { len = length text; bytes = array_of text } };
+    ghost inverse = { λ text. record { len = length text; bytes = array_of_reply text } };
 
     ghost inverse_ok = { λ t zeroed i. record {
-      len = length-text_in t.len t.bytes zeroed i;
-      bytes = array_of-text_in t.len t.bytes zeroed i;
+      len = length-reply_in t.len t.bytes zeroed i;
+      bytes = array_of_reply-reply_in t.len t.bytes zeroed i;
     } };
 }
 

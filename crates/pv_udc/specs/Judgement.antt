@@ -17,7 +17,7 @@ use Rattle.pv_edits.specs.declared.record.Record.{Record}
 use Rattle.pv_node.specs.declared.decision.Decision.{Decision}
 use Rattle.pv_node.specs.declared.decision.Decision.TheVariants.{Answer, Store}
 use Rattle.pv_udc.specs.Codes.{code_of}
-use Rattle.pv_udc.specs.EditList.{places_of}
+use Rattle.pv_udc.specs.EditList.{all_places}
 use Rattle.pv_udc.specs.Requests.{record_of}
 use Rattle.pv_udc.specs.declared.refusal.Refusal.{Refusal}
 use Rattle.pv_udc.specs.declared.refusal.Refusal.TheVariants.{NotLoggedOn, NotOwner, BadNumber, NoFrame, FramesFull, AccountsFull, BadFrame, OperatorOnly, LeasesFull, NoAccount}
@@ -30,11 +30,11 @@ use Rattle.pv_udc.specs.declared.request.UdcRequest.TheVariants.{Edit, TakeUp}
 
 -- an editor's last number, and the place of his last edit
 abbrev pub last_edit : List Record → ℕ → Option (ℕ × ℕ)
-last_edit records editor = last_of records (places_of records) editor
+last_edit records editor = last_of records (all_places records) editor
 
 -- the number of his next edit: one more than his last, and 1 at first
-abbrev pub next_number : List Record → ℕ → ℕ
-next_number records editor = option_map_or (λ last. last.0) (last_edit records editor) 0 + 1
+abbrev pub wanted_number : List Record → ℕ → ℕ
+wanted_number records editor = option_map_or (λ last. last.0) (last_edit records editor) 0 + 1
 
 -- the place of his last edit, if it has this number
 abbrev pub kept_place : List Record → ℕ → ℕ → Option ℕ
@@ -52,7 +52,7 @@ owner_refusal records editor name = some_if (not (owner_of records name.page == 
 
 -- the number is not his next
 abbrev pub number_refusal : List Record → ℕ → ℕ → Option Refusal
-number_refusal records editor q = some_if (not (q == next_number records editor)) (BadNumber (next_number records editor))
+number_refusal records editor q = some_if (not (q == wanted_number records editor)) (BadNumber (wanted_number records editor))
 
 -- there is no such frame
 abbrev pub missing_refusal : List Record → Name → Option Refusal

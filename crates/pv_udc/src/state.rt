@@ -39,7 +39,7 @@ impl Model for UdcState {
 
 impl UdcState {
     ghost use Rattle.pv_edits.specs.Standing.{IsBaseOf};
-    ghost use Rattle.pv_udc.specs.EditList.{empty_list, with_record, places_of};
+    ghost use Rattle.pv_udc.specs.EditList.{empty_list, list_with, all_places};
     ghost use Rattle.pv_udc.specs.Judgement.{last_edit};
     ghost use Rattle.pv_udc.specs.Replies.{brings_reply_to, reply_place};
 
@@ -68,7 +68,7 @@ impl UdcState {
         requires room { IsTrue (has_room self.old.limits self.old.records rec.now) }
         requires next { place ≡ length self.old.records }
         requires within { place < self.old.limits.records }
-        ensures { self.new ≡ with_record self.old rec.now }
+        ensures { self.new ≡ list_with self.old rec.now }
     {
         self.base.absorb(rec, place);
         self.count += 1;
@@ -77,7 +77,7 @@ impl UdcState {
 
     /// The base of the records: frames, accounts, leases and editors' numbers.
     pub fn base(&self) -> &Base
-        ensures { IsBaseOf result.now self.now.records (places_of self.now.records) }
+        ensures { IsBaseOf result.now self.now.records (all_places self.now.records) }
     {
         &self.base
     }
