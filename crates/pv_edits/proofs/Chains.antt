@@ -92,7 +92,7 @@ module _ (test wide : Record → Bool) (covers : (edit : Record) → test edit �
 
       by : (later : Option ℕ) → last_index wide xs ≡ later → later_or_first (wide x) later ≡ Some i
           → ((k : ℕ) (e : Record) → last_index wide xs ≡ Some k → slice_get xs k ≡ Some e
-              → last_index test xs ≡ cond (test e) (Some k) (last_index test (take k xs)))
+          → last_index test xs ≡ cond (test e) (Some k) (last_index test (take k xs)))
           → later_or_first (test x) (last_index test xs) ≡ cond (test edit) (Some i) (last_index test (take i (x ∷ xs)))
       by (Some k) found same again =
           let next : i ≡ suc k = cc in
@@ -202,9 +202,9 @@ module _ (heads links : List ℕ) (records : List Record) (chained : IsChained h
             (last_index (is_about subject) (take (next - 1) records))
         step =
             sym s.same ∙ one_step (is_about subject) (is_in (bucket_of subject)) (about_in subject has) (take s.before records)
-                (next - 1) edit found there_before
+            (next - 1) edit found there_before
             ∙ ap (λ (l : List Record). cond (is_about subject edit) (Some (next - 1)) (last_index (is_about subject) l))
-                (take-take (next - 1) s.before records (omega (arith, below)))
+            (take-take (next - 1) s.before records (omega (arith, below)))
 
         -- it is the one
         pub here : is_about subject edit ≡ true → Some (next - 1) ≡ last_index (is_about subject) records
@@ -214,7 +214,7 @@ module _ (heads links : List ℕ) (records : List Record) (chained : IsChained h
         next_there : slice_index_or links (next - 1) 0 ≡ after_index (last_index (is_in (bucket_of subject)) (take (next - 1) records))
         next_there =
             let own : bucket_in edit ≡ bucket_of subject = eqb-true (bucket_in edit) (bucket_of subject)
-                (last_passes (is_in (bucket_of subject)) (take s.before records) (next - 1) edit found there_before) in
+            (last_passes (is_in (bucket_of subject)) (take s.before records) (next - 1) edit found there_before) in
             chained.earlier (next - 1) edit there ∙ ap (λ (b : ℕ). after_index (last_index (is_in b) (take (next - 1) records))) own
 
         -- it is another's, and the search goes on
@@ -253,24 +253,24 @@ module _ (heads links : List ℕ) (records : List Record) (chained : IsChained h
           let inside = slice_get_within records i e before in
           get_or_append_left links (head ∷ []) 0 i (omega (arith, inside, chained.paired)) ∙ chained.earlier i e before
           ∙ ap (λ (l : List Record). after_index (last_index (is_in (bucket_in e)) l))
-              (sym (take-append-le i records (edit ∷ []) (omega (arith, inside))))
+          (sym (take-append-le i records (edit ∷ []) (omega (arith, inside))))
       | inr last ↦
           get_or_push links head 0 i (chained.paired ∙ sym last.0) ∙ chained.lasts (bucket_in edit) within
           ∙ ap (λ (e : Record). after_index (last_index (is_in (bucket_in e)) records)) last.1
           ∙ ap (λ (l : List Record). after_index (last_index (is_in (bucket_in e)) l))
-              (sym (ap (λ (n : ℕ). take n (records ++ edit ∷ [])) last.0 ∙ take-append_seam records (edit ∷ [])))
+          (sym (ap (λ (n : ℕ). take n (records ++ edit ∷ [])) last.0 ∙ take-append_seam records (edit ∷ [])))
     ];
   }
     where
       by : (bucket : ℕ) → bucket < BUCKETS → (own : Bool) → (own ≡ true → bucket_in edit ≡ bucket) → (own ≡ false → bucket_in edit ≢ bucket)
           → slice_index_or (set heads (bucket_in edit) (length records + 1)) bucket 0 ≡ after_index
-              (cond own (Some (length records)) (last_index (is_in bucket) records))
+          (cond own (Some (length records)) (last_index (is_in bucket) records))
       by bucket inside true is other =
           ap (λ (b : ℕ). slice_index_or (set heads (bucket_in edit) (length records + 1)) b 0) (sym (is refl))
           ∙ get_or-set_same heads (bucket_in edit) (length records + 1) 0 (omega (arith, within, chained.buckets)) ∙ omega arith
       by bucket inside false is other =
           get_or-set_other heads (bucket_in edit) bucket (length records + 1) 0 (λ same. other refl (sym same))
-              ∙ chained.lasts bucket inside
+          ∙ chained.lasts bucket inside
 
 -- no record is in no chain
 pub chained_none : (heads : List ℕ) → heads ≡ replicate BUCKETS 0 → IsChained heads [] []
