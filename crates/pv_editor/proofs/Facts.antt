@@ -19,7 +19,7 @@ use Rattle.pv_editor.specs.Changes.{with_field, has_all_fields}
 use Rattle.pv_editor.specs.Groups.{comma, comma_parts}
 use Rattle.pv_editor.specs.Parts.{is_password_byte, dash}
 use Rattle.pv_editor.specs.Replies.{ok_reply, closing_reply, reply_of, responses_reply}
-use Rattle.pv_editor.specs.Say.{new_seat, turn_of, frame_for, is_logged_on, last_number}
+use Rattle.pv_editor.specs.Say.{new_seat, turn_of, frame_for, is_logged_on, number_of_last}
 use Rattle.pv_editor.specs.Words.{word_of_line}
 
 -- ---- texts
@@ -96,7 +96,7 @@ parted = (refl, refl, refl, refl)
 abbrev pub field : Field
 field = record { row = 3; column = 0; length = 10; kind = Digits }
 
--- a frame with so many of it
+-- a frame with this many of it
 abbrev pub with_many : ℕ → Content
 with_many count = record blank_frame { fields = replicate count field }
 
@@ -136,5 +136,5 @@ first_lines = (refl, refl, refl)
 
 -- the owner is the one who is logged on, and a last number is the first of two
 pub owners : (is_logged_on (Some 7) 7 ≡ true) × (is_logged_on (Some 7) 8 ≡ false)
-    × (is_logged_on None 0 ≡ false) × (last_number (Some (3, 40)) ≡ 3)
+    × (is_logged_on None 0 ≡ false) × (number_of_last (Some (3, 40)) ≡ 3)
 owners = (refl, refl, refl, refl)

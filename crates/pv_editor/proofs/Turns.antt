@@ -3,11 +3,11 @@ use Rattle.std.proofs.Common.{◌≡◌, Option, Some, None, ap}
 use Rattle.pv_editor.specs.declared.replies.UdcReplyView.{UdcReplyView}
 use Rattle.pv_editor.specs.declared.seat.EditorSeat.{EditorSeat}
 use Rattle.pv_editor.specs.declared.step.EditStep.{EditStep}
-use Rattle.pv_editor.specs.Say.{turn_by, refused}
+use Rattle.pv_editor.specs.Say.{turn_by, refusal_step}
 
 module _ (found : Option UdcReplyView) (seat : EditorSeat) (turn : EditorSeat × EditStep) where
   -- a line that is refused
-  pub turn-refused : (refusal : UdcReplyView) → found ≡ Some refusal → turn_by found seat turn ≡ (seat, refused refusal)
+  pub turn-refused : (refusal : UdcReplyView) → found ≡ Some refusal → turn_by found seat turn ≡ (seat, refusal_step refusal)
   turn-refused refusal is = ap (λ (o : Option UdcReplyView). turn_by o seat turn) is
 
   -- a line that is not

@@ -30,11 +30,11 @@ pub record IsGroupsText (groups text : List ℕ) : Type 0 where
   pub allowed : AreGroups ACCOUNT_GROUPS groups
 
 -- the parts of an account's text: its number, its password, its home centre, and its groups or none
-abbrev pub Parts : Type 0
-Parts = ℕ × (List ℕ × ℕ × Option (List ℕ))
+abbrev pub AccountParts : Type 0
+AccountParts = ℕ × (List ℕ × ℕ × Option (List ℕ))
 
 -- the account of these parts
-abbrev pub profile_of : Parts → Profile
+abbrev pub profile_of : AccountParts → Profile
 profile_of parts = record {
   number = parts.0;
   digest = digest_of parts.0 parts.1.0;
@@ -43,7 +43,7 @@ profile_of parts = record {
 }
 
 -- the text is these parts, with a dash for no groups
-abbrev pub AreParts : List ℕ → Parts → Type 0
+abbrev pub AreParts : List ℕ → AccountParts → Type 0
 AreParts text parts =
     IsWordAnd IsAccountText (AreThree IsPasswordText (IsBelow (LAST_CENTRE + 1)) (IsOrDash IsGroupsText)) parts text
 

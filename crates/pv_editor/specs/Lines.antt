@@ -15,13 +15,13 @@ use Rattle.pv_editor.specs.declared.word.Word.TheVariants as words
 use Rattle.pv_editor.specs.declared.word.ChangeWord.{ChangeWord}
 use Rattle.pv_editor.specs.declared.word.ChangeWord.TheVariants as change_words
 use Rattle.pv_editor.specs.Groups.{IsProfileText}
-use Rattle.pv_editor.specs.Parts.{IsAccountText, IsNameText, IsPageText, IsPasswordText, IsKindText, IsOrDash, AreCells, IsRowText, IsFieldText}
+use Rattle.pv_editor.specs.Parts.{IsAccountText, IsNameText, IsPageText, IsPasswordText, IsKindText, IsOrDash, AreCells, IsRowCells, IsFieldText}
 use Rattle.pv_editor.specs.Words.{word_of_line}
 
 -- a word and the tail after it say the change: a row for each form
 abbrev pub IsChangeAfter : ChangeWord → List ℕ → FrameChange → Type 0
 IsChangeAfter change_words.Title tail = Gives (AreCells TITLE_CELLS) (λ cells. changes.Title cells) tail
-IsChangeAfter change_words.Row tail = Gives (IsOne IsRowText) (λ parts. changes.Row parts.0 parts.1) tail
+IsChangeAfter change_words.Row tail = Gives (IsOne IsRowCells) (λ parts. changes.Row parts.0 parts.1) tail
 IsChangeAfter change_words.Kind tail = Gives (IsOne IsKindText) (λ kind. changes.Kind kind) tail
 IsChangeAfter change_words.Route tail =
     Gives (AreTwo (IsBelow ROUTES) (IsOrDash IsPageText)) (λ parts. changes.Route parts.0 parts.1) tail

@@ -101,8 +101,8 @@ pub record IsWordAnd {A B : Type 0} (IsFirst : A → List ℕ → Type 0) (Are :
   pub others : Are later parts.1
 
 -- the text is the number of a row, and its cells
-abbrev pub IsRowText : ℕ × List ℕ → List ℕ → Type 0
-IsRowText = IsWordAnd IsRowNumber (AreCells ROW_LENGTH)
+abbrev pub IsRowCells : ℕ × List ℕ → List ℕ → Type 0
+IsRowCells = IsWordAnd IsRowNumber (AreCells ROW_LENGTH)
 
 -- the text is a field: its row, its column, its length and the letter of its kind
 abbrev pub IsFieldText : Field → List ℕ → Type 0

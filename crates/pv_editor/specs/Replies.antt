@@ -11,7 +11,7 @@ use Rattle.pv_editor.specs.declared.replies.UdcReplyView.TheVariants.{Stored, Re
 abbrev pub ok_reply : List ℕ
 ok_reply = codes "OK"
 
--- stored at this place; the same words tell an editor his last number
+-- stored at this place; an editor's last number is shown in the same words
 abbrev pub number_reply : ℕ → List ℕ
 number_reply number = codes "OK " ++ decimal number
 
@@ -50,13 +50,13 @@ refusal_words code shown =
     other_words code shown
 
 -- refused with this code
-abbrev pub refusal_reply : ℕ → ℕ → List ℕ
-refusal_reply code shown = codes "NO " ++ (decimal code ++ (codes " " ++ refusal_words code shown))
+abbrev pub refusal_text : ℕ → ℕ → List ℕ
+refusal_text code shown = codes "NO " ++ (decimal code ++ (codes " " ++ refusal_words code shown))
 
 -- the text of a verdict
 abbrev pub reply_of : UdcReplyView → List ℕ
 reply_of (Stored place) = number_reply place
-reply_of (Refused code shown) = refusal_reply code shown
+reply_of (Refused code shown) = refusal_text code shown
 
 -- ---- responses
 
@@ -83,7 +83,7 @@ response_reply place reply =
 abbrev pub nothing_reply : List ℕ
 nothing_reply = codes "OK -"
 
--- what a search for responses comes to; an item of another kind counts as nothing
+-- the reply to a search for responses; an item of another kind counts as nothing
 abbrev pub responses_reply : Option (ℕ × Item) → List ℕ
 responses_reply None = nothing_reply
 responses_reply (Some (place, Reply reply)) = response_reply place reply

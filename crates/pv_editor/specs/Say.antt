@@ -109,23 +109,23 @@ seat_after seat records (lines.Change change) = record seat { working = option_m
 seat_after seat records _ = seat
 
 -- the text of a refusal as a step
-abbrev pub refused : UdcReplyView → EditStep
-refused refusal = steps.Say (reply_of refusal)
+abbrev pub refusal_step : UdcReplyView → EditStep
+refusal_step refusal = steps.Say (reply_of refusal)
 
 -- a step of the editor's own: there is none if nobody is logged on
 abbrev pub by_editor : Option ℕ → (ℕ → EditStep) → EditStep
-by_editor None step = refused (plain LOG_ON_FIRST)
+by_editor None step = refusal_step (plain LOG_ON_FIRST)
 by_editor (Some editor) step = step editor
 
 -- a step with the working frame: there is none if nothing is open
 abbrev pub with_working : Option Working → (Working → EditStep) → EditStep
-with_working None step = refused (plain NOTHING_OPEN)
+with_working None step = refusal_step (plain NOTHING_OPEN)
 with_working (Some working) step = step working
 
 -- an editor's last number, 0 at first
-abbrev pub last_number : Option (ℕ × ℕ) → ℕ
-last_number None = 0
-last_number (Some last) = last.0
+abbrev pub number_of_last : Option (ℕ × ℕ) → ℕ
+number_of_last None = 0
+number_of_last (Some last) = last.0
 
 -- the request that the working frame is stored
 abbrev pub store_step : EditorSeat → ℕ → EditStep
@@ -135,9 +135,9 @@ store_step seat q =
 -- the editor's last number
 abbrev pub last_step : EditorSeat → List Record → List ℕ → EditStep
 last_step seat records places =
-    by_editor seat.account (λ editor. steps.Say (number_reply (last_number (last_of records places editor))))
+    by_editor seat.account (λ editor. steps.Say (number_reply (number_of_last (last_of records places editor))))
 
--- what a line comes to
+-- the step of a line
 abbrev pub step_of : EditorSeat → List Record → List ℕ → EditLine → EditStep
 step_of seat records places (lines.Store q) = store_step seat q
 step_of seat records places (lines.Ask q wish) = by_editor seat.account (λ editor. steps.Ask editor q wish)
@@ -150,21 +150,21 @@ step_of seat records places _ = steps.Say ok_reply
 
 -- a refused line leaves the seat as it was
 abbrev pub turn_by : Option UdcReplyView → EditorSeat → EditorSeat × EditStep → EditorSeat × EditStep
-turn_by (Some refusal) seat turn = (seat, refused refusal)
+turn_by (Some refusal) seat turn = (seat, refusal_step refusal)
 turn_by None seat turn = turn
 
 -- the turn of a line that was read, or of one that was not
 abbrev pub turn_of : EditorSeat → List Record → List ℕ → Option EditLine → EditorSeat × EditStep
-turn_of seat records places None = (seat, refused (plain BAD_LINE))
+turn_of seat records places None = (seat, refusal_step (plain BAD_LINE))
 turn_of seat records places (Some line) =
     turn_by (first_of (refusals seat records line)) seat (seat_after seat records line, step_of seat records places line)
 
--- the seat and the step that a text comes to
+-- the seat after a text, and its step
 pub record Says (seat : EditorSeat) (text : List ℕ) (records : List Record) (places : List ℕ)
     (after : EditorSeat) (step : EditStep) : Type 0 where
   -- what the text says; it is `None` if the text is none of an editor's lines
   pub line : Option EditLine
   pub reads : Exactly (IsLine text) line
-  -- what comes of it
+  -- the turn
   pub seat_is : after ≡ (turn_of seat records places line).0
   pub step_is : step ≡ (turn_of seat records places line).1

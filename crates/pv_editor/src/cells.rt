@@ -1,7 +1,7 @@
 //! The parts of a line that are cells in notation, and the fields and rows of a frame.
 
 ghost use Rattle.std.specs.Prelude.{◌≡◌, ℕ, List, Some, IfSome};
-ghost use Rattle.pv_editor.specs.Parts.{AreCells, IsRowText, IsFieldText};
+ghost use Rattle.pv_editor.specs.Parts.{AreCells, IsRowCells, IsFieldText};
 
 use crate::numbers::{Byte, RowNumber};
 use crate::parts::FieldKindText;
@@ -35,7 +35,7 @@ pub(crate) struct RowText;
 impl<'a> Reader<'a> for RowText {
     type Value = (BodyRow, [u8; ROW_LENGTH]);
 
-    ghost Writes = { λ _. IsRowText };
+    ghost Writes = { λ _. IsRowCells };
 
     fn read(&self, text: &'a [u8]) -> Option<(BodyRow, [u8; ROW_LENGTH])> {
         let (word, later) = split_word(text);

@@ -4,12 +4,12 @@
 //! Centre to store it under his next number. The seat answers most lines itself.
 //!
 //! - [`EditLine`] is what a line says: the word and its parts, read.
-//! - [`EditorSeat`] is where the lines arrive. [`EditorSeat::line`] returns the [`EditStep`] that each
-//!   of them comes to.
+//! - [`EditorSeat`] is where the lines arrive. [`EditorSeat::line`] returns the [`EditStep`] of
+//!   each.
 //! - [`Text`] is a reply. [`reply_text`] is what the Update Centre's verdict reads, and
 //!   [`responses_text`] what was keyed into a response frame.
 //!
-//! No call allocates. A caller hands in a line and does the step:
+//! No call allocates. A caller hands in a line and does the step.
 //!
 //! ```text
 //! match seat.line(b"STORE 7", &base) {

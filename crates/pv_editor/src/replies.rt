@@ -1,5 +1,5 @@
 ghost use Rattle.std.specs.Prelude.{◌≡◌, ◌≤◌, ◌+◌, ◌++◌, length, decimal};
-ghost use Rattle.pv_editor.specs.Replies.{ok_reply, number_reply, closing_reply, refusal_words, other_words, refusal_reply, reply_of};
+ghost use Rattle.pv_editor.specs.Replies.{ok_reply, number_reply, closing_reply, refusal_words, other_words, refusal_text, reply_of};
 ghost use Rattle.pv_editor.specs.declared.text.TheConstants.{ROOM, LONGEST_NUMBER, LONGEST_WORDS};
 
 use crate::text::Text;
@@ -92,7 +92,7 @@ pub(crate) fn number_text(before: &[u8], number: u64, after: &[u8]) -> Text
 
 /// The text of a refusal.
 fn refusal_text(code: u8, shown: u64) -> Text
-    ensures { result ≡ refusal_reply code shown }
+    ensures { result ≡ refusal_text code shown }
 {
     let mut text = number_text(b"NO ", code as u64, b" ");
     text.push(words_of(code, shown).bytes());

@@ -10,7 +10,7 @@ use crate::text::Text;
 use pv_page::FrameName;
 use pv_post::{Filled, Item, Reply};
 
-/// The text that a search for responses comes to: the place of the item, the frame's name, who filled
+/// The reply to a search for responses: the place of the item, the frame's name, who filled
 /// it in, and what he keyed into its fields, or a dash if nothing was found. An item that is no filled
 /// frame counts as nothing.
 pub fn responses_text(found: Option<(u64, &Item)>) -> Text

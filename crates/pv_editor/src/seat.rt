@@ -5,8 +5,8 @@ ghost use Rattle.pv_edits.specs.declared.record.Record.{Record};
 ghost use Rattle.pv_edits.specs.Edits.{frame_at, last_of};
 ghost use Rattle.pv_frame.specs.Content.{blank_frame};
 ghost use Rattle.pv_editor.specs.declared.step.EditStep.TheVariants as steps;
-ghost use Rattle.pv_editor.specs.Replies.{refusal_reply};
-ghost use Rattle.pv_editor.specs.Say.{new_seat, Says, turn_of, refusals, open_refusals, change_refusal, log_on_refusal, needs_account, needs_frame, is_password, step_of, by_editor, store_step, last_step, last_number, seat_after, changed_working, frame_for, refused, plain};
+ghost use Rattle.pv_editor.specs.Replies.{refusal_text};
+ghost use Rattle.pv_editor.specs.Say.{new_seat, Says, turn_of, refusals, open_refusals, change_refusal, log_on_refusal, needs_account, needs_frame, is_password, step_of, by_editor, store_step, last_step, number_of_last, seat_after, changed_working, frame_for, refusal_step, plain};
 
 use crate::change::{FrameChange, has_all_fields, make_change};
 use crate::line::EditLine;
@@ -49,12 +49,12 @@ impl EditorSeat {
         }
     }
 
-    /// Takes a line, and returns the step that it comes to. The base is the Update Centre's.
+    /// Takes a line, and returns its step. The base is the Update Centre's.
     pub fn line(&mut self, text: &[u8], base: &Base) -> EditStep
         ensures says { (records : List Record) (places : List ℕ) → IsBaseOf base.now records places →
             Says self.old text.now records places self.new result }
         // A line that is answered by a refusal leaves the seat as it was.
-        ensures refused { (code shown : ℕ) → result ≡ steps.Say (refusal_reply code shown)
+        ensures refused { (code shown : ℕ) → result ≡ steps.Say (refusal_text code shown)
             → self.new ≡ self.old }
     {
         match line_of(text) {
@@ -290,7 +290,7 @@ fn is_password(account: Option<&Account>, password: &[u8; PASSWORD_BYTES]) -> bo
 /// An editor's last number, 0 at first.
 fn last_number(editor: AccountNo, base: &Base) -> u32
     ensures { (records : List Record) (places : List ℕ) → IsBaseOf base.now records places →
-        result ≡ last_number (last_of records places editor) }
+        result ≡ number_of_last (last_of records places editor) }
 {
     match base.last(editor) {
         Some((q, _)) => q,
@@ -300,7 +300,7 @@ fn last_number(editor: AccountNo, base: &Base) -> u32
 
 /// The reply that a line is refused with this code.
 fn refused(code: u8) -> EditStep
-    ensures { result ≡ refused (plain code) }
+    ensures { result ≡ refusal_step (plain code) }
 {
     EditStep::Say(reply_text(&UdcReplyView::Refused(code, 0)))
 }

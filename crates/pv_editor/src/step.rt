@@ -2,7 +2,7 @@ use crate::text::Text;
 use pv_account::AccountNo;
 use pv_edits::EditWish;
 
-/// What a line of an editor comes to.
+/// The step of an editor's line.
 #[derive(Clone, Copy, Debug, PartialEq, Eq)]
 pub enum EditStep {
     /// This reply.

@@ -57,6 +57,17 @@ fn name(text: &[u8]) -> Result<FrameName, Fail> {
     Ok(FrameName::of_text(text).ok_or("a name")?)
 }
 
+/// Account 1000000001 with the password `ABCD`, at centre 3, in two groups.
+fn account() -> Option<Account> {
+    let number = AccountNo::of_number(1_000_000_001)?;
+    Some(Account {
+        number,
+        digest: digest(number, b"ABCD"),
+        home: 3,
+        groups: Groups::of_list(&[7, 300])?,
+    })
+}
+
 /// What a step says, or the word for another step.
 fn said(step: &EditStep) -> &[u8] {
     match step {
@@ -388,7 +399,7 @@ fn a_working_frame_is_stored_as_it_was_made(rt: HostRuntime) -> Result<(), Fail>
         seat.line(line, &base);
     }
     let mut frame = Frame::blank();
-    frame.title[..4].copy_from_slice(b"NEWS");
+    frame.title = *b"NEWS                    ";
     let mut row = [b' '; 40];
     row[..4].copy_from_slice(b"\x13RED");
     frame.set_row(3, &row);
@@ -437,12 +448,7 @@ fn requests_carry_their_parts(rt: HostRuntime) -> Result<(), Fail> {
         (
             b"ACCOUNT 9 1000000001 ABCD 3 300,7",
             EditWish::Account {
-                account: Account {
-                    number: caller,
-                    digest: digest(caller, b"ABCD"),
-                    home: 3,
-                    groups: Groups::of_list(&[7, 300]).ok_or("groups")?,
-                },
+                account: account().ok_or("an account")?,
             },
         ),
     ];

@@ -24,7 +24,8 @@ same_key a b is =
     omega (arith, eqb-true a.page b.page both.0, eqb-true a.letter b.letter both.1)
 
 -- a record about it is in its bucket
-pub about_in : (subject : Subject) → HasBucket subject → (edit : Record) → is_about subject edit ≡ true → is_in (bucket_of subject) edit ≡ true
+pub about_in : (subject : Subject) → HasBucket subject → (edit : Record) → is_about subject edit ≡ true
+    → is_in (bucket_of subject) edit ≡ true
 about_in (about.Name name) has (Put e q other f) is = eq-eqb _ _ (ap (λ (n : ℕ). n % BUCKETS) (same_key name other is))
 about_in (about.Name name) has (Drop e q other) is = eq-eqb _ _ (ap (λ (n : ℕ). n % BUCKETS) (same_key name other is))
 about_in (about.Name name) has (Account e q a) is = absurd cc
@@ -58,12 +59,14 @@ module _ (test wide : Record → Bool) (covers : (edit : Record) → test edit �
   none_passes [] is = refl
   none_passes (x ∷ xs) is = by (last_index wide xs) refl is (none_passes xs)
     where
-      by : (later : Option ℕ) → last_index wide xs ≡ later → later_or_first (wide x) later ≡ None → (last_index wide xs ≡ None → last_index test xs ≡ None)
+      by : (later : Option ℕ) → last_index wide xs ≡ later → later_or_first (wide x) later ≡ None
+          → (last_index wide xs ≡ None → last_index test xs ≡ None)
           → later_or_first (test x) (last_index test xs) ≡ None
       by (Some k) found none again = absurd cc
       by None found none again = first (wide x) refl none
         where
-          first : (passes : Bool) → wide x ≡ passes → later_or_first passes None ≡ None → later_or_first (test x) (last_index test xs) ≡ None
+          first : (passes : Bool) → wide x ≡ passes → later_or_first passes None ≡ None
+              → later_or_first (test x) (last_index test xs) ≡ None
           first true passed none = absurd cc
           first false failed none = rw (again found, refused x failed) refl
 
@@ -88,7 +91,8 @@ module _ (test wide : Record → Bool) (covers : (edit : Record) → test edit �
       first false failed here none = absurd cc
 
       by : (later : Option ℕ) → last_index wide xs ≡ later → later_or_first (wide x) later ≡ Some i
-          → ((k : ℕ) (e : Record) → last_index wide xs ≡ Some k → slice_get xs k ≡ Some e → last_index test xs ≡ cond (test e) (Some k) (last_index test (take k xs)))
+          → ((k : ℕ) (e : Record) → last_index wide xs ≡ Some k → slice_get xs k ≡ Some e
+          → last_index test xs ≡ cond (test e) (Some k) (last_index test (take k xs)))
           → later_or_first (test x) (last_index test xs) ≡ cond (test edit) (Some i) (last_index test (take i (x ∷ xs)))
       by (Some k) found same again =
           let next : i ≡ suc k = cc in
@@ -106,7 +110,8 @@ get_in_prefix (x ∷ xs) (suc n) zero below = refl
 get_in_prefix (x ∷ xs) (suc n) (suc i) below = get_in_prefix xs n i (omega (arith, below))
 
 -- what is at a place of the longer list was there before, or is the new one
-get_push : (xs : List Record) (new : Record) (i : ℕ) (x : Record) → slice_get (xs ++ new ∷ []) i ≡ Some x → (slice_get xs i ≡ Some x) ⊎ ((i ≡ length xs) × (new ≡ x))
+get_push : (xs : List Record) (new : Record) (i : ℕ) (x : Record) → slice_get (xs ++ new ∷ []) i ≡ Some x
+    → (slice_get xs i ≡ Some x) ⊎ ((i ≡ length xs) × (new ≡ x))
 get_push [] new zero x is = inr (refl, cc)
 get_push [] new (suc i) x is = absurd cc
 get_push (y ∷ xs) new zero x is = inl is
@@ -153,13 +158,15 @@ not_past records subject next s =
     let most = after_index-within (is_in (bucket_of subject)) (take s.before records) in
     omega (arith, s.next_is, most, s.within, length-take-le s.before records s.within)
 
-module _ (heads links : List ℕ) (records : List Record) (chained : IsChained heads links records) (subject : Subject) (has : HasBucket subject) where
+module _ (heads links : List ℕ) (records : List Record) (chained : IsChained heads links records) (subject : Subject)
+    (has : HasBucket subject) where
   -- it begins at the bucket's last record
   pub begins : bucket_of subject < BUCKETS → IsSearched records subject (slice_index_or heads (bucket_of subject) 0)
   begins within = record {
     before = length records;
     within = omega arith;
-    next_is = chained.lasts (bucket_of subject) within ∙ ap (λ (l : List Record). after_index (last_index (is_in (bucket_of subject)) l)) (sym (take-length records));
+    next_is = chained.lasts (bucket_of subject) within
+        ∙ ap (λ (l : List Record). after_index (last_index (is_in (bucket_of subject)) l)) (sym (take-length records));
     same = ap (last_index (is_about subject)) (take-length records);
   }
 
@@ -191,10 +198,13 @@ module _ (heads links : List ℕ) (records : List Record) (chained : IsChained h
         there_before = get_in_prefix records s.before (next - 1) below ∙ there
 
         -- what the search comes to after this step
-        step : last_index (is_about subject) records ≡ cond (is_about subject edit) (Some (next - 1)) (last_index (is_about subject) (take (next - 1) records))
+        step : last_index (is_about subject) records ≡ cond (is_about subject edit) (Some (next - 1))
+            (last_index (is_about subject) (take (next - 1) records))
         step =
-            sym s.same ∙ one_step (is_about subject) (is_in (bucket_of subject)) (about_in subject has) (take s.before records) (next - 1) edit found there_before
-            ∙ ap (λ (l : List Record). cond (is_about subject edit) (Some (next - 1)) (last_index (is_about subject) l)) (take-take (next - 1) s.before records (omega (arith, below)))
+            sym s.same ∙ one_step (is_about subject) (is_in (bucket_of subject)) (about_in subject has) (take s.before records)
+            (next - 1) edit found there_before
+            ∙ ap (λ (l : List Record). cond (is_about subject edit) (Some (next - 1)) (last_index (is_about subject) l))
+            (take-take (next - 1) s.before records (omega (arith, below)))
 
         -- it is the one
         pub here : is_about subject edit ≡ true → Some (next - 1) ≡ last_index (is_about subject) records
@@ -203,7 +213,8 @@ module _ (heads links : List ℕ) (records : List Record) (chained : IsChained h
         -- what is next after it
         next_there : slice_index_or links (next - 1) 0 ≡ after_index (last_index (is_in (bucket_of subject)) (take (next - 1) records))
         next_there =
-            let own : bucket_in edit ≡ bucket_of subject = eqb-true (bucket_in edit) (bucket_of subject) (last_passes (is_in (bucket_of subject)) (take s.before records) (next - 1) edit found there_before) in
+            let own : bucket_in edit ≡ bucket_of subject = eqb-true (bucket_in edit) (bucket_of subject)
+            (last_passes (is_in (bucket_of subject)) (take s.before records) (next - 1) edit found there_before) in
             chained.earlier (next - 1) edit there ∙ ap (λ (b : ℕ). after_index (last_index (is_in b) (take (next - 1) records))) own
 
         -- it is another's, and the search goes on
@@ -223,7 +234,8 @@ module _ (heads links : List ℕ) (records : List Record) (chained : IsChained h
 
 -- ---- one record more
 
-module _ (heads links : List ℕ) (records : List Record) (chained : IsChained heads links records) (edit : Record) (within : bucket_in edit < BUCKETS) where
+module _ (heads links : List ℕ) (records : List Record) (chained : IsChained heads links records) (edit : Record)
+    (within : bucket_in edit < BUCKETS) where
   -- the last of its bucket, which was
   abbrev head : ℕ
   head = slice_index_or heads (bucket_in edit) 0
@@ -233,27 +245,32 @@ module _ (heads links : List ℕ) (records : List Record) (chained : IsChained h
   chained_push = record {
     buckets = length-set heads (bucket_in edit) (length records + 1) ∙ chained.buckets;
     paired = omega (arith, length-append links (head ∷ []), length-append records (edit ∷ []), chained.paired);
-    lasts = λ bucket inside. ap (λ (n : ℕ). n) (by bucket inside (eqb (bucket_in edit) bucket) (eqb-true (bucket_in edit) bucket) (eqb-false (bucket_in edit) bucket))
+    lasts = λ bucket inside. ap (λ (n : ℕ). n)
+        (by bucket inside (eqb (bucket_in edit) bucket) (eqb-true (bucket_in edit) bucket) (eqb-false (bucket_in edit) bucket))
         ∙ ap after_index (sym (last_index-push (is_in bucket) records edit));
     earlier = λ i e there. elim (get_push records edit i e there) [
       | inl before ↦
           let inside = slice_get_within records i e before in
           get_or_append_left links (head ∷ []) 0 i (omega (arith, inside, chained.paired)) ∙ chained.earlier i e before
-          ∙ ap (λ (l : List Record). after_index (last_index (is_in (bucket_in e)) l)) (sym (take-append-le i records (edit ∷ []) (omega (arith, inside))))
+          ∙ ap (λ (l : List Record). after_index (last_index (is_in (bucket_in e)) l))
+          (sym (take-append-le i records (edit ∷ []) (omega (arith, inside))))
       | inr last ↦
           get_or_push links head 0 i (chained.paired ∙ sym last.0) ∙ chained.lasts (bucket_in edit) within
           ∙ ap (λ (e : Record). after_index (last_index (is_in (bucket_in e)) records)) last.1
-          ∙ ap (λ (l : List Record). after_index (last_index (is_in (bucket_in e)) l)) (sym (ap (λ (n : ℕ). take n (records ++ edit ∷ [])) last.0 ∙ take-append_seam records (edit ∷ [])))
+          ∙ ap (λ (l : List Record). after_index (last_index (is_in (bucket_in e)) l))
+          (sym (ap (λ (n : ℕ). take n (records ++ edit ∷ [])) last.0 ∙ take-append_seam records (edit ∷ [])))
     ];
   }
     where
       by : (bucket : ℕ) → bucket < BUCKETS → (own : Bool) → (own ≡ true → bucket_in edit ≡ bucket) → (own ≡ false → bucket_in edit ≢ bucket)
-          → slice_index_or (set heads (bucket_in edit) (length records + 1)) bucket 0 ≡ after_index (cond own (Some (length records)) (last_index (is_in bucket) records))
+          → slice_index_or (set heads (bucket_in edit) (length records + 1)) bucket 0 ≡ after_index
+          (cond own (Some (length records)) (last_index (is_in bucket) records))
       by bucket inside true is other =
           ap (λ (b : ℕ). slice_index_or (set heads (bucket_in edit) (length records + 1)) b 0) (sym (is refl))
           ∙ get_or-set_same heads (bucket_in edit) (length records + 1) 0 (omega (arith, within, chained.buckets)) ∙ omega arith
       by bucket inside false is other =
-          get_or-set_other heads (bucket_in edit) bucket (length records + 1) 0 (λ same. other refl (sym same)) ∙ chained.lasts bucket inside
+          get_or-set_other heads (bucket_in edit) bucket (length records + 1) 0 (λ same. other refl (sym same))
+          ∙ chained.lasts bucket inside
 
 -- no record is in no chain
 pub chained_none : (heads : List ℕ) → heads ≡ replicate BUCKETS 0 → IsChained heads [] []

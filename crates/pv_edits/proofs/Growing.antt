@@ -29,7 +29,8 @@ module _ (records : List Record) (places : List ℕ) (edit : Record) (place edit
       ≡ cond (is_edit_of editor edit) (option_map (λ q. (q, place)) (number_in edit)) (last_of records places editor)
   last_of-push = rw (last_index-push (is_edit_of editor) records edit) (by (is_edit_of editor edit))
     where
-      by : (his : Bool) → (cond his (Some (length records)) (last_index (is_edit_of editor) records) >>= entry (records ++ edit ∷ []) (places ++ place ∷ []))
+      by : (his : Bool) → (cond his (Some (length records)) (last_index (is_edit_of editor) records) >>= entry (records ++ edit ∷ [])
+          (places ++ place ∷ []))
           ≡ cond his (option_map (λ q. (q, place)) (number_in edit)) (last_of records places editor)
       by true = rw (get_at_end records edit (length records) refl, get_at_end places place (length records) paired) refl
       by false = before (last_index (is_edit_of editor) records) refl
@@ -53,6 +54,7 @@ has_operator records = by (last_index (makes OPERATOR) records) refl
     there i None is at = refl
     there i (Some edit) is at = makes_account OPERATOR edit (last_passes (makes OPERATOR) records i edit is at)
 
-    by : (found : Option ℕ) → last_index (makes OPERATOR) records ≡ found → is_some (account_or_first OPERATOR (found >>= slice_get records)) ≡ true
+    by : (found : Option ℕ) → last_index (makes OPERATOR) records ≡ found
+        → is_some (account_or_first OPERATOR (found >>= slice_get records)) ≡ true
     by None is = refl
     by (Some i) is = there i (slice_get records i) is refl

@@ -69,7 +69,8 @@ last_passes test [] i edit is there = absurd cc
 last_passes test (x ∷ xs) i edit is there = by (last_index test xs) refl is (last_passes test xs)
   where
     first : (passes : Bool) → test x ≡ passes → cond passes (Some 0) None ≡ Some i → test edit ≡ true
-    first true passed here = let at : i ≡ 0 = cc in let same : Some x ≡ Some edit = rw at at there in let is : x ≡ edit = cc in rw (← is) passed
+    first true passed here = let at : i ≡ 0 = cc in let same : Some x ≡ Some edit = rw at at there in let is : x ≡ edit = cc in rw
+        (← is) passed
     first false other here = absurd cc
 
     by : (later : Option ℕ) → last_index test xs ≡ later → later_or_first (test x) later ≡ Some i

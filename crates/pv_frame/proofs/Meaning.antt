@@ -9,7 +9,7 @@ use Rattle.std.proofs.lemmas.Bool.Decides.{Decides-and, Decides-eqb, Decides-ltb
 use Rattle.std.proofs.lemmas.List.Elements.{All-append}
 use Rattle.std.proofs.lemmas.List.Folds.{list_all-append}
 use Rattle.std.proofs.lemmas.List.Quantifiers.{position-Some}
-use Rattle.pv_frame.proofs.Vocabulary.{LAST_CELL, ROW_LENGTH, IsCell, first_of, some_if, Kind, Information, Response, Mail, Field, FieldKind, Digits, Words, FrameError, Cell, Price, FieldRange, FieldsMeet, Shape, Code, LAST_PRICE, FIRST_ROW, LAST_ROW, ACCOUNT_DIGITS, MAIL_TEXTS, Content, is_cell, end_of, lies_in_body, meets, ShareCell, first_meeting, is_digits, takes_text, has_shape, price_error, meeting_error, shape_error, field_errors, error_of, IsValid, HasRanges, LiesInBody, HasShape, IsWellFormed, field_at, IsBefore, IsFirstMeeting, Says, no_field}
+use Rattle.pv_frame.proofs.Vocabulary.{LAST_CELL, ROW_LENGTH, IsCell, first_of, some_if, Kind, Information, Response, Mail, Field, FieldKind, Digits, Words, FrameError, Cell, Price, FieldRange, FieldsMeet, Shape, Code, LAST_PRICE, FIRST_ROW, LAST_ROW, ACCOUNT_DIGITS, MAIL_TEXTS, Content, is_cell, end_of, lies_in_body, meets, ShareCell, first_meeting, is_digits, takes_text, has_shape, price_error, meeting_error, shape_error, field_errors, error_of, IsValid, HasRanges, LiesInBody, HasShape, IsWellFormed, field_at, IsBefore, IsFirstMeeting, HasCause, no_field}
 use Rattle.pv_frame.proofs.Cells.{Decides-cells}
 use Rattle.pv_frame.proofs.Searching.{all_fail}
 
@@ -76,7 +76,8 @@ module _ (at : ℕ) (field : Field) (others : List Field) where
           → ¬ ShareCell (field_at (field ∷ others) p) (field_at (field ∷ others) q)
       before p zero order within is = absurd (omega arith)
       before zero (suc q) order within (inl less) = absurd (omega arith)
-      before zero (suc q) order within (inr same) = apart q no_field ((position-Some (meets field) others k no_field is).2 q (omega (arith, same.1)))
+      before zero (suc q) order within (inr same) =
+          apart q no_field ((position-Some (meets field) others k no_field is).2 q (omega (arith, same.1)))
       before (suc p) (suc q) order within (inl less) = absurd (omega arith)
       before (suc p) (suc q) order within (inr same) = absurd (omega (arith, same.0))
 
@@ -122,22 +123,23 @@ some_over (cell ∷ cells) is =
 
 module _ (frame : Content) where
   by_shape : HasRanges frame → All LiesInBody frame.fields → AllPairs (λ a b. ¬ ShareCell a b) frame.fields
-      → (b : Bool) → has_shape frame.kind frame.fields ≡ b → Says frame (first_of (some_if (not b) Shape ∷ []))
+      → (b : Bool) → has_shape frame.kind frame.fields ≡ b → HasCause frame (first_of (some_if (not b) Shape ∷ []))
   by_shape ranges inside apart true is =
       record { ranges = ranges; inside = inside; apart = apart; shape = (Decides-shape frame.kind frame.fields).0 is }
   by_shape ranges inside apart false is = (ranges, inside, apart, not_from_Decides _ (Decides-shape frame.kind frame.fields) is)
 
   by_meeting : HasRanges frame → All LiesInBody frame.fields → (pair : Option (ℕ × ℕ)) → SaysMeeting 0 frame.fields pair
-      → Says frame (first_of (option_map (λ pair. FieldsMeet pair.0 pair.1) pair ∷ shape_error frame.kind frame.fields ∷ []))
+      → HasCause frame (first_of (option_map (λ pair. FieldsMeet pair.0 pair.1) pair ∷ shape_error frame.kind frame.fields ∷ []))
   by_meeting ranges inside None says = by_shape ranges inside says (has_shape frame.kind frame.fields) refl
   by_meeting ranges inside (Some pair) says =
       let same : pair ≡ (says.0, says.1) = says.2 ∙ grind arith in
-      subst (λ (pair : ℕ × ℕ). Says frame (Some (FieldsMeet pair.0 pair.1))) (sym same) (ranges, inside, says.3)
+      subst (λ (pair : ℕ × ℕ). HasCause frame (Some (FieldsMeet pair.0 pair.1))) (sym same) (ranges, inside, says.3)
 
   by_range : HasRanges frame → (i : Option ℕ) → position (λ field. not (lies_in_body field)) frame.fields ≡ i
-      → Says frame (first_of (option_map FieldRange i ∷ meeting_error frame.fields ∷ shape_error frame.kind frame.fields ∷ []))
+      → HasCause frame (first_of (option_map FieldRange i ∷ meeting_error frame.fields ∷ shape_error frame.kind frame.fields ∷ []))
   by_range ranges None is =
-      by_meeting ranges (λ k d within. (Decides-lies_in_body (get_or frame.fields k d)).0 (not-false _ (all_fail _ frame.fields is k d within)))
+      by_meeting ranges
+      (λ k d within. (Decides-lies_in_body (get_or frame.fields k d)).0 (not-false _ (all_fail _ frame.fields is k d within)))
       (first_meeting 0 frame.fields) (says_meeting 0 frame.fields)
   by_range ranges (Some i) is =
       let found = position-Some (λ field. not (lies_in_body field)) frame.fields i no_field is in (
@@ -150,22 +152,22 @@ module _ (frame : Content) where
       )
 
   by_price : All IsCell frame.title → All IsCell frame.body → (b : Bool) → nat_lt LAST_PRICE frame.price ≡ b
-      → Says frame (first_of (some_if b Price ∷ field_errors frame.kind frame.fields))
+      → HasCause frame (first_of (some_if b Price ∷ field_errors frame.kind frame.fields))
   by_price title body true is = ltb-true LAST_PRICE frame.price is
   by_price title body false is = by_range (record { title = title; body = body; price = ltb-false LAST_PRICE frame.price is }) _ refl
 
   by_cells : (b : Bool) → (list_all is_cell frame.title && list_all is_cell frame.body) ≡ b
-      → Says frame (first_of (some_if (not b) Cell ∷ price_error frame.price ∷ field_errors frame.kind frame.fields))
+      → HasCause frame (first_of (some_if (not b) Cell ∷ price_error frame.price ∷ field_errors frame.kind frame.fields))
   by_cells true is =
       let cells = (Decides-and _ _ (Decides-cells frame.title) (Decides-cells frame.body)).0 is in by_price cells.0 cells.1 _ refl
   by_cells false is = some_over (frame.title ++ frame.body) (list_all-append is_cell frame.title frame.body ∙ is)
 
 -- the error is what it says
-pub says : (frame : Content) → Says frame (error_of frame)
+pub says : (frame : Content) → HasCause frame (error_of frame)
 says frame = by_cells frame _ refl
 
 -- a well-formed frame has no error
-no_error : (frame : Content) (error : Option FrameError) → IsWellFormed frame → Says frame error → error ≡ None
+no_error : (frame : Content) (error : Option FrameError) → IsWellFormed frame → HasCause frame error → error ≡ None
 no_error frame None is it = refl
 no_error frame (Some Cell) is it =
     absurd (omega (arith, All-append IsCell frame.title frame.body is.ranges.title is.ranges.body it.0 it.1 it.2, it.3, it.4))
@@ -176,7 +178,7 @@ no_error frame (Some Shape) is it = absurd (it.3 is.shape)
 no_error frame (Some (Code at)) is it = absurd it
 
 pub valid : (frame : Content) → IsValid frame ↔ IsWellFormed frame
-valid frame = (λ none. subst (Says frame) none (says frame), λ is. no_error frame (error_of frame) is (says frame))
+valid frame = (λ none. subst (HasCause frame) none (says frame), λ is. no_error frame (error_of frame) is (says frame))
 
 -- a valid frame has its cells and its price in range
 pub HasRanges-valid : (frame : Content) → IsValid frame → HasRanges frame

@@ -56,15 +56,15 @@ IsFirstMeeting fields i j =
     × ((p q : ℕ) → p < q → q < length fields → IsBefore p q i j → ¬ ShareCell (field_at fields p) (field_at fields q))
 
 -- what the error of a frame says, or that there is none
-abbrev pub Says : Content → Option FrameError → Type 0
-Says frame None = IsWellFormed frame
-Says frame (Some Cell) = Any (λ cell. LAST_CELL < cell) (frame.title ++ frame.body)
-Says frame (Some Price) = LAST_PRICE < frame.price
-Says frame (Some (FieldRange i)) = HasRanges frame × IsFirstOutside frame.fields i
-Says frame (Some (FieldsMeet i j)) = HasRanges frame × All LiesInBody frame.fields × IsFirstMeeting frame.fields i j
-Says frame (Some Shape) =
+abbrev pub HasCause : Content → Option FrameError → Type 0
+HasCause frame None = IsWellFormed frame
+HasCause frame (Some Cell) = Any (λ cell. LAST_CELL < cell) (frame.title ++ frame.body)
+HasCause frame (Some Price) = LAST_PRICE < frame.price
+HasCause frame (Some (FieldRange i)) = HasRanges frame × IsFirstOutside frame.fields i
+HasCause frame (Some (FieldsMeet i j)) = HasRanges frame × All LiesInBody frame.fields × IsFirstMeeting frame.fields i j
+HasCause frame (Some Shape) =
     HasRanges frame
     × All LiesInBody frame.fields
     × AllPairs (λ a b. ¬ ShareCell a b) frame.fields
     × ¬ HasShape frame.kind frame.fields
-Says frame (Some (Code at)) = ⊥
+HasCause frame (Some (Code at)) = ⊥

@@ -3,7 +3,7 @@ ghost use Rattle.pv_fields.specs.Reading.{ReadsBack};
 ghost use Rattle.pv_frame.specs.declared.field.Field.{Field};
 ghost use Rattle.pv_frame.specs.Content.{Content};
 ghost use Rattle.pv_frame.specs.Errors.{meets, ShareCell, error_of, IsValid};
-ghost use Rattle.pv_frame.specs.Meaning.{Says, IsWellFormed};
+ghost use Rattle.pv_frame.specs.Meaning.{HasCause, IsWellFormed};
 ghost use Rattle.pv_frame.specs.Spelling.{HasSpelling, spelling_of};
 
 /// A law: if two spellings begin the same bytes, they are of one frame, and the same bytes follow.
@@ -15,7 +15,7 @@ pub fn no_spelling_begins_another()
 /// A law: the error of a frame says what is wrong with it, the first place where it is, and that nothing
 /// earlier in the order of [`FrameError`](crate::FrameError) is. A frame without error is well formed.
 pub fn errors_are_what_they_say()
-    ensures says { (frame : Content) → Says frame (error_of frame) }
+    ensures says { (frame : Content) → HasCause frame (error_of frame) }
     ensures valid { (frame : Content) → IsValid frame ↔ IsWellFormed frame }
     ensures meeting { (a b : Field) → IsTrue (meets a b) ↔ ShareCell a b }
 {}

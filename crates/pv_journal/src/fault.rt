@@ -24,11 +24,17 @@ impl<D: Disk> PartialEq for OpenFault<D>
 where
     D::Failure: PartialEq,
 {
-    ghost eq = { eq_of_both (eq_of_both (on open_failures (pointwise D.Failure.eq)) (on other_mark (pointwise nat_eq)))
+    ghost eq = { eq_of_both
+        (eq_of_both (on open_failures (pointwise D.Failure.eq)) (on other_mark (pointwise nat_eq)))
         (eq_of_both (on broken_places (pointwise nat_eq)) (on passed_limits (pointwise nat_eq))) };
 
-    ghost laws = { and_per (and_per (on_per open_failures (lists_per D.Failure.laws)) (on_per other_mark (partial_equiv_from_equiv nat_list_eq_equiv)))
-        (and_per (on_per broken_places (partial_equiv_from_equiv nat_list_eq_equiv)) (on_per passed_limits (partial_equiv_from_equiv nat_list_eq_equiv))) };
+    ghost laws = { and_per
+        (and_per
+        (on_per open_failures (lists_per D.Failure.laws))
+        (on_per other_mark (partial_equiv_from_equiv nat_list_eq_equiv)))
+        (and_per
+        (on_per broken_places (partial_equiv_from_equiv nat_list_eq_equiv))
+        (on_per passed_limits (partial_equiv_from_equiv nat_list_eq_equiv))) };
 
     fn eq(&self, other: &Self) -> bool {
         match (self, other) {
@@ -68,9 +74,13 @@ impl<D: Disk> PartialEq for AppendFault<D>
 where
     D::Failure: PartialEq,
 {
-    ghost eq = { eq_of_both (on append_failures (pointwise D.Failure.eq)) (on full_counts (pointwise nat_eq)) };
+    ghost eq = { eq_of_both
+        (on append_failures (pointwise D.Failure.eq))
+        (on full_counts (pointwise nat_eq)) };
 
-    ghost laws = { and_per (on_per append_failures (lists_per D.Failure.laws)) (on_per full_counts (partial_equiv_from_equiv nat_list_eq_equiv)) };
+    ghost laws = { and_per
+        (on_per append_failures (lists_per D.Failure.laws))
+        (on_per full_counts (partial_equiv_from_equiv nat_list_eq_equiv)) };
 
     fn eq(&self, other: &Self) -> bool {
         match (self, other) {

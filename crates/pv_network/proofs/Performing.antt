@@ -17,7 +17,7 @@ use Rattle.pv_network.specs.Link.{Link, link_in, is_packets_full, number_to_send
 use Rattle.pv_network.specs.Sound.{IsGenuine}
 use Rattle.pv_network.specs.Standing.{State, StandsFor}
 use Rattle.pv_network.specs.Step.{step_of_request, step_of_send, step_of_acknowledging, with_next_at, step_of_arrival, step_of_deliver, step_of_back}
-use Rattle.pv_network.specs.Verdict.{verdict_of, with_stored}
+use Rattle.pv_network.specs.Verdict.{verdict_of, with_verdict}
 use Rattle.pv_network.specs.World.{World, link_at, centre_at}
 use Rattle.pv_network.proofs.Lists.{all_get}
 use Rattle.pv_network.proofs.Soundness.{sound_request, sound_packet, sound_count, sound_heard, sound_applied, taken_is_next}
@@ -25,7 +25,7 @@ use Rattle.pv_network.proofs.Standing.{request_stands, centre_count, centre_take
 
 -- an editor's request is judged
 pub asks : (s : State) (w : World) → StandsFor s w → (editor q : ℕ) (wish : EditWish) (here : EditList) (told : UdcReplyView)
-    → here ≡ with_stored s.update (verdict_of s.update (Edit editor q wish)).stored → told ≡ (verdict_of s.update (Edit editor q wish)).reply
+    → here ≡ with_verdict s.update (verdict_of s.update (Edit editor q wish)).stored → told ≡ (verdict_of s.update (Edit editor q wish)).reply
     → StandsFor (record s { update = here }) (step_of_request w editor q wish).0 × (Reply (reply_of told) ≡ (step_of_request w editor q wish).1)
 asks s w stands editor q wish here told is reply =
     let verdict = verdict_of w.update (Edit editor q wish) in (

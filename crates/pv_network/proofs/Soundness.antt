@@ -18,7 +18,7 @@ use Rattle.pv_edits.specs.declared.room.TheConstants.{OPERATOR}
 use Rattle.pv_edits.specs.Edits.{is_edit_of, number_in}
 use Rattle.pv_node.specs.declared.decision.Decision.{Decision}
 use Rattle.pv_node.specs.declared.decision.Decision.TheVariants.{Answer, Store}
-use Rattle.pv_udc.specs.Judgement.{next_number, judge}
+use Rattle.pv_udc.specs.Judgement.{wanted_number, judge}
 use Rattle.pv_udc.specs.declared.reply.UdcReply.{UdcReply}
 use Rattle.pv_udc.specs.declared.reply.UdcReply.TheVariants as replies
 use Rattle.pv_udc.specs.declared.request.UdcRequest.TheVariants.{Edit}

@@ -6,14 +6,14 @@ use Rattle.std.proofs.lemmas.List.{length-take-le, take_more, take-append-le, le
 use Rattle.std.proofs.lemmas.Option.{slice_get_within, get_or_from_slice_get}
 use Rattle.pv_edits.specs.declared.record.Record.{Record}
 use Rattle.pv_edits.specs.Room.{has_room}
-use Rattle.pv_udc.specs.EditList.{EditList, with_record}
+use Rattle.pv_udc.specs.EditList.{EditList, list_with}
 use Rattle.pv_udc.proofs.CallerLemmas.{has_room-judged}
 use Rattle.pv_editor.specs.declared.replies.UdcReplyView.{UdcReplyView}
 use Rattle.pv_editor.specs.declared.replies.UdcReplyView.TheVariants.{Stored, Refused}
 use Rattle.pv_network.specs.Centre.{Centre, CentreStands, Held, new_centre, with_next}
 use Rattle.pv_network.specs.Link.{Link}
 use Rattle.pv_network.specs.Run.{IsRun}
-use Rattle.pv_network.specs.Verdict.{with_stored}
+use Rattle.pv_network.specs.Verdict.{with_verdict}
 use Rattle.pv_network.specs.World.{World, centre_at, with_centre, with_link, with_edit, with_receipt}
 use Rattle.pv_network.specs.Sound.{IsSound}
 use Rattle.pv_network.specs.Standing.{State, StandsFor}
@@ -68,7 +68,7 @@ module _ (s : State) (w : World) (stands : StandsFor s w) where
       (λ held centre stood. centre_longer w.update held centre stood edit) s.centres w.centres stands.centres
 
   -- another Update Centre, which has stored what the world's stored, leaves all else standing, whatever is acknowledged
-  pub request_stands : (editor q : ℕ) (stored : Option Record) (reply : UdcReplyView) (here : EditList) → here ≡ with_stored w.update stored
+  pub request_stands : (editor q : ℕ) (stored : Option Record) (reply : UdcReplyView) (here : EditList) → here ≡ with_verdict w.update stored
       → IsSound (with_receipt (with_edit w stored) editor q reply) → StandsFor (record s { update = here }) (with_receipt (with_edit w stored) editor q reply)
   request_stands editor q None (Stored place) here is sound = record { sound = sound; update = is; centres = stands.centres; links = stands.links }
   request_stands editor q None (Refused code shown) here is sound = record { sound = sound; update = is; centres = stands.centres; links = stands.links }

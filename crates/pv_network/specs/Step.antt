@@ -10,7 +10,7 @@ use Rattle.pv_edits.specs.declared.room.TheConstants.{OPERATOR}
 use Rattle.pv_edits.specs.declared.wish.EditWish.{EditWish}
 use Rattle.pv_edits.specs.declared.wish.EditWish.TheVariants.{Put}
 use Rattle.pv_edits.specs.Edits.{frame_at}
-use Rattle.pv_udc.specs.Judgement.{next_number}
+use Rattle.pv_udc.specs.Judgement.{wanted_number}
 use Rattle.pv_udc.specs.declared.request.UdcRequest.TheVariants.{Edit}
 use Rattle.pv_editor.specs.Replies.{reply_of}
 use Rattle.pv_network.specs.declared.packet.Packet.{Packet}
@@ -41,8 +41,8 @@ abbrev pub seeded_frame : List ℕ → Content
 seeded_frame row = record blank_frame { body = with_row FIRST_ROW row blank_frame.body }
 
 -- the operator's next number puts that frame under a name
-abbrev pub step_of_seed : World → Name → List ℕ → World × Outcome
-step_of_seed w name row = step_of_request w OPERATOR (next_number w.update.records OPERATOR) (Put name (seeded_frame row))
+abbrev pub step_of_seeding : World → Name → List ℕ → World × Outcome
+step_of_seeding w name row = step_of_request w OPERATOR (next_number w.update.records OPERATOR) (Put name (seeded_frame row))
 
 -- ---- view
 
@@ -128,7 +128,7 @@ step_of_list w = (w, outcomes.Records (length w.update.records))
 -- The world after an event, and the answer. The last argument is a choice of the outside: whether a stop within a write
 -- kept the record that was being written. No event stops a node yet, so that none depends on it.
 abbrev pub happens : World → Event → Bool → World × Outcome
-happens w (events.Seed name row) kept = step_of_seed w name row
+happens w (events.Seed name row) kept = step_of_seeding w name row
 happens w (events.Send centre) kept = step_of_send w centre
 happens w (events.Deliver centre index) kept = step_of_deliver w centre index
 happens w (events.Back centre index) kept = step_of_back w centre index

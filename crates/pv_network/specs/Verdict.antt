@@ -4,7 +4,7 @@ use Rattle.pv_outside.specs.declared.limits.Limits.{Limits}
 use Rattle.pv_edits.specs.declared.record.Record.{Record}
 use Rattle.pv_node.specs.declared.decision.Decision.{Decision}
 use Rattle.pv_node.specs.declared.decision.Decision.TheVariants.{Answer, Store}
-use Rattle.pv_udc.specs.EditList.{EditList, with_record}
+use Rattle.pv_udc.specs.EditList.{EditList, list_with}
 use Rattle.pv_udc.specs.Judgement.{judge}
 use Rattle.pv_udc.specs.declared.reply.UdcReply.{UdcReply}
 use Rattle.pv_udc.specs.declared.reply.UdcReply.TheVariants.{Stored, Again, Old, Early, Refused}
@@ -38,6 +38,6 @@ abbrev pub verdict_of : EditList → UdcRequest → Verdict
 verdict_of u request = verdict_by u (judge u.limits u.records request)
 
 -- the list with the record that is stored, if there is one
-abbrev pub with_stored : EditList → Option Record → EditList
-with_stored u None = u
-with_stored u (Some edit) = with_record u edit
+abbrev pub with_verdict : EditList → Option Record → EditList
+with_verdict u None = u
+with_verdict u (Some edit) = with_record u edit

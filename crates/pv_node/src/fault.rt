@@ -28,11 +28,25 @@ impl<D: Disk> PartialEq for NodeFault<D>
 where
     D::Failure: PartialEq,
 {
-    ghost eq = { eq_of_both (eq_of_both (on memory_faults (pointwise nat_eq)) (eq_of_both (on node_failures (pointwise D.Failure.eq)) (on unmarked_bytes (pointwise nat_eq))))
-        (eq_of_both (on broken_gates (pointwise nat_eq)) (eq_of_both (on limits_over (pointwise nat_eq)) (on unreadable_places (pointwise nat_eq)))) };
+    ghost eq = { eq_of_both
+        (eq_of_both
+        (on memory_faults (pointwise nat_eq))
+        (eq_of_both (on node_failures (pointwise D.Failure.eq)) (on unmarked_bytes (pointwise nat_eq))))
+        (eq_of_both
+        (on broken_gates (pointwise nat_eq))
+        (eq_of_both (on limits_over (pointwise nat_eq)) (on unreadable_places (pointwise nat_eq)))) };
 
-    ghost laws = { and_per (and_per (on_per memory_faults (partial_equiv_from_equiv nat_list_eq_equiv)) (and_per (on_per node_failures (lists_per D.Failure.laws)) (on_per unmarked_bytes (partial_equiv_from_equiv nat_list_eq_equiv))))
-        (and_per (on_per broken_gates (partial_equiv_from_equiv nat_list_eq_equiv)) (and_per (on_per limits_over (partial_equiv_from_equiv nat_list_eq_equiv)) (on_per unreadable_places (partial_equiv_from_equiv nat_list_eq_equiv)))) };
+    ghost laws = { and_per
+        (and_per
+        (on_per memory_faults (partial_equiv_from_equiv nat_list_eq_equiv))
+        (and_per
+        (on_per node_failures (lists_per D.Failure.laws))
+        (on_per unmarked_bytes (partial_equiv_from_equiv nat_list_eq_equiv))))
+        (and_per
+        (on_per broken_gates (partial_equiv_from_equiv nat_list_eq_equiv))
+        (and_per
+        (on_per limits_over (partial_equiv_from_equiv nat_list_eq_equiv))
+        (on_per unreadable_places (partial_equiv_from_equiv nat_list_eq_equiv)))) };
 
     fn eq(&self, other: &Self) -> bool {
         match (self, other) {
@@ -78,9 +92,13 @@ impl<D: Disk> PartialEq for AskFault<D>
 where
     D::Failure: PartialEq,
 {
-    ghost eq = { eq_of_both (on ask_failures (pointwise D.Failure.eq)) (on node_counts (pointwise nat_eq)) };
+    ghost eq = { eq_of_both
+        (on ask_failures (pointwise D.Failure.eq))
+        (on node_counts (pointwise nat_eq)) };
 
-    ghost laws = { and_per (on_per ask_failures (lists_per D.Failure.laws)) (on_per node_counts (partial_equiv_from_equiv nat_list_eq_equiv)) };
+    ghost laws = { and_per
+        (on_per ask_failures (lists_per D.Failure.laws))
+        (on_per node_counts (partial_equiv_from_equiv nat_list_eq_equiv)) };
 
     fn eq(&self, other: &Self) -> bool {
         match (self, other) {

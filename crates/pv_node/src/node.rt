@@ -281,7 +281,9 @@ impl<R: Rules, D: Fused> Node<R, D> {
             → HasCalls calls room (D.budget self.new.journal.disk) }
         ensures left { (room : ℕ) → HasCalls 0 room (D.budget self.old.journal.disk)
             → HasLeft calls (D.budget self.new.journal.disk) }
-        ensures same { self.new ≡ record self.old { journal = record self.old.journal { disk = self.new.journal.disk } } }
+        ensures same { self.new ≡ record self.old {
+          journal = record self.old.journal { disk = self.new.journal.disk };
+        } }
         ensures records { (records : List R.Rec) → StandsFor ⟦<R as Rules>⟧ D.Reports self.old records
             → StandsFor ⟦<R as Rules>⟧ D.Reports self.new records }
     {

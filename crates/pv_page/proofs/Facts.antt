@@ -15,8 +15,8 @@ accounts = (lit≤ tt, λ is. omega (arith, is))
 pub letters : IsLetter 97 × ¬ IsLetter 96 × IsLetter 122 × ¬ IsLetter 123
 letters = ((lit≤ tt, lit≤ tt), (λ is. omega (arith, is.0)), (lit≤ tt, lit≤ tt), (λ is. omega (arith, is.1)))
 
--- a page has one to nine digits, and page 0 is written by one zero
--- too long comes before a byte that is no digit, and that before a leading zero
+-- A page has one to nine digits, and page 0 is written by one zero.
+-- Too long comes before a byte that is no digit, and that before a leading zero.
 pub digits_of_pages : (page_of_digits (codes "999999999") ≡ Ok 999999999) × (page_of_digits (codes "0") ≡ Ok 0)
     × (page_of_digits (codes "1000000000") ≡ Err TooLong) × (page_of_digits [] ≡ Err Empty)
     × (page_of_digits (codes "00000000x0") ≡ Err TooLong) × (page_of_digits (codes "01x") ≡ Err (NotDigit 2))

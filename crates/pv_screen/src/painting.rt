@@ -99,7 +99,12 @@ fn put_row(row: &[u8; COLUMNS], out: &mut Out)
     requires { 2 * length (shown_cells row.now) ≤ room_of out.old }
     ensures { Appends out.old out.new (cells_bytes (shown_cells row.now)) }
 {
-    put_cells(shown_cells(row), out);
+    let cells = shown_cells(row);
+    if are_ordinary(cells) {
+        out.put_run(cells);
+    } else {
+        put_cells(cells, out);
+    }
 }
 
 /// A row without the spaces at its end.
@@ -133,11 +138,11 @@ fn put_cells(cells: &[u8], out: &mut Out)
     ensures { Appends out.old out.new (cells_bytes cells.now) }
 {
     let mut at = 0;
-    while at < cells.len() {
-        let end = cells.len().min(at + 8);
-        put_part(&cells[at..end], out);
-        at = end;
+    while at + 8 <= cells.len() {
+        put_part(&cells[at..at + 8], out);
+        at += 8;
     }
+    put_each(&cells[at..], out);
 }
 
 /// Appends cells: at once if none of them is an attribute, and else one by one.

@@ -14,8 +14,8 @@ use Rattle.pv_edits.specs.declared.wish.EditWish.{EditWish}
 use Rattle.pv_node.specs.declared.decision.Decision.{Decision}
 use Rattle.pv_node.specs.declared.decision.Decision.TheVariants.{Answer, Store}
 use Rattle.pv_udc.specs.EditList.{all_places}
-use Rattle.pv_udc.specs.Requests.{edit_of, record_of}
-use Rattle.pv_udc.specs.Judgement.{last_edit, wanted_number, kept_place, editor_refusal, refusal_of, refused, answers_of, answered_or_stored, judge}
+use Rattle.pv_udc.specs.Requests.{IsRequest, HasCentre, edit_of, record_of}
+use Rattle.pv_udc.specs.Judgement.{last_edit, wanted_number, kept_place, editor_refusal, refusal_of, reply_to, answers_of, decision_of, judge}
 use Rattle.pv_udc.specs.declared.refusal.Refusal.{Refusal}
 use Rattle.pv_udc.specs.declared.reply.UdcReply.{UdcReply}
 use Rattle.pv_udc.specs.declared.reply.UdcReply.TheVariants.{Stored, Again, Old, Early, Refused}
@@ -80,7 +80,7 @@ module _ (limits : Limits) (records : List Record) (editor q : ℕ) (wish : Edit
         reply_is = by (first_of (answers_of limits records (Edit editor q wish))) is;
       }
     where
-      by : (answer : Option UdcReply) → answered_or_stored answer (edit_of editor q wish) (length records) ≡ Store edit reply → reply ≡ Stored (length records)
+      by : (answer : Option UdcReply) → decision_of answer (edit_of editor q wish) (length records) ≡ Store edit reply → reply ≡ Stored (length records)
       by None stored = sym (ap (reply_or reply) stored)
       by (Some other) stored = absurd cc
 
@@ -108,7 +108,7 @@ module _ (limits : Limits) (records : List Record) (editor q : ℕ) (wish : Edit
     where
       by : (known : Option Refusal) (kept : Option ℕ) (fault : Option Refusal)
           → ((place : ℕ) → kept ≡ Some place → last_edit records editor ≡ Some (q, place))
-          → answered_or_stored (first_of (option_map refused known ∷ option_map Again kept ∷ option_map refused fault ∷ [])) (edit_of editor q wish) (length records) ≡ Answer reply
+          → decision_of (first_of (option_map reply_to known ∷ option_map Again kept ∷ option_map reply_to fault ∷ [])) (edit_of editor q wish) (length records) ≡ Answer reply
           → IsAnswered reply
       by (Some refusal) kept fault last answered = subst IsAnswered (ap (reply_or reply) answered) tt
       by None (Some place) fault last answered = subst IsAnswered (ap (reply_or reply) answered) (last place refl)
@@ -178,3 +178,10 @@ last_edit-there records editor q place is = by (last_index (is_edit_of editor) r
         → IsThere records editor q place
     by None last is = absurd cc
     by (Some i) last is = there i (slice_get records i) last refl is
+
+-- ---- a request
+
+-- one within its ranges may be decided on
+pub HasCentre-request : (request : UdcRequest) → IsRequest request → HasCentre request
+HasCentre-request (Edit editor q wish) is = tt
+HasCentre-request (TakeUp centre k item) is = is.centre

@@ -1,8 +1,9 @@
 -- Worked examples, computed from the definitions: constants, small judgements, and the numbers of edits.
-use Rattle.std.proofs.Common.{◌≡◌, ℕ, [], ◌∷◌, Some, None, refl}
+use Rattle.std.proofs.Common.{◌≡◌, ℕ, ◌+◌, [], ◌∷◌, Some, None, refl}
 use Rattle.pv_outside.specs.declared.limits.Limits.{Limits}
 use Rattle.pv_page.specs.Names.{Name}
 use Rattle.pv_account.specs.Profile.{Profile}
+use Rattle.pv_account.specs.declared.account.TheConstants.{LAST_CENTRE}
 use Rattle.pv_frame.specs.Content.{blank_frame}
 use Rattle.pv_frame.specs.declared.frame_error.FrameError.TheVariants.{Shape}
 use Rattle.pv_post.specs.declared.item.Item.{Item}
@@ -25,6 +26,9 @@ use Rattle.pv_udc.specs.declared.state.TheConstants.{CENTRES}
 -- there can be four centres
 pub centres : CENTRES ≡ 4
 centres = refl
+
+pub centres-all : CENTRES ≡ LAST_CENTRE + 1
+centres-all = refl
 
 abbrev page_1a : Name
 page_1a = record { page = 1; letter = 97 }

@@ -3,6 +3,7 @@ mod Deciding
 mod Facts
 mod Growing
 mod LastEdits
+mod Least
 mod Numbering
 mod Repeating
 mod Replying

@@ -108,28 +108,28 @@ refusal_of limits records editor q wish = first_of (refusals_of limits records e
 -- ---- what is decided
 
 -- the reply of a refusal
-abbrev pub refused : Refusal → UdcReply
-refused refusal = Refused (code_of refusal)
+abbrev pub reply_to : Refusal → UdcReply
+reply_to refusal = Refused (code_of refusal)
 
 -- Why a request stores nothing, in order. An edit: its editor is no account; it is his last one again; it is refused. An item:
 -- it was taken up before; others are to come first.
 abbrev pub answers_of : Limits → List Record → UdcRequest → List (Option UdcReply)
 answers_of limits records (Edit editor q wish) =
-    option_map refused (editor_refusal records editor)
+    option_map reply_to (editor_refusal records editor)
     ∷ option_map Again (kept_place records editor q)
-    ∷ option_map refused (refusal_of limits records editor q wish)
+    ∷ option_map reply_to (refusal_of limits records editor q wish)
     ∷ []
 answers_of limits records (TakeUp centre k item) =
     some_if (nat_lt k (taken_of records centre)) (Old (taken_of records centre))
     ∷ some_if (nat_lt (taken_of records centre) k) (Early (taken_of records centre))
     ∷ []
 
--- an answer, or the record that is stored after so many
-abbrev pub answered_or_stored : Option UdcReply → Record → ℕ → Decision Record UdcReply
-answered_or_stored (Some reply) edit count = Answer reply
-answered_or_stored None edit count = Store edit (Stored count)
+-- an answer, or the record that is stored at this place
+abbrev pub decision_of : Option UdcReply → Record → ℕ → Decision Record UdcReply
+decision_of (Some reply) edit place = Answer reply
+decision_of None edit place = Store edit (Stored place)
 
 -- what is decided on a request: the first answer that applies, or its record is stored at the end of the list
 abbrev pub judge : Limits → List Record → UdcRequest → Decision Record UdcReply
 judge limits records request =
-    answered_or_stored (first_of (answers_of limits records request)) (record_of request) (length records)
+    decision_of (first_of (answers_of limits records request)) (record_of request) (length records)

@@ -23,7 +23,7 @@ impl UdcState {
     ///
     /// Of an edit: an editor who is no account is refused. The number of his last edit is
     /// [`UdcReply::Again`], whatever the wish is. Else the first [`Refusal`] that applies is returned. An
-    /// edit that none applies to is to be stored at the front.
+    /// edit that none applies to is to be stored at the end of the edit list.
     ///
     /// An item is to be stored if its number is the count of the centre's items that were taken up. It is
     /// [`UdcReply::Old`] exactly below, and [`UdcReply::Early`] exactly above.

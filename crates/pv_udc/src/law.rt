@@ -1,6 +1,6 @@
 //! Laws of the judgement, each the clause of a function that does nothing.
 
-ghost use Rattle.std.specs.Prelude.{◌≡◌, ℕ, List, [], ◌∷◌, ◌++◌, length, Some, true, IsTrue};
+ghost use Rattle.std.specs.Prelude.{◌≡◌, ℕ, ◌≤◌, List, [], ◌∷◌, ◌++◌, length, slice_get, Some, IsTrue};
 ghost use Rattle.pv_outside.specs.declared.limits.Limits.{Limits};
 ghost use Rattle.pv_journal.specs.Text.{IsBody};
 ghost use Rattle.pv_edits.specs.Record.{IsRecord, record_bytes};
@@ -9,8 +9,10 @@ ghost use Rattle.pv_edits.specs.declared.record.Record.{Record};
 ghost use Rattle.pv_edits.specs.declared.wish.EditWish.{EditWish};
 ghost use Rattle.pv_node.specs.declared.decision.Decision.TheVariants.{Answer, Store};
 ghost use Rattle.pv_udc.specs.Requests.{IsRequest};
-ghost use Rattle.pv_udc.specs.Judgement.{last_edit, judge};
-ghost use Rattle.pv_udc.specs.Numbers.{IsJudged, numbers_of, from_one};
+ghost use Rattle.pv_udc.specs.Judgement.{last_edit, refusals_of, refusal_of, judge};
+ghost use Rattle.pv_udc.specs.Codes.{code_number};
+ghost use Rattle.pv_udc.specs.declared.refusal.Refusal.{Refusal};
+ghost use Rattle.pv_udc.specs.Numbers.{IsJudgedRun, numbers_of, from_one};
 ghost use Rattle.pv_udc.specs.declared.reply.UdcReply.{UdcReply};
 ghost use Rattle.pv_udc.specs.declared.reply.UdcReply.TheVariants as replies;
 ghost use Rattle.pv_udc.specs.declared.request.UdcRequest.{UdcRequest};
@@ -30,8 +32,16 @@ pub fn spelling_is_a_body()
 
 /// In a list of records that were judged each editor's edits have the numbers 1, 2, 3 and on, in order.
 pub fn edits_are_numbered_from_one()
-    ensures { (limits : Limits) (records : List Record) (editor : ℕ) → IsJudged limits records
+    ensures { (limits : Limits) (records : List Record) (editor : ℕ) → IsJudgedRun limits records
         → numbers_of editor records ≡ from_one (length (numbers_of editor records)) }
+{}
+
+/// Of the refusals that apply to a wish, the one that is given has the least number.
+pub fn refusal_has_the_least_number()
+    ensures { (limits : Limits) (records : List Record) (editor q : ℕ) (wish : EditWish)
+        (first other : Refusal) (i : ℕ) → refusal_of limits records editor q wish ≡ Some first
+        → slice_get (refusals_of limits records editor q wish) i ≡ Some (Some other)
+        → code_number first ≤ code_number other }
 {}
 
 /// A request under an editor's last number stores nothing, whatever it asks: the reply is the place of his

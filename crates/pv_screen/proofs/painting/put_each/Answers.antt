@@ -7,4 +7,5 @@ pub put_cell-requires : goal.put_cell-requires
 put_cell-requires c =
     let cells = c.args.cells.now in
     let at = c.loop-cell.cell-index in
-    omega (arith, c.requires, c.loop-cell.invariant.room, c.loop-cell-test.true, length-cells_bytes-le (take at cells), length-take at cells)
+    let some = length-cells_bytes-le (take at cells) in
+    omega (arith, c.requires, c.loop-cell.invariant.room, c.loop-cell-test.true, some, length-take at cells)

@@ -6,7 +6,7 @@ use Rattle.pv_words.proofs.Values.{missing}
 use Rattle.pv_account.specs.Profile.{Profile, digest_of}
 use Rattle.pv_account.specs.declared.account.TheConstants.{LAST_CENTRE}
 use Rattle.pv_editor.specs.Parts.{IsAccountText, IsPasswordText, IsOrDash}
-use Rattle.pv_editor.specs.Groups.{IsGroupsText, Parts, profile_of}
+use Rattle.pv_editor.specs.Groups.{IsGroupsText, AccountParts, profile_of}
 use Rattle.pv_editor.proofs.groups.ProfileTextReader.read.Goals as goal
 
 -- a password, a home centre and groups
@@ -52,7 +52,7 @@ returns-clause-only c = λ value gives.
     let later = c.in_ok-password.ensures.only gives.parts.1 tail in
     let number : c.in_ok-number.number ≡ gives.parts.0 = cc in
     let others : (c.in_ok-password.password, c.in_ok-password.home, c.in_ok-password.groups) ≡ gives.parts.1 = cc in
-    let read : Parts = (c.in_ok-number.number, (c.in_ok-password.password, c.in_ok-password.home, c.in_ok-password.groups)) in
+    let read : AccountParts = (c.in_ok-number.number, (c.in_ok-password.password, c.in_ok-password.home, c.in_ok-password.groups)) in
     let parts : read ≡ gives.parts = λ i. (number i, others i) in
     let account =
     made c.in_ok-number.number c.in_ok-password.home c.in_ok-password.password _ _ c.in_ok-password.groups c.digest.ensures groups in

@@ -34,9 +34,17 @@ invariant_of-self-clause-chained c =
     let bucket : c.bucket_in-bucket.result ≡ bucket_in c.args.rec.now = c.bucket_in-bucket.ensures.value in
     let within : bucket_in c.args.rec.now < BUCKETS = rw bucket at c.bucket_in-bucket.ensures.within in
     let count : c.len.result ≡ length base.records.items + 1 =
-    omega (arith, c.len.ensures, c.push_reserved.ensures.len, ap (λ (l : List Record). length l) c.push_reserved.ensures.items, length-append base.records.items (c.args.rec.now ∷ [])) in
+    omega (
+      arith,
+      c.len.ensures,
+      c.push_reserved.ensures.len,
+      ap
+          (λ (l : List Record). length l) c.push_reserved.ensures.items,
+      length-append base.records.items (c.args.rec.now ∷ []),
+    ) in
     let before : c.index-before.result.now ≡ slice_index_or base.heads.items (bucket_in c.args.rec.now) 0 =
     sym (get_or_from_slice_get base.heads.items (bucket_in c.args.rec.now) c.index-before.result.now 0
-    (slice_get_read base.heads.items BUCKETS (bucket_in c.args.rec.now) c.index-before.result.now (sym base.chained.buckets) within (rw bucket at c.index-before.ensures))) in
+    (slice_get_read base.heads.items BUCKETS (bucket_in c.args.rec.now) c.index-before.result.now (sym base.chained.buckets) within
+    (rw bucket at c.index-before.ensures))) in
     rw (c.push_reserved-3.ensures.items, c.push_reserved.ensures.items, before, bucket, count)
     (chained_push base.heads.items base.links.items base.records.items base.chained c.args.rec.now within)

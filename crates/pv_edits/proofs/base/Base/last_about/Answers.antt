@@ -6,7 +6,8 @@ use Rattle.pv_edits.proofs.LastIndex.{last_index-within}
 use Rattle.pv_edits.proofs.base.Base.last_about.Goals as goal
 
 -- the index that is found is one of the list's
-found_within : (found : Option ℕ) (test : Record → Bool) (records : List Record) → found ≡ last_index test records → IfSome found (λ index. index < length records)
+found_within : (found : Option ℕ) (test : Record → Bool) (records : List Record) → found ≡ last_index test records
+    → IfSome found (λ index. index < length records)
 found_within None test records is = tt
 found_within (Some index) test records is = last_index-within test records index (sym is)
 

@@ -17,4 +17,5 @@ unfolding lease_count
 invariant_of-result-clause-leases_counted c = rw c.in_ok-with_capacity.ensures.items refl
 
 pub invariant_of-result-clause-chained : goal.invariant_of-result-clause-chained
-invariant_of-result-clause-chained c = rw (c.in_ok-with_capacity.ensures.items, c.in_ok-with_capacity-3.ensures.items) (chained_none _ (c.in_ok-vec.ensures.items_if_clones_equal (λ copy is. is)))
+invariant_of-result-clause-chained c = rw (c.in_ok-with_capacity.ensures.items, c.in_ok-with_capacity-3.ensures.items)
+    (chained_none _ (c.in_ok-vec.ensures.items_if_clones_equal (λ copy is. is)))

@@ -1,4 +1,4 @@
-use Rattle.std.proofs.Common.{◌≡◌, [], length, false, refl, sym, ◌∙◌, arith}
+use Rattle.std.proofs.Common.{[], false, refl, sym, ◌∙◌, arith}
 use Rattle.std.proofs.lemmas.List.{length-replicate}
 use Rattle.pv_udc.specs.EditList.{empty_list}
 use Rattle.pv_network.specs.Centre.{CentreStands, nothing_held, new_centre}
