@@ -9,7 +9,8 @@ pub all_get : {X : Type 0} (P : X → Type 0) (xs : List X) (i : ℕ) (x : X) �
 all_get P xs i x all is = subst P (get_or_from_slice_get xs i x x is) (all i x (slice_get_within xs i x is))
 
 -- Another in the place of one: what is said of each place by its number is said of the others as before.
-pub set_at : {X : Type 0} (P : ℕ → X → Type 0) (xs : List X) (i : ℕ) (x d : X) → ((k : ℕ) → P k (get_or xs k d)) → P i x → (k : ℕ) → P k (get_or (set xs i x) k d)
+pub set_at : {X : Type 0} (P : ℕ → X → Type 0) (xs : List X) (i : ℕ) (x d : X) → ((k : ℕ) → P k (get_or xs k d)) → P i x → (k : ℕ)
+    → P k (get_or (set xs i x) k d)
 set_at P [] i x d all here k = all k
 set_at P (y ∷ xs) zero x d all here zero = here
 set_at P (y ∷ xs) zero x d all here (suc k) = all (suc k)
@@ -17,7 +18,8 @@ set_at P (y ∷ xs) (suc i) x d all here zero = all zero
 set_at P (y ∷ xs) (suc i) x d all here (suc k) = set_at (λ n. P (suc n)) xs i x d (λ n. all (suc n)) here k
 
 -- the same of two lists, where both have another in that place
-pub zip_set : {X Y : Type 0} (R : X → Y → Type 0) (xs : List X) (ys : List Y) (i : ℕ) (x : X) (y : Y) → AllZip R xs ys → R x y → AllZip R (set xs i x) (set ys i y)
+pub zip_set : {X Y : Type 0} (R : X → Y → Type 0) (xs : List X) (ys : List Y) (i : ℕ) (x : X) (y : Y) → AllZip R xs ys → R x y
+    → AllZip R (set xs i x) (set ys i y)
 zip_set R [] [] i x y all here = tt
 zip_set R [] (b ∷ ys) i x y all here = absurd all
 zip_set R (a ∷ xs) [] i x y all here = absurd all
@@ -25,14 +27,16 @@ zip_set R (a ∷ xs) (b ∷ ys) zero x y all here = (here, all.1)
 zip_set R (a ∷ xs) (b ∷ ys) (suc i) x y all here = (all.0, zip_set R xs ys i x y all.1 here)
 
 -- what follows from the fact at each place of two lists
-pub zip_weaken : {X Y : Type 0} (R S : X → Y → Type 0) → ((x : X) (y : Y) → R x y → S x y) → (xs : List X) (ys : List Y) → AllZip R xs ys → AllZip S xs ys
+pub zip_weaken : {X Y : Type 0} (R S : X → Y → Type 0) → ((x : X) (y : Y) → R x y → S x y) → (xs : List X) (ys : List Y) → AllZip R xs ys
+    → AllZip S xs ys
 zip_weaken R S follows [] [] all = tt
 zip_weaken R S follows [] (b ∷ ys) all = absurd all
 zip_weaken R S follows (a ∷ xs) [] all = absurd all
 zip_weaken R S follows (a ∷ xs) (b ∷ ys) all = (follows a b all.0, zip_weaken R S follows xs ys all.1)
 
 -- the elements at a place of both, for any default
-pub zip_at : {X Y : Type 0} (R : X → Y → Type 0) (xs : List X) (ys : List Y) (i : ℕ) (d : X) (e : Y) → AllZip R xs ys → i < length xs → R (get_or xs i d) (get_or ys i e)
+pub zip_at : {X Y : Type 0} (R : X → Y → Type 0) (xs : List X) (ys : List Y) (i : ℕ) (d : X) (e : Y) → AllZip R xs ys → i < length xs
+    → R (get_or xs i d) (get_or ys i e)
 zip_at R [] ys i d e all there = let none : ⊥ = omega arith in absurd none
 zip_at R (a ∷ xs) [] i d e all there = absurd all
 zip_at R (a ∷ xs) (b ∷ ys) zero d e all there = all.0
@@ -51,7 +55,8 @@ module _ {X : Type 0} where
   get_prefix (y ∷ xs) ys (suc i) x is = get_prefix xs ys i x is
 
   -- what is at a place of the longer list was there before, or is the new one
-  pub get_push : (xs : List X) (new : X) (i : ℕ) (x : X) → slice_get (xs ++ new ∷ []) i ≡ Some x → (slice_get xs i ≡ Some x) ⊎ ((i ≡ length xs) × (new ≡ x))
+  pub get_push : (xs : List X) (new : X) (i : ℕ) (x : X) → slice_get (xs ++ new ∷ []) i ≡ Some x
+      → (slice_get xs i ≡ Some x) ⊎ ((i ≡ length xs) × (new ≡ x))
   get_push [] new zero x is = inr (refl, cc)
   get_push [] new (suc i) x is = absurd cc
   get_push (y ∷ xs) new zero x is = inl is

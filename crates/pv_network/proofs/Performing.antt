@@ -25,18 +25,24 @@ use Rattle.pv_network.proofs.Standing.{request_stands, centre_count, centre_take
 
 -- an editor's request is judged
 pub asks : (s : State) (w : World) → StandsFor s w → (editor q : ℕ) (wish : EditWish) (here : EditList) (told : UdcReplyView)
-    → here ≡ with_verdict s.update (verdict_of s.update (Edit editor q wish)).stored → told ≡ (verdict_of s.update (Edit editor q wish)).reply
-    → StandsFor (record s { update = here }) (step_of_request w editor q wish).0 × (Reply (reply_of told) ≡ (step_of_request w editor q wish).1)
+    → here ≡ with_verdict s.update (verdict_of s.update (Edit editor q wish)).stored
+    → told ≡ (verdict_of s.update (Edit editor q wish)).reply
+    → StandsFor (record s { update = here }) (step_of_request w editor q wish).0 ×
+    (Reply (reply_of told) ≡ (step_of_request w editor q wish).1)
 asks s w stands editor q wish here told is reply =
     let verdict = verdict_of w.update (Edit editor q wish) in (
-      request_stands s w stands editor q verdict.stored verdict.reply here (rw stands.update at is) (sound_request w editor q wish stands.sound),
+      request_stands s w stands editor q verdict.stored verdict.reply here (rw stands.update at is)
+          (sound_request w editor q wish stands.sound),
       ap (λ (v : UdcReplyView). Reply (reply_of v)) (rw stands.update at reply),
     )
 
 module _ (s : State) (w : World) (stands : StandsFor s w) (c : ℕ) where
   -- a record is packed
-  pub sends : (links : List Link) (count number index : ℕ) (edit : Record) → is_packets_full s.links ≡ false → count ≡ length s.update.records → number_to_send (link_in s.links c).sending count ≡ Some number → slice_get w.update.records number ≡ Some edit
-      → index ≡ length (link_in s.links c).down → links ≡ set s.links c (with_packet (link_in s.links c) number edit) → StandsFor (record s { links = links }) (step_of_send w c).0 × (SentRecord index number ≡ (step_of_send w c).1)
+  pub sends : (links : List Link) (count number index : ℕ) (edit : Record) → is_packets_full s.links ≡ false
+      → count ≡ length s.update.records → number_to_send (link_in s.links c).sending count ≡ Some number
+      → slice_get w.update.records number ≡ Some edit
+      → index ≡ length (link_in s.links c).down → links ≡ set s.links c (with_packet (link_in s.links c) number edit)
+      → StandsFor (record s { links = links }) (step_of_send w c).0 × (SentRecord index number ≡ (step_of_send w c).1)
   sends links count number index edit room count-is next found index-is made =
       let turn = rw (count-is, stands.update, stands.links) at next in
       rw (rw stands.links at room, turn, found) (
@@ -45,12 +51,17 @@ module _ (s : State) (w : World) (stands : StandsFor s w) (c : ℕ) where
       )
 
   -- an acknowledgement is heard
-  pub hears : (links : List Link) (front number index : ℕ) → front ≡ length s.update.records → slice_get (link_in s.links c).up index ≡ Some number
+  pub hears : (links : List Link) (front number index : ℕ) → front ≡ length s.update.records
+      → slice_get (link_in s.links c).up index ≡ Some number
       → links ≡ set s.links c (heard_link (link_in s.links c) front number)
       → StandsFor (record s { links = links }) (step_of_back w c index).0 × (Heard number ≡ (step_of_back w c index).1)
   hears links front number index front-is found made =
       let there : slice_get (link_at w c).up index ≡ Some number = rw stands.links at found in
-      rw there (link_replaced s w stands c links _ (rw (front-is, stands.update, stands.links) at made) (sound_heard w c index number stands.sound there), refl)
+      rw there (
+        link_replaced s w stands c links _ (rw (front-is, stands.update, stands.links) at made)
+            (sound_heard w c index number stands.sound there),
+        refl,
+      )
 
   module _ (here : Held) (there : c < length s.centres) (read : here ≡ get_or s.centres c here) where
     -- the centre stands for the world's
@@ -62,12 +73,18 @@ module _ (s : State) (w : World) (stands : StandsFor s w) (c : ℕ) where
     count_there = centre_count w.update here (centre_at w c) stood
 
     -- an acknowledgement is made
-    pub acknowledges : (links : List Link) (index : ℕ) → is_packets_full s.links ≡ false → index ≡ length (link_in s.links c).up → links ≡ set s.links c (with_acknowledgement (link_in s.links c) (length here.records))
+    pub acknowledges : (links : List Link) (index : ℕ) → is_packets_full s.links ≡ false → index ≡ length (link_in s.links c).up
+        → links ≡ set s.links c (with_acknowledgement (link_in s.links c) (length here.records))
         → StandsFor (record s { links = links }) (step_of_acknowledging w c).0 × (Some index ≡ (step_of_acknowledging w c).1)
     acknowledges links index room index-is made =
-        rw (rw stands.links at room) (link_replaced s w stands c links _ (rw (count_there, stands.links) at made) (sound_count w c stands.sound), ap Some (rw stands.links at index-is))
+        rw (rw stands.links at room) (
+          link_replaced s w stands c links _ (rw (count_there, stands.links) at made)
+              (sound_count w c stands.sound),
+          ap Some (rw stands.links at index-is),
+        )
 
-    module _ (index : ℕ) (packet : Packet) (found : slice_get (link_in s.links c).down index ≡ Some packet) (arrival : Arrival) (how : arrival_of (length here.records) here.limits.records packet.number ≡ arrival) where
+    module _ (index : ℕ) (packet : Packet) (found : slice_get (link_in s.links c).down index ≡ Some packet) (arrival : Arrival)
+        (how : arrival_of (length here.records) here.limits.records packet.number ≡ arrival) where
       -- the packet is the world's
       found_there : slice_get (link_at w c).down index ≡ Some packet
       found_there = rw stands.links at found
@@ -97,10 +114,12 @@ module _ (s : State) (w : World) (stands : StandsFor s w) (c : ℕ) where
         module _ (now : Held) (again : now ≡ get_or s.centres c now) where
           -- it has room for the record
           pub room_there : has_room now.limits now.records packet.edit ≡ true
-          room_there = centre_has_room w.update now (centre_at w c) (centre_stands s w stands c now there again) packet.edit next_there stands.sound.law.run
+          room_there = centre_has_room w.update now (centre_at w c)
+              (centre_stands s w stands c now there again) packet.edit next_there stands.sound.law.run
 
           -- it takes the record
-          pub takes : (new : Held) → new ≡ record now { records = now.records ++ packet.edit ∷ [] } → StandsFor (record s { centres = set s.centres c new }) (with_next_at w c)
+          pub takes : (new : Held) → new ≡ record now { records = now.records ++ packet.edit ∷ [] }
+              → StandsFor (record s { centres = set s.centres c new }) (with_next_at w c)
           takes new taken =
               let follows =
               subst (λ (h : Held). CentreStands w.update h (with_next (centre_at w c))) (sym taken)

@@ -18,7 +18,7 @@ use Rattle.pv_edits.specs.declared.room.TheConstants.{OPERATOR}
 use Rattle.pv_edits.specs.Edits.{is_edit_of, number_in}
 use Rattle.pv_node.specs.declared.decision.Decision.{Decision}
 use Rattle.pv_node.specs.declared.decision.Decision.TheVariants.{Answer, Store}
-use Rattle.pv_udc.specs.Judgement.{wanted_number, judge}
+use Rattle.pv_udc.specs.Judgement.{next_number, judge}
 use Rattle.pv_udc.specs.declared.reply.UdcReply.{UdcReply}
 use Rattle.pv_udc.specs.declared.reply.UdcReply.TheVariants as replies
 use Rattle.pv_udc.specs.declared.request.UdcRequest.TheVariants.{Edit}
@@ -50,11 +50,17 @@ choice P false x y here there = there refl
 
 -- a centre that nothing has reached has a sound link beside any list
 sound_new : (edits : List Record) → IsSoundLink edits new_centre new_link
-sound_new edits = record { packets = λ k d none. absurd (omega (arith, none)); acknowledged = λ k d none. absurd (omega (arith, none)); heard = omega arith }
+sound_new edits = record {
+  packets = λ k d none. absurd (omega (arith, none));
+  acknowledged = λ k d none. absurd
+      (omega (arith, none));
+  heard = omega arith;
+}
 
 module _ (w : World) (c : ℕ) (sound : IsSound w) where
   -- another centre in the place of one, which has applied a prefix and has a sound link
-  sound_with_centre : (centre : Centre) → centre.applied ≤ length w.update.records → IsSoundLink w.update.records centre (link_at w c) → IsSound (with_centre w c centre)
+  sound_with_centre : (centre : Centre) → centre.applied ≤ length w.update.records → IsSoundLink w.update.records centre (link_at w c)
+      → IsSound (with_centre w c centre)
   sound_with_centre centre within here = record {
     law = record {
       run = sound.law.run;
@@ -91,7 +97,8 @@ kept_longer edits more receipt kept = record {
 }
 
 -- a link stays sound as the list grows
-link_longer : (edits more : List Record) (centre : Centre) (link : Link) → IsSoundLink edits centre link → IsSoundLink (edits ++ more) centre link
+link_longer : (edits more : List Record) (centre : Centre) (link : Link) → IsSoundLink edits centre link
+    → IsSoundLink (edits ++ more) centre link
 link_longer edits more centre link sound = record {
   packets = λ k d within. get_prefix edits more _ _ (sound.packets k d within);
   acknowledged = sound.acknowledged;
@@ -99,15 +106,18 @@ link_longer edits more centre link sound = record {
 }
 
 -- each record still follows those before it in a list with one more that follows them all
-follows_push : (Follows : List Record → Record → Type 0) (edits : List Record) (edit : Record) → EachFollows Follows edits → Follows edits edit
+follows_push : (Follows : List Record → Record → Type 0) (edits : List Record) (edit : Record) → EachFollows Follows edits
+    → Follows edits edit
     → EachFollows Follows (edits ++ edit ∷ [])
 follows_push Follows edits edit each follows place found is =
     elim (get_push edits edit place found is) [
       | inl before ↦
           let within : place ≤ length edits = omega (arith, slice_get_within edits place found before) in
-          subst (λ (prefix : List Record). Follows prefix found) (sym (take-append-le place edits (edit ∷ []) within)) (each place found before)
+          subst (λ (prefix : List Record). Follows prefix found) (sym (take-append-le place edits (edit ∷ []) within))
+          (each place found before)
       | inr here ↦
-          let prefix : take place (edits ++ edit ∷ []) ≡ edits = ap (λ (n : ℕ). take n (edits ++ edit ∷ [])) here.0 ∙ take-append_seam edits (edit ∷ []) in
+          let prefix : take place (edits ++ edit ∷ []) ≡ edits = ap (λ (n : ℕ). take n (edits ++ edit ∷ [])) here.0
+          ∙ take-append_seam edits (edit ∷ []) in
           subst (λ (last : Record). Follows (take place (edits ++ edit ∷ [])) last) here.1
           (subst (λ (prefix : List Record). Follows prefix edit) (sym prefix) follows)
     ]
@@ -123,7 +133,8 @@ one_place edits numbered editor number one other here there =
   where
     counted : (place : ℕ) → StandsAt edits editor number place → number ≡ count_by (is_edit_of editor) (take place edits) + 1
     counted place s =
-        let same : Some number ≡ Some (count_by (is_edit_of editor) (take place edits) + 1) = sym s.numbered ∙ numbered place s.edit s.there editor s.by in
+        let same : Some number ≡ Some (count_by (is_edit_of editor) (take place edits) + 1) = sym s.numbered
+        ∙ numbered place s.edit s.there editor s.by in
         cc
 
     earlier : (a b : ℕ) → StandsAt edits editor number a → StandsAt edits editor number b → a < b → ⊥
@@ -154,7 +165,8 @@ module _ (limits : Limits) (edits : List Record) (edit : Record) (follows : MayF
 
       by : (his : Bool) → is_edit_of e edit ≡ his → next_number (edits ++ edit ∷ []) e ≡ count_by (is_edit_of e) (edits ++ edit ∷ []) + 1
       by true his =
-          let last = ap (λ (l : Option (ℕ × ℕ)). option_map_or (λ (p : ℕ × ℕ). p.0) l 0 + 1) (last_edit-his edits edit e (next_number edits e) his (numbered_next e his)) in
+          let last = ap (λ (l : Option (ℕ × ℕ)). option_map_or (λ (p : ℕ × ℕ). p.0) l 0 + 1)
+          (last_edit-his edits edit e (next_number edits e) his (numbered_next e his)) in
           omega (arith, last, more, ap one_if his, sound e)
       by false his =
           let last = ap (λ (l : Option (ℕ × ℕ)). option_map_or (λ (p : ℕ × ℕ). p.0) l 0 + 1) (last_edit-others edits edit e his) in
@@ -166,7 +178,8 @@ sound_stored w edit sound follows =
     let edits = w.update.records in
     let limits = w.update.limits in
     let longer = edits ++ edit ∷ [] in
-    let numbered : HasNumbersInOrder longer = follows_push IsNextOfEditor edits edit sound.law.numbered (next_of_editor limits edits edit follows sound.next) in
+    let numbered : HasNumbersInOrder longer = follows_push IsNextOfEditor edits edit sound.law.numbered
+    (next_of_editor limits edits edit follows sound.next) in
     let room = has_room-judged limits edits follows.judged.0 edit follows.judged.1 follows.judged.2 in
     record {
       law = record {
@@ -183,7 +196,8 @@ sound_stored w edit sound follows =
     }
 
 -- a sound world stays sound with the receipt of an edit that stands at its place
-sound_receipt : (w : World) (editor q place : ℕ) → IsSound w → StandsAt w.update.records editor q place → IsSound (with_receipt w editor q (Stored place))
+sound_receipt : (w : World) (editor q place : ℕ) → IsSound w → StandsAt w.update.records editor q place
+    → IsSound (with_receipt w editor q (Stored place))
 sound_receipt w editor q place sound stands = record {
   law = record {
     run = sound.law.run;
@@ -202,7 +216,8 @@ sound_receipt w editor q place sound stands = record {
 
 module _ (w : World) (editor q : ℕ) (wish : EditWish) (sound : IsSound w) where
   -- an edit that is answered at once is refused, or it is the last one again
-  sound_answered : (reply : UdcReply) → IsAnswered w.update.limits w.update.records editor q wish reply → IsSound (with_receipt w editor q (view_of reply))
+  sound_answered : (reply : UdcReply) → IsAnswered w.update.limits w.update.records editor q wish reply
+      → IsSound (with_receipt w editor q (view_of reply))
   sound_answered (replies.Stored place) answered = absurd answered
   sound_answered (replies.Again place) answered =
       let last = last_edit-there w.update.records editor q place answered in
@@ -217,7 +232,8 @@ module _ (w : World) (editor q : ℕ) (wish : EditWish) (sound : IsSound w) wher
     where
       full : (edit : Record) (reply : UdcReply) → judge w.update.limits w.update.records (Edit editor q wish) ≡ Store edit reply
           → (is_full : Bool) → leb w.update.limits.records (length w.update.records) ≡ is_full
-          → IsSound (with_verdict w editor q (cond is_full (record { stored = None; reply = Refused FULL (length w.update.records) }) (record { stored = Some edit; reply = view_of reply })))
+          → IsSound (with_verdict w editor q (cond is_full (record { stored = None; reply = Refused FULL (length w.update.records) })
+          (record { stored = Some edit; reply = view_of reply })))
       full edit reply is true how = sound
       full edit reply is false how =
           let edits = w.update.records in
@@ -237,7 +253,8 @@ module _ (w : World) (editor q : ℕ) (wish : EditWish) (sound : IsSound w) wher
 -- ---- send
 
 -- a sound world stays sound with a packet that carries the list's record of its number
-pub sound_packet : (w : World) (c number : ℕ) (edit : Record) → IsSound w → slice_get w.update.records number ≡ Some edit → IsSound (with_link w c (with_packet (link_at w c) number edit))
+pub sound_packet : (w : World) (c number : ℕ) (edit : Record) → IsSound w → slice_get w.update.records number ≡ Some edit
+    → IsSound (with_link w c (with_packet (link_at w c) number edit))
 sound_packet w c number edit sound is =
     let here = sound.links c in
     sound_with_link w c sound (with_packet (link_at w c) number edit) (record {
@@ -248,7 +265,8 @@ sound_packet w c number edit sound is =
 
 -- a sound world stays sound if the next record is packed, or there is none to pack
 sound_send : (w : World) (c : ℕ) → IsSound w → IsSound (step_of_send w c).0
-sound_send w c sound = choice IsSound (is_packets_full w.links) _ _ (λ _. sound) (λ _. numbered (number_to_send (link_at w c).sending (length w.update.records)))
+sound_send w c sound = choice IsSound (is_packets_full w.links) _ _ (λ _. sound)
+    (λ _. numbered (number_to_send (link_at w c).sending (length w.update.records)))
   where
     pack : (number : ℕ) (found : Option Record) → slice_get w.update.records number ≡ found → IsSound (step_of_packing w c number found).0
     pack number None is = sound
@@ -275,7 +293,8 @@ sound_acknowledged : (w : World) (c : ℕ) → IsSound w → IsSound (step_of_ac
 sound_acknowledged w c sound = choice IsSound (is_packets_full w.links) _ _ (λ _. sound) (λ _. sound_count w c sound)
 
 -- the record that comes next is one of the list's
-pub sound_applied : (w : World) (c : ℕ) (packet : Packet) → IsSound w → IsGenuine w.update.records packet → packet.number ≡ (centre_at w c).applied → IsSound (with_next_at w c)
+pub sound_applied : (w : World) (c : ℕ) (packet : Packet) → IsSound w → IsGenuine w.update.records packet
+    → packet.number ≡ (centre_at w c).applied → IsSound (with_next_at w c)
 sound_applied w c packet sound is next =
     let here = sound.links c in
     sound_with_centre w c sound _ (omega (arith, slice_get_within w.update.records packet.number packet.edit is, next)) (record {
@@ -292,20 +311,25 @@ taken_is_next applied limit number is = grind (arith, nat_tests)
 pub sound_deliver : (w : World) (c index : ℕ) → IsSound w → IsSound (step_of_deliver w c index).0
 sound_deliver w c index sound = arrives (slice_get (link_at w c).down index) refl
   where
-    by : (packet : Packet) (arrival : Arrival) → IsGenuine w.update.records packet → arrival_of (centre_at w c).applied w.update.limits.records packet.number ≡ arrival → IsSound (step_of_arrival w c packet.number arrival).0
-    by packet arrivals.Taken is how = sound_acknowledged (with_next_at w c) c (sound_applied w c packet sound is (taken_is_next (centre_at w c).applied w.update.limits.records packet.number how))
+    by : (packet : Packet) (arrival : Arrival) → IsGenuine w.update.records packet
+        → arrival_of (centre_at w c).applied w.update.limits.records packet.number ≡ arrival
+        → IsSound (step_of_arrival w c packet.number arrival).0
+    by packet arrivals.Taken is how = sound_acknowledged (with_next_at w c) c
+        (sound_applied w c packet sound is (taken_is_next (centre_at w c).applied w.update.limits.records packet.number how))
     by packet arrivals.Old is how = sound_acknowledged w c sound
     by packet arrivals.Early is how = sound_acknowledged w c sound
     by packet arrivals.Full is how = sound
 
     arrives : (found : Option Packet) → slice_get (link_at w c).down index ≡ found → IsSound (step_of_packet w c found).0
     arrives None is = sound
-    arrives (Some packet) is = by packet _ (all_get (IsGenuine w.update.records) (link_at w c).down index packet (sound.links c).packets is) refl
+    arrives (Some packet) is = by packet _ (all_get (IsGenuine w.update.records) (link_at w c).down index packet
+        (sound.links c).packets is) refl
 
 -- ---- back
 
 -- what an end heard of is no more than this if both were
-heard_within : (end : End) (front count most : ℕ) → end.acknowledged ≤ most → count ≤ most → (with_heard end front count).acknowledged ≤ most
+heard_within : (end : End) (front count most : ℕ) → end.acknowledged ≤ most → count ≤ most
+    → (with_heard end front count).acknowledged ≤ most
 heard_within end front count most old new = by (ltb end.acknowledged count && leb count front)
   where
     by : (test : Bool) → (cond test (record end { acknowledged = count }) end).acknowledged ≤ most

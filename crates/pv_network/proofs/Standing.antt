@@ -6,7 +6,7 @@ use Rattle.std.proofs.lemmas.List.{length-take-le, take_more, take-append-le, le
 use Rattle.std.proofs.lemmas.Option.{slice_get_within, get_or_from_slice_get}
 use Rattle.pv_edits.specs.declared.record.Record.{Record}
 use Rattle.pv_edits.specs.Room.{has_room}
-use Rattle.pv_udc.specs.EditList.{EditList, list_with}
+use Rattle.pv_udc.specs.EditList.{EditList, with_record}
 use Rattle.pv_udc.proofs.CallerLemmas.{has_room-judged}
 use Rattle.pv_editor.specs.declared.replies.UdcReplyView.{UdcReplyView}
 use Rattle.pv_editor.specs.declared.replies.UdcReplyView.TheVariants.{Stored, Refused}
@@ -68,8 +68,10 @@ module _ (s : State) (w : World) (stands : StandsFor s w) where
       (λ held centre stood. centre_longer w.update held centre stood edit) s.centres w.centres stands.centres
 
   -- another Update Centre, which has stored what the world's stored, leaves all else standing, whatever is acknowledged
-  pub request_stands : (editor q : ℕ) (stored : Option Record) (reply : UdcReplyView) (here : EditList) → here ≡ with_verdict w.update stored
-      → IsSound (with_receipt (with_edit w stored) editor q reply) → StandsFor (record s { update = here }) (with_receipt (with_edit w stored) editor q reply)
+  pub request_stands : (editor q : ℕ) (stored : Option Record) (reply : UdcReplyView) (here : EditList)
+      → here ≡ with_verdict w.update stored
+      → IsSound (with_receipt (with_edit w stored) editor q reply)
+      → StandsFor (record s { update = here }) (with_receipt (with_edit w stored) editor q reply)
   request_stands editor q None (Stored place) here is sound = record { sound = sound; update = is; centres = stands.centres; links = stands.links }
   request_stands editor q None (Refused code shown) here is sound = record { sound = sound; update = is; centres = stands.centres; links = stands.links }
   request_stands editor q (Some edit) (Stored place) here is sound = record { sound = sound; update = is; centres = longer edit; links = stands.links }
@@ -93,5 +95,6 @@ module _ (s : State) (w : World) (stands : StandsFor s w) where
     }
 
     -- another link in the place of one leaves all else standing
-    pub link_replaced : (links : List Link) (link : Link) → links ≡ set w.links c link → IsSound (with_link w c link) → StandsFor (record s { links = links }) (with_link w c link)
+    pub link_replaced : (links : List Link) (link : Link) → links ≡ set w.links c link → IsSound (with_link w c link)
+        → StandsFor (record s { links = links }) (with_link w c link)
     link_replaced links link is sound = record { sound = sound; update = stands.update; centres = stands.centres; links = is }

@@ -10,7 +10,8 @@ use Rattle.pv_network.specs.World.{World, Receipt}
 
 -- the number of an edit is one more than how many edits of its editor come before it
 abbrev pub IsNextOfEditor : List Record → Record → Type 0
-IsNextOfEditor before edit = (editor : ℕ) → IsTrue (is_edit_of editor edit) → number_in edit ≡ Some (count_by (is_edit_of editor) before + 1)
+IsNextOfEditor before edit = (editor : ℕ) → IsTrue (is_edit_of editor edit)
+    → number_in edit ≡ Some (count_by (is_edit_of editor) before + 1)
 
 -- so the edits of each editor have the numbers 1, 2, 3 and on, in order
 abbrev pub HasNumbersInOrder : List Record → Type 0

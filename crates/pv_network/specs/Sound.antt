@@ -5,7 +5,7 @@ use Rattle.pv_network.specs.declared.packet.Packet.{Packet}
 use Rattle.pv_edits.specs.declared.record.Record.{Record}
 use Rattle.pv_edits.specs.Edits.{is_edit_of}
 use Rattle.pv_edits.specs.Room.{frame_count}
-use Rattle.pv_udc.specs.Judgement.{wanted_number}
+use Rattle.pv_udc.specs.Judgement.{next_number}
 use Rattle.pv_network.specs.Centre.{Centre}
 use Rattle.pv_network.specs.Link.{Link}
 use Rattle.pv_network.specs.OneList.{OneList}

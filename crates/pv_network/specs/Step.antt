@@ -10,7 +10,7 @@ use Rattle.pv_edits.specs.declared.room.TheConstants.{OPERATOR}
 use Rattle.pv_edits.specs.declared.wish.EditWish.{EditWish}
 use Rattle.pv_edits.specs.declared.wish.EditWish.TheVariants.{Put}
 use Rattle.pv_edits.specs.Edits.{frame_at}
-use Rattle.pv_udc.specs.Judgement.{wanted_number}
+use Rattle.pv_udc.specs.Judgement.{next_number}
 use Rattle.pv_udc.specs.declared.request.UdcRequest.TheVariants.{Edit}
 use Rattle.pv_editor.specs.Replies.{reply_of}
 use Rattle.pv_network.specs.declared.packet.Packet.{Packet}
@@ -60,7 +60,11 @@ step_of_view w c name = (w, view_answer name (frame_at (page_base w c) name))
 -- the record of a number is packed, if the list has one there
 abbrev pub step_of_packing : World → ℕ → ℕ → Option Record → World × Outcome
 step_of_packing w c number None = (w, outcomes.Idle)
-step_of_packing w c number (Some edit) = (with_link w c (with_packet (link_at w c) number edit), outcomes.SentRecord (length (link_at w c).down) number)
+step_of_packing w c number (Some edit) = (
+  with_link w c (with_packet (link_at w c) number edit),
+  outcomes.SentRecord
+      (length (link_at w c).down) number,
+)
 
 -- the record of the number that is sent next is packed, if there is such a number
 abbrev pub step_of_number : World → ℕ → Option ℕ → World × Outcome
@@ -95,7 +99,8 @@ step_of_arrival w c number arrivals.Full = (w, outcomes.Full (centre_at w c).app
 -- a packet that was made arrives
 abbrev pub step_of_packet : World → ℕ → Option Packet → World × Outcome
 step_of_packet w c None = (w, outcomes.NoPacket)
-step_of_packet w c (Some packet) = step_of_arrival w c packet.number (arrival_of (centre_at w c).applied w.update.limits.records packet.number)
+step_of_packet w c (Some packet) = step_of_arrival w c packet.number
+    (arrival_of (centre_at w c).applied w.update.limits.records packet.number)
 
 -- the packet of an index arrives at a centre
 abbrev pub step_of_deliver : World → ℕ → ℕ → World × Outcome

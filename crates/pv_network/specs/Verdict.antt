@@ -4,7 +4,7 @@ use Rattle.pv_outside.specs.declared.limits.Limits.{Limits}
 use Rattle.pv_edits.specs.declared.record.Record.{Record}
 use Rattle.pv_node.specs.declared.decision.Decision.{Decision}
 use Rattle.pv_node.specs.declared.decision.Decision.TheVariants.{Answer, Store}
-use Rattle.pv_udc.specs.EditList.{EditList, list_with}
+use Rattle.pv_udc.specs.EditList.{EditList, with_record}
 use Rattle.pv_udc.specs.Judgement.{judge}
 use Rattle.pv_udc.specs.declared.reply.UdcReply.{UdcReply}
 use Rattle.pv_udc.specs.declared.reply.UdcReply.TheVariants.{Stored, Again, Old, Early, Refused}

@@ -2,7 +2,7 @@
 use Rattle.std.specs.Prelude.{ℕ, Option, Some, None, List, [], ◌∷◌, ◌++◌, length, take, replicate, slice_index_or, slice_set}
 use Rattle.pv_outside.specs.declared.limits.Limits.{Limits}
 use Rattle.pv_edits.specs.declared.record.Record.{Record}
-use Rattle.pv_udc.specs.EditList.{EditList, empty_list, list_with}
+use Rattle.pv_udc.specs.EditList.{EditList, empty_list, with_record}
 use Rattle.pv_editor.specs.declared.replies.UdcReplyView.{UdcReplyView}
 use Rattle.pv_editor.specs.declared.replies.UdcReplyView.TheVariants.{Stored, Refused}
 use Rattle.pv_network.specs.Centre.{Centre, new_centre}

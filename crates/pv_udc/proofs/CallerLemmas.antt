@@ -15,7 +15,7 @@ use Rattle.pv_node.specs.declared.decision.Decision.{Decision}
 use Rattle.pv_node.specs.declared.decision.Decision.TheVariants.{Answer, Store}
 use Rattle.pv_udc.specs.EditList.{all_places}
 use Rattle.pv_udc.specs.Requests.{IsRequest, HasCentre, edit_of, record_of}
-use Rattle.pv_udc.specs.Judgement.{last_edit, wanted_number, kept_place, editor_refusal, refusal_of, reply_to, answers_of, decision_of, judge}
+use Rattle.pv_udc.specs.Judgement.{last_edit, next_number, kept_place, editor_refusal, refusal_of, reply_to, answers_of, decision_of, judge}
 use Rattle.pv_udc.specs.declared.refusal.Refusal.{Refusal}
 use Rattle.pv_udc.specs.declared.reply.UdcReply.{UdcReply}
 use Rattle.pv_udc.specs.declared.reply.UdcReply.TheVariants.{Stored, Again, Old, Early, Refused}
@@ -23,7 +23,6 @@ use Rattle.pv_udc.specs.declared.request.UdcRequest.{UdcRequest}
 use Rattle.pv_udc.specs.declared.request.UdcRequest.TheVariants.{Edit, TakeUp}
 use Rattle.pv_udc.proofs.Deciding.{is_done, is_stored, numbered}
 use Rattle.pv_udc.proofs.Numbering.{is_edit_of-wish, number_in-wish}
-
 -- there is room for it
 pub use Rattle.pv_udc.proofs.Rooms.{has_room-judged}
 -- one record more is its editor's last edit, and no other's
@@ -46,12 +45,12 @@ or_none (Some p) = p
 
 -- its number is its editor's next
 pub next-judged : (limits : Limits) (records : List Record) (request : UdcRequest) (edit : Record) (reply : UdcReply)
-    → judge limits records request ≡ Store edit reply → (e : ℕ) → is_edit_of e edit ≡ true → number_in edit ≡ Some (wanted_number records e)
+    → judge limits records request ≡ Store edit reply → (e : ℕ) → is_edit_of e edit ≡ true → number_in edit ≡ Some (next_number records e)
 next-judged limits records (Edit editor q wish) edit reply is e his =
     let done = is_done limits records editor q wish edit reply is in
     let same : e ≡ editor = eqb-true e editor (sym (is_edit_of-wish e editor q wish) ∙ ap (is_edit_of e) done.edit_is ∙ his) in
     ap number_in (sym done.edit_is) ∙ number_in-wish editor q wish ∙ ap Some (numbered limits records editor q wish done.not_refused)
-    ∙ ap (λ (n : ℕ). Some (wanted_number records n)) (sym same)
+    ∙ ap (λ (n : ℕ). Some (next_number records n)) (sym same)
 next-judged limits records (TakeUp centre k item) edit reply is e his =
     let asked = record_of (TakeUp centre k item) in
     let answer = first_of (answers_of limits records (TakeUp centre k item)) in
@@ -80,7 +79,8 @@ module _ (limits : Limits) (records : List Record) (editor q : ℕ) (wish : Edit
         reply_is = by (first_of (answers_of limits records (Edit editor q wish))) is;
       }
     where
-      by : (answer : Option UdcReply) → decision_of answer (edit_of editor q wish) (length records) ≡ Store edit reply → reply ≡ Stored (length records)
+      by : (answer : Option UdcReply) → decision_of answer (edit_of editor q wish) (length records) ≡ Store edit reply
+          → reply ≡ Stored (length records)
       by None stored = sym (ap (reply_or reply) stored)
       by (Some other) stored = absurd cc
 
@@ -108,7 +108,8 @@ module _ (limits : Limits) (records : List Record) (editor q : ℕ) (wish : Edit
     where
       by : (known : Option Refusal) (kept : Option ℕ) (fault : Option Refusal)
           → ((place : ℕ) → kept ≡ Some place → last_edit records editor ≡ Some (q, place))
-          → decision_of (first_of (option_map reply_to known ∷ option_map Again kept ∷ option_map reply_to fault ∷ [])) (edit_of editor q wish) (length records) ≡ Answer reply
+          → decision_of (first_of (option_map reply_to known ∷ option_map Again kept ∷ option_map reply_to fault ∷ []))
+          (edit_of editor q wish) (length records) ≡ Answer reply
           → IsAnswered reply
       by (Some refusal) kept fault last answered = subst IsAnswered (ap (reply_or reply) answered) tt
       by None (Some place) fault last answered = subst IsAnswered (ap (reply_or reply) answered) (last place refl)
@@ -118,12 +119,15 @@ module _ (limits : Limits) (records : List Record) (editor q : ℕ) (wish : Edit
 -- ---- an editor's last edit
 
 -- the record at the last index passes
-last_index-passed : (test : Record → Bool) (records : List Record) (i : ℕ) (edit : Record) → last_index test records ≡ Some i → slice_get records i ≡ Some edit
+last_index-passed : (test : Record → Bool) (records : List Record) (i : ℕ) (edit : Record) → last_index test records ≡ Some i
+    → slice_get records i ≡ Some edit
     → test edit ≡ true
 last_index-passed test [] i edit last is = absurd cc
-last_index-passed test (first ∷ later) i edit last is = by (test first) refl (last_index test later) (λ k found. last_index-passed test later k edit found) last
+last_index-passed test (first ∷ later) i edit last is = by (test first) refl (last_index test later)
+    (λ k found. last_index-passed test later k edit found) last
   where
-    by : (passes : Bool) → test first ≡ passes → (found : Option ℕ) → ((k : ℕ) → found ≡ Some k → slice_get later k ≡ Some edit → test edit ≡ true)
+    by : (passes : Bool) → test first ≡ passes → (found : Option ℕ)
+        → ((k : ℕ) → found ≡ Some k → slice_get later k ≡ Some edit → test edit ≡ true)
         → later_or_first passes found ≡ Some i → test edit ≡ true
     by passes how (Some k) later_one at =
         let next : suc k ≡ i = cc in
@@ -142,7 +146,8 @@ pub record IsThere (records : List Record) (editor q place : ℕ) : Type 0 where
   pub his : is_edit_of editor edit ≡ true
   pub numbered : number_in edit ≡ Some q
 
-pub last_edit-there : (records : List Record) (editor q place : ℕ) → last_edit records editor ≡ Some (q, place) → IsThere records editor q place
+pub last_edit-there : (records : List Record) (editor q place : ℕ) → last_edit records editor ≡ Some (q, place)
+    → IsThere records editor q place
 last_edit-there records editor q place is = by (last_index (is_edit_of editor) records) refl is
   where
     named : (edit : Record) (number : Option ℕ) (at : ℕ) → placed at number ≡ pair q place → (number ≡ Some q) × (at ≡ place)
@@ -159,7 +164,8 @@ last_edit-there records editor q place is = by (last_index (is_edit_of editor) r
     found i edit (Some p) last here at is =
         let both = named edit (number_in edit) p is in
         let within : i < length records = slice_get_within records i edit here in
-        let index : p ≡ i = sym (get_or_from_slice_get (all_places records) i p 0 at) ∙ get_or-range_with_len 0 (length records) i 0 within ∙ (let none : 0 + i ≡ i = omega arith in none) in
+        let index : p ≡ i = sym (get_or_from_slice_get (all_places records) i p 0 at)
+        ∙ get_or-range_with_len 0 (length records) i 0 within ∙ (let none : 0 + i ≡ i = omega arith in none) in
         record {
           edit = edit;
           there = ap (slice_get records) (sym both.1 ∙ index) ∙ here;

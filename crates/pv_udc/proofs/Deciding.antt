@@ -11,7 +11,7 @@ use Rattle.pv_edits.specs.declared.wish.EditWish.TheVariants.{Put, Drop, Account
 use Rattle.pv_node.specs.declared.decision.Decision.{Decision}
 use Rattle.pv_node.specs.declared.decision.Decision.TheVariants.{Answer, Store}
 use Rattle.pv_udc.specs.Requests.{edit_of}
-use Rattle.pv_udc.specs.Judgement.{wanted_number, kept_place, editor_refusal, number_refusal, refusals_of, refusal_of, reply_to, answers_of, decision_of, judge}
+use Rattle.pv_udc.specs.Judgement.{next_number, kept_place, editor_refusal, number_refusal, refusals_of, refusal_of, reply_to, answers_of, decision_of, judge}
 use Rattle.pv_udc.specs.declared.refusal.Refusal.TheVariants.{NotLoggedOn, BadNumber}
 use Rattle.pv_udc.specs.declared.reply.UdcReply.{UdcReply}
 use Rattle.pv_udc.specs.declared.reply.UdcReply.TheVariants.{Again}
@@ -70,10 +70,10 @@ module _ (limits : Limits) (records : List Record) (editor q : ℕ) where
       }
 
   -- then its number is the editor's next
-  is_next : number_refusal records editor q ≡ None → q ≡ wanted_number records editor
-  is_next none = eqb-true _ _ (of_not _ (some_if-none _ (BadNumber (wanted_number records editor)) none))
+  is_next : number_refusal records editor q ≡ None → q ≡ next_number records editor
+  is_next none = eqb-true _ _ (of_not _ (some_if-none _ (BadNumber (next_number records editor)) none))
 
-  pub numbered : (wish : EditWish) → refusal_of limits records editor q wish ≡ None → q ≡ wanted_number records editor
+  pub numbered : (wish : EditWish) → refusal_of limits records editor q wish ≡ None → q ≡ next_number records editor
   numbered (Put name frame) none = is_next (all_none (refusals_of limits records editor q (Put name frame)) none).1.0
   numbered (Drop name) none = is_next (all_none (refusals_of limits records editor q (Drop name)) none).1.0
   numbered (Account account) none = is_next (all_none (refusals_of limits records editor q (Account account)) none).0

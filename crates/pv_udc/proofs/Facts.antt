@@ -14,7 +14,7 @@ use Rattle.pv_edits.specs.declared.down.DownRecord.TheVariants.{Whole, Blank}
 use Rattle.pv_edits.specs.declared.wish.EditWish.TheVariants as wishes
 use Rattle.pv_node.specs.declared.decision.Decision.TheVariants.{Answer, Store}
 use Rattle.pv_udc.specs.Codes.{code_of}
-use Rattle.pv_udc.specs.Judgement.{last_edit, wanted_number, judge}
+use Rattle.pv_udc.specs.Judgement.{last_edit, next_number, judge}
 use Rattle.pv_udc.specs.Numbers.{numbers_of, from_one}
 use Rattle.pv_udc.specs.Replies.{down_of, reply_place}
 use Rattle.pv_udc.specs.declared.refusal.Refusal.TheVariants.{BadNumber, BadFrame}
@@ -105,7 +105,7 @@ module _ (limits : Limits) where
 pub last-edit : last_edit (put_1a ∷ Drop 7 1 page_1a ∷ Drop 0 2 page_1a ∷ []) 0 ≡ Some (2, 2)
 last-edit = refl
 
-pub next-number : wanted_number (put_1a ∷ Drop 7 1 page_1a ∷ Drop 0 2 page_1a ∷ []) 0 ≡ 3
+pub next-number : next_number (put_1a ∷ Drop 7 1 page_1a ∷ Drop 0 2 page_1a ∷ []) 0 ≡ 3
 next-number = refl
 
 pub numbers-of_one : numbers_of 0 (put_1a ∷ Drop 7 1 page_1a ∷ Drop 0 2 page_1a ∷ []) ≡ 1 ∷ 2 ∷ []

@@ -32,7 +32,8 @@ pub taken_of-push : (records : List Record) (edit : Record) (centre : ℕ)
 taken_of-push records edit centre = count_by-push (is_of_centre centre) records edit
 
 -- the places of one record more
-pub all_places-push : (records : List Record) (edit : Record) → all_places (records ++ edit ∷ []) ≡ all_places records ++ length records ∷ []
+pub all_places-push : (records : List Record) (edit : Record)
+    → all_places (records ++ edit ∷ []) ≡ all_places records ++ length records ∷ []
 all_places-push records edit =
     let more : length (records ++ edit ∷ []) ≡ suc (length records) = omega (arith, length-append records (edit ∷ [])) in
     let last : 0 + length records ≡ length records = omega arith in

@@ -11,7 +11,7 @@ use Rattle.pv_edits.specs.declared.wish.EditWish.{EditWish}
 use Rattle.pv_edits.specs.declared.wish.EditWish.TheVariants.{Put, Drop, Account, Lease}
 use Rattle.pv_node.specs.declared.decision.Decision.TheVariants.{Store}
 use Rattle.pv_udc.specs.Requests.{edit_of, record_of}
-use Rattle.pv_udc.specs.Judgement.{wanted_number, answers_of, judge}
+use Rattle.pv_udc.specs.Judgement.{next_number, answers_of, judge}
 use Rattle.pv_udc.specs.Numbers.{IsJudgedRun, number_by, numbers_of, from_one}
 use Rattle.pv_udc.specs.declared.reply.UdcReply.{UdcReply}
 use Rattle.pv_udc.specs.declared.request.UdcRequest.{UdcRequest}
@@ -37,7 +37,7 @@ module _ (editor : ℕ) where
   -- the editor's numbers are 1, 2, 3 and on, and his next number is the next of these
   record Counts (records : List Record) : Type 0 where
     pub from : numbers_of editor records ≡ from_one (length (numbers_of editor records))
-    pub next : wanted_number records editor ≡ length (numbers_of editor records) + 1
+    pub next : next_number records editor ≡ length (numbers_of editor records) + 1
 
   -- at first there is none
   nothing : Counts []
@@ -56,7 +56,7 @@ module _ (editor : ℕ) where
 
   -- his next edit has the next number
   his : (records : List Record) (edit : Record) (q : ℕ) → is_edit_of editor edit ≡ true → number_in edit ≡ Some q
-      → q ≡ wanted_number records editor → Counts records → Counts (records ++ edit ∷ [])
+      → q ≡ next_number records editor → Counts records → Counts (records ++ edit ∷ [])
   his records edit q is numbered next counts =
       let some : number_by editor edit ≡ Some q = rw is numbered in
       let more : numbers_of editor (records ++ edit ∷ []) ≡ numbers_of editor records ++ q ∷ [] =
@@ -72,10 +72,10 @@ module _ (editor : ℕ) where
 
   -- an edit that is stored, whether it is his or not
   wished : (records : List Record) (other q : ℕ) (wish : EditWish) (test : Bool) → (editor == other) ≡ test
-      → q ≡ wanted_number records other → Counts records → Counts (records ++ edit_of other q wish ∷ [])
+      → q ≡ next_number records other → Counts records → Counts (records ++ edit_of other q wish ∷ [])
   wished records other q wish true is next counts =
       his records (edit_of other q wish) q (is_edit_of-wish editor other q wish ∙ is) (number_in-wish other q wish)
-      (next ∙ ap (wanted_number records) (sym (eqb-true editor other is))) counts
+      (next ∙ ap (next_number records) (sym (eqb-true editor other is))) counts
   wished records other q wish false is next counts =
       others records (edit_of other q wish) (is_edit_of-wish editor other q wish ∙ is) counts
 

@@ -51,7 +51,8 @@ module _ (limits : Limits) (records : List Record) (editor q : ℕ) where
 
 module _ (limits : Limits) (records : List Record) where
   -- what a request asks for that is stored
-  asked_is : (centre k : ℕ) (item : Item) (edit : Record) (reply : UdcReply) → judge limits records (TakeUp centre k item) ≡ Store edit reply
+  asked_is : (centre k : ℕ) (item : Item) (edit : Record) (reply : UdcReply)
+      → judge limits records (TakeUp centre k item) ≡ Store edit reply
       → record_of (TakeUp centre k item) ≡ edit
   asked_is centre k item edit reply is =
       (is_stored (first_of (answers_of limits records (TakeUp centre k item))) _ edit (length records) reply is).1

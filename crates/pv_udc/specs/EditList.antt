@@ -16,8 +16,8 @@ abbrev pub empty_list : Limits → EditList
 empty_list limits = record { limits = limits; records = [] }
 
 -- with one record more
-abbrev pub list_with : EditList → Record → EditList
-list_with list edit = record list { records = list.records ++ edit ∷ [] }
+abbrev pub with_record : EditList → Record → EditList
+with_record list edit = record list { records = list.records ++ edit ∷ [] }
 
 -- the places of the records: 0, 1, 2 and on
 abbrev pub all_places : List Record → List ℕ

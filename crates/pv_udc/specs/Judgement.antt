@@ -33,8 +33,8 @@ abbrev pub last_edit : List Record → ℕ → Option (ℕ × ℕ)
 last_edit records editor = last_of records (all_places records) editor
 
 -- the number of his next edit: one more than his last, and 1 at first
-abbrev pub wanted_number : List Record → ℕ → ℕ
-wanted_number records editor = option_map_or (λ last. last.0) (last_edit records editor) 0 + 1
+abbrev pub next_number : List Record → ℕ → ℕ
+next_number records editor = option_map_or (λ last. last.0) (last_edit records editor) 0 + 1
 
 -- the place of his last edit, if it has this number
 abbrev pub kept_place : List Record → ℕ → ℕ → Option ℕ
@@ -52,7 +52,7 @@ owner_refusal records editor name = some_if (not (owner_of records name.page == 
 
 -- the number is not his next
 abbrev pub number_refusal : List Record → ℕ → ℕ → Option Refusal
-number_refusal records editor q = some_if (not (q == wanted_number records editor)) (BadNumber (wanted_number records editor))
+number_refusal records editor q = some_if (not (q == next_number records editor)) (BadNumber (next_number records editor))
 
 -- there is no such frame
 abbrev pub missing_refusal : List Record → Name → Option Refusal

@@ -4,7 +4,7 @@ ghost use Rattle.pv_fields.specs.Refusals.{first_of, unless};
 ghost use Rattle.pv_edits.specs.Taken.{IsCentre};
 ghost use Rattle.pv_edits.specs.declared.wish.EditWish.TheVariants as wishes;
 ghost use Rattle.pv_udc.specs.Requests.{HasCentre, edit_of};
-ghost use Rattle.pv_udc.specs.Judgement.{wanted_number, kept_place, owner_refusal, number_refusal, missing_refusal, frames_refusal, accounts_refusal, frame_refusal, operator_refusal, leases_refusal, account_refusal, refusal_of, judge};
+ghost use Rattle.pv_udc.specs.Judgement.{next_number, kept_place, owner_refusal, number_refusal, missing_refusal, frames_refusal, accounts_refusal, frame_refusal, operator_refusal, leases_refusal, account_refusal, refusal_of, judge};
 ghost use Rattle.pv_udc.specs.declared.request.UdcRequest.TheVariants as requests;
 
 use crate::refusal::Refusal;
@@ -84,8 +84,8 @@ impl UdcState {
     }
 
     /// The editor's next number: one more than his last, and 1 at first.
-    pub fn wanted_number(&self, editor: AccountNo) -> u64
-        ensures { result ≡ wanted_number self.now.records editor }
+    pub fn next_number(&self, editor: AccountNo) -> u64
+        ensures { result ≡ next_number self.now.records editor }
     {
         match self.last(editor) {
             Some((last, _)) => u64::from(last) + 1,
@@ -195,7 +195,7 @@ impl UdcState {
         ensures ok { OnOk result (number_refusal self.now.records editor q ≡ None) }
         ensures err { IfErr result (λ refusal. number_refusal self.now.records editor q ≡ Some refusal) }
     {
-        let wanted = self.wanted_number(editor);
+        let wanted = self.next_number(editor);
         if u64::from(q) == wanted {
             Ok(())
         } else {

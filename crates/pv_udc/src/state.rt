@@ -39,7 +39,7 @@ impl Model for UdcState {
 
 impl UdcState {
     ghost use Rattle.pv_edits.specs.Standing.{IsBaseOf};
-    ghost use Rattle.pv_udc.specs.EditList.{empty_list, list_with, all_places};
+    ghost use Rattle.pv_udc.specs.EditList.{empty_list, with_record, all_places};
     ghost use Rattle.pv_udc.specs.Judgement.{last_edit};
     ghost use Rattle.pv_udc.specs.Replies.{brings_reply_to, reply_place};
 
@@ -68,7 +68,7 @@ impl UdcState {
         requires room { IsTrue (has_room self.old.limits self.old.records rec.now) }
         requires next { place ≡ length self.old.records }
         requires within { place < self.old.limits.records }
-        ensures { self.new ≡ list_with self.old rec.now }
+        ensures { self.new ≡ with_record self.old rec.now }
     {
         self.base.absorb(rec, place);
         self.count += 1;

@@ -5,4 +5,5 @@ use Rattle.pv_network.proofs.verdict.store.Goals as goal
 -- there is room for what is stored
 pub absorb-requires-clause-room : goal.absorb-requires-clause-room
 absorb-requires-clause-room c =
-    has_room-judged c.args.update.now.limits c.args.update.now.records c.args.request.now c.in-Store.record c.in-Store.reply (sym c.in-Store.ensures)
+    has_room-judged c.args.update.now.limits c.args.update.now.records c.args.request.now c.in-Store.record c.in-Store.reply
+    (sym c.in-Store.ensures)

@@ -9,4 +9,5 @@ returns c =
     let packets = c.self.inside.packets.items in
     let links = c.self.inside.links.items in
     let there = rw (← c.self.view_is) at c.requires in
-    rw (← c.self.view_is, c.hear.ensures, link_read packets links c.args.link there c.index_mut.result.now c.index_mut.ensures.value) (map-set (link_of packets) links c.args.link _)
+    rw (← c.self.view_is, c.hear.ensures, link_read packets links c.args.link there c.index_mut.result.now c.index_mut.ensures.value)
+    (map-set (link_of packets) links c.args.link _)

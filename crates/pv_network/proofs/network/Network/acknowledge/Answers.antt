@@ -15,10 +15,12 @@ before c =
 
 -- the link has one acknowledgement more
 made : (c : After-acknowledge) (w : World) → StandsFor (before c) w
-    → StandsFor (record (before c) { links = c.acknowledge.new.self }) (step_of_acknowledging w c.args.centre).0 × (Some c.acknowledge.result ≡ (step_of_acknowledging w c.args.centre).1)
+    → StandsFor (record (before c) { links = c.acknowledge.new.self }) (step_of_acknowledging w c.args.centre).0 ×
+    (Some c.acknowledge.result ≡ (step_of_acknowledging w c.args.centre).1)
 made c w stands =
     acknowledges _ w stands c.args.centre c.index.result.now (rw (← c.self.view_is) at c.requires) c.index.ensures
-    c.acknowledge.new.self c.acknowledge.result (sym c.if-is_full.ensures) c.acknowledge.ensures.index (rw c.count.ensures.value at c.acknowledge.ensures.made)
+    c.acknowledge.new.self c.acknowledge.result (sym c.if-is_full.ensures) c.acknowledge.ensures.index
+    (rw c.count.ensures.value at c.acknowledge.ensures.made)
 
 pub invariant_of-self : goal.invariant_of-self
 invariant_of-self c =

@@ -16,9 +16,11 @@ before c =
 
 -- the link's end hears it
 heard : (c : After-hear) (w : World) → StandsFor (before c) w
-    → StandsFor (record (before c) { links = c.hear.new.self }) (step_of_back w c.args.centre c.args.index).0 × (Heard c.in-Some.number ≡ (step_of_back w c.args.centre c.args.index).1)
+    → StandsFor (record (before c) { links = c.hear.new.self }) (step_of_back w c.args.centre c.args.index).0 ×
+    (Heard c.in-Some.number ≡ (step_of_back w c.args.centre c.args.index).1)
 heard c w stands =
-    hears _ w stands c.args.centre c.hear.new.self c.front.result c.in-Some.number c.args.index c.front.ensures.value (sym c.in-Some.ensures) c.hear.ensures
+    hears _ w stands c.args.centre c.hear.new.self c.front.result c.in-Some.number c.args.index c.front.ensures.value
+    (sym c.in-Some.ensures) c.hear.ensures
 
 pub invariant_of-self : goal.invariant_of-self
 invariant_of-self c =

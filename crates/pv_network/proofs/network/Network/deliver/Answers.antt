@@ -13,7 +13,8 @@ use Rattle.pv_network.proofs.network.Network.deliver.Goals as goal
 use Rattle.pv_network.proofs.network.Network.deliver.Goals.{After-arrival, After-take}
 
 -- what the centre makes of the packet
-arrives : (c : After-arrival) (arrival : Arrival) → c.arrival.result ≡ arrival → (w : World) → StandsFor c.args.self.now w → step_of_deliver w c.args.centre c.args.index ≡ step_of_arrival w c.args.centre c.in-Some.packet.now.number arrival
+arrives : (c : After-arrival) (arrival : Arrival) → c.arrival.result ≡ arrival → (w : World) → StandsFor c.args.self.now w
+    → step_of_deliver w c.args.centre c.args.index ≡ step_of_arrival w c.args.centre c.in-Some.packet.now.number arrival
 arrives c arrival is w stands =
     delivers _ w (rw (← c.self.view_is) at stands) c.args.centre c.index.result.now (rw (← c.self.view_is) at c.requires) c.index.ensures
     c.args.index c.in-Some.packet.now (sym c.in-Some.ensures) arrival (sym c.arrival.ensures ∙ is)
@@ -21,16 +22,19 @@ arrives c arrival is w stands =
 pub returns-in-Old-clause-performs : goal.returns-in-Old-clause-performs
 returns-in-Old-clause-performs c = λ w stands.
     let heard = c.acknowledge-ack-in-Old.ensures.performs w stands in
-    rw (arrives (goal.at.returns-in-Old-clause-performs c).After-arrival arrivals.Old c.in-Old.is w stands) (heard.0, ap (Old c.in-Some.packet.now.number) heard.1)
+    rw (arrives (goal.at.returns-in-Old-clause-performs c).After-arrival arrivals.Old c.in-Old.is w stands)
+    (heard.0, ap (Old c.in-Some.packet.now.number) heard.1)
 
 pub returns-in-Early-clause-performs : goal.returns-in-Early-clause-performs
 returns-in-Early-clause-performs c = λ w stands.
     let heard = c.acknowledge-ack-in-Early.ensures.performs w stands in
-    rw (arrives (goal.at.returns-in-Early-clause-performs c).After-arrival arrivals.Early c.in-Early.is w stands) (heard.0, ap (Early c.in-Some.packet.now.number) heard.1)
+    rw (arrives (goal.at.returns-in-Early-clause-performs c).After-arrival arrivals.Early c.in-Early.is w stands)
+    (heard.0, ap (Early c.in-Some.packet.now.number) heard.1)
 
 pub returns-in-Full-clause-performs : goal.returns-in-Full-clause-performs
 returns-in-Full-clause-performs c = λ w stands.
-    let stood = centre_stands _ w (rw (← c.self.view_is) at stands) c.args.centre c.index-in-Full.result.now (rw (← c.self.view_is) at c.requires) c.index-in-Full.ensures in
+    let stood = centre_stands _ w (rw (← c.self.view_is) at stands) c.args.centre c.index-in-Full.result.now
+    (rw (← c.self.view_is) at c.requires) c.index-in-Full.ensures in
     rw (arrives (goal.at.returns-in-Full-clause-performs c).After-arrival arrivals.Full c.in-Full.is w stands)
     (stands, ap Full (c.count-count.ensures.value ∙ centre_count w.update _ (centre_at w c.args.centre) stood))
 
@@ -45,14 +49,17 @@ pub take-requires-clause-room : goal.take-requires-clause-room
 take-requires-clause-room c =
     let stands = c.self.invariant.1 in
     room_there _ stands.0 stands.1 c.args.centre c.index.result.now (rw (← c.self.view_is) at c.requires) c.index.ensures
-    c.args.index c.in-Some.packet.now (sym c.in-Some.ensures) arrivals.Taken (sym c.in-Taken.ensures) refl c.index_mut.result.now c.index_mut.ensures.value
+    c.args.index c.in-Some.packet.now (sym c.in-Some.ensures) arrivals.Taken
+    (sym c.in-Taken.ensures) refl c.index_mut.result.now c.index_mut.ensures.value
 
 -- it takes the record
 taken : (c : After-take) (w : World) → StandsFor (before c) w
-    → StandsFor (record (before c) { centres = slice_set c.self.inside.centres.items c.args.centre c.take.new.self }) (with_next_at w c.args.centre)
+    → StandsFor (record (before c) { centres = slice_set c.self.inside.centres.items c.args.centre c.take.new.self })
+    (with_next_at w c.args.centre)
 taken c w stands =
     takes _ w stands c.args.centre c.index.result.now (rw (← c.self.view_is) at c.requires) c.index.ensures
-    c.args.index c.in-Some.packet.now (sym c.in-Some.ensures) arrivals.Taken (sym c.in-Taken.ensures) refl c.index_mut.result.now c.index_mut.ensures.value
+    c.args.index c.in-Some.packet.now (sym c.in-Some.ensures) arrivals.Taken
+    (sym c.in-Taken.ensures) refl c.index_mut.result.now c.index_mut.ensures.value
     c.take.new.self c.take.ensures
 
 pub invariant_of-self : goal.invariant_of-self
@@ -66,4 +73,5 @@ pub returns-in-Taken-clause-performs : goal.returns-in-Taken-clause-performs
 returns-in-Taken-clause-performs c = λ w stands.
     let next = taken (goal.at.returns-in-Taken-clause-performs c).After-take w (rw (← c.self.view_is) at stands) in
     let heard = c.acknowledge-ack.ensures.performs (with_next_at w c.args.centre) next in
-    rw (arrives (goal.at.returns-in-Taken-clause-performs c).After-arrival arrivals.Taken c.in-Taken.is w stands) (heard.0, ap (Taken c.in-Some.packet.now.number) heard.1)
+    rw (arrives (goal.at.returns-in-Taken-clause-performs c).After-arrival arrivals.Taken c.in-Taken.is w stands)
+    (heard.0, ap (Taken c.in-Some.packet.now.number) heard.1)

@@ -3,7 +3,7 @@ use Rattle.std.specs.List.{count_by}
 use Rattle.std.proofs.lemmas.List.Sums.{count_by-le-length}
 use Rattle.pv_edits.specs.declared.room.TheConstants.{OPERATOR}
 use Rattle.pv_edits.specs.Edits.{is_edit_of}
-use Rattle.pv_udc.specs.Judgement.{wanted_number}
+use Rattle.pv_udc.specs.Judgement.{next_number}
 use Rattle.pv_network.specs.Step.{seeded_frame}
 use Rattle.pv_network.proofs.network.Network.seed.Goals as goal
 

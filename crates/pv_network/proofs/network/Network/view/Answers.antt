@@ -13,13 +13,15 @@ compose-requires c = HasRanges-valid c.in-Some.frame.now c.in-Some.ensures.valid
 -- the centre has the frame
 pub returns-in-Some : goal.returns-in-Some
 returns-in-Some c = λ w stands.
-    let here = centre_stands _ w (rw (← c.self.view_is) at stands) c.args.centre c.index.result.now (rw (← c.self.view_is) at c.requires) c.index.ensures in
+    let here = centre_stands _ w (rw (← c.self.view_is) at stands) c.args.centre c.index.result.now
+    (rw (← c.self.view_is) at c.requires) c.index.ensures in
     let found = c.in-Some.ensures.frame ∙ ap (λ (records : List Record). frame_at records c.args.name) here.prefix in
     (stands, rw c.compose.ensures.value (ap (view_answer c.args.name) found))
 
 -- it has none of the name
 pub returns-in-None : goal.returns-in-None
 returns-in-None c = λ w stands.
-    let here = centre_stands _ w (rw (← c.self.view_is) at stands) c.args.centre c.index.result.now (rw (← c.self.view_is) at c.requires) c.index.ensures in
+    let here = centre_stands _ w (rw (← c.self.view_is) at stands) c.args.centre c.index.result.now
+    (rw (← c.self.view_is) at c.requires) c.index.ensures in
     let found = c.in-None.ensures.frame ∙ ap (λ (records : List Record). frame_at records c.args.name) here.prefix in
     (stands, ap (view_answer c.args.name) found)
