@@ -1,0 +1,38 @@
+ghost use Rattle.std.specs.Prelude.{◌≡◌, ℕ, List, [], ◌++◌, length, Option};
+ghost use Rattle.pv_keys.specs.declared.command.Command.{Command};
+ghost use Rattle.pv_keys.specs.Commands.{IsSpelling, IsCut, AreCommandsOf};
+ghost use Rattle.pv_keys.specs.Reader.{TakesBytes, commands_in};
+
+/// A law: no command's keys are the beginning of another's, and no keys are two commands.
+pub fn no_spelling_begins_another()
+    ensures { (keys rest : List ℕ) (a b : Command) → IsSpelling keys a → IsSpelling (keys ++ rest) b →
+        (rest ≡ []) × (a ≡ b) }
+{}
+
+/// A law: keys are cut into commands in one way.
+pub fn keys_are_cut_in_one_way()
+    ensures { (keys x y : List ℕ) (a b : List Command) → IsCut keys a x → IsCut keys b y →
+        (a ≡ b) × (x ≡ y) }
+{}
+
+/// A law: what a reader answers to bytes, one after another, is the commands into which all their keys are cut. So it
+/// does not depend on how the bytes come in pieces.
+pub fn answers_are_the_commands()
+    // A new reader gives the commands of the keys, and keeps the rest of them.
+    ensures commands { (bytes kept : List ℕ) (answers : List (Option Command)) →
+        TakesBytes [] bytes answers kept → AreCommandsOf bytes (commands_in answers) kept }
+
+    // After the first of the bytes it has given the commands of these, and goes on from there.
+    ensures parts { (first second before after : List ℕ) (a b : List (Option Command)) →
+        length a ≡ length first → TakesBytes before (first ++ second) (a ++ b) after →
+        (between : List ℕ) × TakesBytes before first a between × TakesBytes between second b after }
+
+    // Bytes that come in two pieces are answered as those that come in one.
+    ensures pieces { (first second before between after : List ℕ) (a b : List (Option Command)) →
+        TakesBytes before first a between → TakesBytes between second b after →
+        TakesBytes before (first ++ second) (a ++ b) after }
+
+    // There is one way to answer.
+    ensures one { (bytes before x y : List ℕ) (a b : List (Option Command)) →
+        TakesBytes before bytes a x → TakesBytes before bytes b y → (a ≡ b) × (x ≡ y) }
+{}
