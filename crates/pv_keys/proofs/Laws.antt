@@ -2,9 +2,9 @@
 use Rattle.std.proofs.Common.{◌≡◌, ℕ, List, [], ◌∷◌, ◌++◌, length, Option, Some, None, refl, sym, ap, subst, ◌∙◌, append_assoc, append-nil, arith}
 use Rattle.pv_keys.specs.declared.command.Command.{Command}
 use Rattle.pv_keys.specs.declared.progress.Progress.TheVariants.{Idle}
-use Rattle.pv_keys.specs.Commands.{IsSpelling, IsUnfinished, IsCut, key_of_byte, keys_of}
+use Rattle.pv_keys.specs.Commands.{IsSpelling, IsUnfinished, IsCut, AreCommandsOf, key_of_byte, keys_of}
 use Rattle.pv_keys.specs.Reader.{TakesByte, TakesBytes, commands_in}
-use Rattle.pv_keys.proofs.Machine.{first_in, first-spelling}
+use Rattle.pv_keys.proofs.Machine.{first_in, first-spelling, unfinished}
 
 -- keys that begin with two commands begin with one, and have one rest
 pub same_first : (first second x y : List ℕ) (a b : Command) → first ++ x ≡ second ++ y → IsSpelling first a → IsSpelling second b → (a ≡ b) × (x ≡ y)
@@ -31,7 +31,7 @@ keys_of-cons before byte bytes =
     ∙ ap (λ (keys : List ℕ). (before ++ keys) ++ keys_of bytes) (sym (append-nil (key_of_byte byte)))
 
 -- what is answered after some keys is the cut of these keys and of those of the bytes
-pub answers_cut : (bytes before after : List ℕ) (answers : List (Option Command)) → IsUnfinished before
+answers_cut : (bytes before after : List ℕ) (answers : List (Option Command)) → IsUnfinished before
     → TakesBytes before bytes answers after → IsCut (before ++ keys_of bytes) (commands_in answers) after
 answers_cut [] before after [] unfinished same = (append-nil before ∙ same, subst IsUnfinished same unfinished)
 answers_cut [] before after (answer ∷ answers) unfinished impossible = absurd impossible
@@ -47,6 +47,10 @@ answers_cut (byte ∷ bytes) before after (Some command ∷ answers) unfinished 
       takes.given.0,
       subst (λ (kept : List ℕ). IsCut (kept ++ keys_of bytes) (commands_in answers) after) takes.given.1 cut,
     )
+
+-- a new reader has no keys before
+pub new_answers : (bytes after : List ℕ) (answers : List (Option Command)) → TakesBytes [] bytes answers after → AreCommandsOf bytes (commands_in answers) after
+new_answers bytes after answers = answers_cut bytes [] after answers (unfinished Idle tt)
 
 -- two pieces of bytes are one
 pub join : (first second before between after : List ℕ) (a b : List (Option Command))

@@ -1,5 +1,4 @@
 mod Facts
 pub mod Keys
-pub mod Machine
-pub mod Taking
 pub mod Laws
+pub mod Machine

@@ -4,12 +4,14 @@ ghost use Rattle.pv_keys.specs.Commands.{IsSpelling, IsCut, AreCommandsOf};
 ghost use Rattle.pv_keys.specs.Reader.{TakesBytes, commands_in};
 
 /// A law: no command's keys are the beginning of another's, and no keys are two commands.
+#[tactic(auto, using(crate::proofs::Machine::one_spelling))]
 pub fn no_spelling_begins_another()
     ensures { (keys rest : List ℕ) (a b : Command) → IsSpelling keys a → IsSpelling (keys ++ rest) b →
         (rest ≡ []) × (a ≡ b) }
 {}
 
 /// A law: keys are cut into commands in one way.
+#[tactic(auto, using(crate::proofs::Laws::one_cut))]
 pub fn keys_are_cut_in_one_way()
     ensures { (keys x y : List ℕ) (a b : List Command) → IsCut keys a x → IsCut keys b y →
         (a ≡ b) × (x ≡ y) }
@@ -17,6 +19,7 @@ pub fn keys_are_cut_in_one_way()
 
 /// A law: what a reader answers to bytes, one after another, is the commands into which all their keys are cut. So it
 /// does not depend on how the bytes come in pieces.
+#[tactic(auto, using(crate::proofs::Laws::new_answers, crate::proofs::Laws::part, crate::proofs::Laws::join, crate::proofs::Laws::one_way))]
 pub fn answers_are_the_commands()
     // A new reader gives the commands of the keys, and keeps the rest of them.
     ensures commands { (bytes kept : List ℕ) (answers : List (Option Command)) →

@@ -45,6 +45,7 @@ impl Progress {
     }
 
     /// A digit after these keys.
+    #[tactic(auto, using(crate::proofs::Keys::digit_alone))]
     fn digit(self, digit: u8) -> Step
         requires { IsDigit digit × IsProgress self }
         ensures { IsStep (keys_since self ++ (zero_digit + digit) ∷ []) result }
@@ -84,6 +85,7 @@ impl Progress {
 }
 
 /// A digit after `*` and a number.
+#[tactic(auto, using(crate::proofs::Keys::tenth_digit))]
 fn digit_of_number(page: PageNo, digit: u8) -> Step
     requires { IsDigit digit × IsPage page }
     ensures { IsStep ((star ∷ decimal page) ++ (zero_digit + digit) ∷ []) result }
@@ -98,6 +100,7 @@ fn digit_of_number(page: PageNo, digit: u8) -> Step
 }
 
 /// The command of `*0` and a digit.
+#[tactic(auto, using(crate::proofs::Keys::zero_and_digit))]
 fn command_of_zero(digit: u8) -> Command
     requires { IsDigit digit }
     ensures { IsSpelling ((star ∷ decimal 0) ++ (zero_digit + digit) ∷ []) result }
@@ -130,6 +133,7 @@ fn page_of_digit(digit: u8) -> PageNo
 }
 
 /// The page whose digits are those of this one and one more. `None` exactly when that is a tenth digit.
+#[tactic(auto, using(crate::proofs::Keys::longer_number, crate::proofs::Keys::nine_digits))]
 fn longer(page: PageNo, digit: u8) -> Option<PageNo>
     requires { IsDigit digit × IsPage page × (page ≢ 0) }
     ensures found { IfSome result (λ next. IsPage next ×

@@ -37,6 +37,7 @@ impl KeyReader {
 
     /// Takes a byte. `None` exactly when the keys since the last command are no whole command, and then they are kept.
     /// After a command the reader is as new.
+    #[tactic(auto, using(crate::proofs::Keys::waiting, crate::proofs::Keys::giving))]
     pub fn take(&mut self, byte: u8) -> Option<Command>
         ensures step { TakesByte (keys_since self.old) byte result (keys_since self.new) }
 
