@@ -1,11 +1,11 @@
 -- Worked examples, computed from the definitions: each constant at the last value that fits, and the next.
-use Rattle.std.proofs.Common.{◌≡◌, ◌≢◌, [], ◌∷◌, inl, inr, lit≤, refl, arith}
+use Rattle.std.proofs.Common.{◌≡◌, [], ◌∷◌, inl, inr, lit≤, refl, arith}
 use Rattle.std.specs.Fmt.{digits}
 use Rattle.std.specs.Prelude.{codes}
 use Rattle.pv_keys.specs.declared.command.Command.TheVariants.{Route, Next, Go, Back, Repeat, Fresh, Mail, End, Cancel, Slip}
 use Rattle.pv_keys.specs.declared.progress.Progress.TheVariants.{Star}
 use Rattle.pv_keys.specs.Commands.{IsDigit, IsSlipDigit, IsKeyedPage, IsSpelling, AreCommandsOf, keys_of, number_keys}
-use Rattle.pv_keys.proofs.Machine.{unfinished}
+use Rattle.pv_keys.proofs.Machine.{none_kept}
 
 -- the digits, * and # are keys, and _ is #; their neighbours are none
 pub keys : (keys_of (codes "/0189:)*+\"#$^_`") ≡ codes "0189*##") × (keys_of (codes " *1 2a_\n") ≡ codes "*12#")
@@ -14,7 +14,14 @@ keys = (refl, refl)
 -- a digit is 0 to 9, and one that slips after *0 is 1 to 8
 pub digit_values : IsDigit 9 × ¬ IsDigit 10
     × IsSlipDigit 1 × ¬ IsSlipDigit 0 × IsSlipDigit 8 × ¬ IsSlipDigit 9
-digit_values = (lit≤ tt, (λ is. omega (arith, is)), (lit≤ tt, lit≤ tt), (λ is. omega (arith, is.0)), (lit≤ tt, lit≤ tt), (λ is. omega (arith, is.1)))
+digit_values = (
+  lit≤ tt,
+  (λ is. omega (arith, is)),
+  (lit≤ tt, lit≤ tt),
+  (λ is. omega (arith, is.0)),
+  (lit≤ tt, lit≤ tt),
+  (λ is. omega (arith, is.1)),
+)
 
 -- the numbers that are no page to go to, and their neighbours
 pub keyed_pages : ¬ IsKeyedPage 90 × IsKeyedPage 91 × ¬ IsKeyedPage 930 × IsKeyedPage 0 × IsKeyedPage 999999999 × ¬ IsKeyedPage 1000000000
@@ -62,7 +69,7 @@ caller = (
       codes "*",
       refl,
       inr (record { number = 3; page = lit≤ tt; text = refl }),
-      (refl, unfinished Star tt),
+      (refl, none_kept Star tt),
     ),
   ),
 )

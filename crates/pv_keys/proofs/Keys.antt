@@ -1,5 +1,5 @@
 -- What a reader does with a byte: its key, and the keys after it.
-use Rattle.std.proofs.Common.{◌≡◌, ℕ, ◌+◌, ◌*◌, ◌/◌, ◌%◌, ◌<◌, ◌≤◌, ◌≢◌, ◌==◌, Bool, true, false, List, [], ◌∷◌, ◌++◌, Option, Some, None, length, decimal, refl, sym, ap, ◌∙◌, append-nil, inl, inr, arith}
+use Rattle.std.proofs.Common.{◌≡◌, ℕ, ◌+◌, ◌*◌, ◌/◌, ◌%◌, ◌<◌, ◌≤◌, ◌≢◌, List, [], ◌∷◌, ◌++◌, Option, Some, None, length, decimal, refl, sym, ap, ◌∙◌, append-nil, inl, inr, arith}
 use Rattle.std.specs.Fmt.{digits}
 use Rattle.std.specs.Str.Parse.{AllDigits, digits_value}
 use Rattle.std.proofs.lemmas.Bool.{cases_lt}
@@ -13,7 +13,7 @@ use Rattle.pv_keys.specs.declared.progress.Progress.TheVariants.{Idle}
 use Rattle.pv_keys.specs.Commands.{IsDigit, IsSlipDigit, IsSpelling, keys_of, number_keys}
 use Rattle.pv_keys.specs.Reader.{IsProgress, TakesByte, keys_since}
 use Rattle.pv_keys.proofs.Laws.{same_first}
-use Rattle.pv_keys.proofs.Machine.{unfinished}
+use Rattle.pv_keys.proofs.Machine.{none_kept}
 
 -- ---- digits
 
@@ -25,10 +25,15 @@ digit_alone digit is = decimal_digit digit (omega arith)
 pub zero_and_digit : (IsSpelling (number_keys 0 ++ 48 ∷ []) Repeat) × (IsSpelling (number_keys 0 ++ 57 ∷ []) Fresh)
     × ((digit : ℕ) → IsSlipDigit digit → IsSpelling (number_keys 0 ++ (48 + digit) ∷ []) Slip)
 unfolding digits
-zero_and_digit = (refl, refl, λ digit slips. inl (record { digit = digit; slips = slips; text = rw (digit_alone digit (omega (arith, slips))) refl }))
+zero_and_digit = (
+  refl,
+  refl,
+  λ digit slips. inl (record { digit = digit; slips = slips; text = rw (digit_alone digit (omega (arith, slips))) refl }),
+)
 
 -- nine digits and one more
-pub tenth_digit : (page digit : ℕ) → IsPage page → length (decimal page) ≡ 9 → IsDigit digit → IsSpelling (number_keys page ++ (48 + digit) ∷ []) Slip
+pub tenth_digit : (page digit : ℕ) → IsPage page → length (decimal page) ≡ 9 → IsDigit digit
+    → IsSpelling (number_keys page ++ (48 + digit) ∷ []) Slip
 tenth_digit page digit is full is_digit =
     let text = ap (λ (last : List ℕ). number_keys page ++ last) (sym (digit_alone digit is_digit)) in
     inr (inl (record { number = page; page = is; full = full; digit = digit; is_digit = is_digit; text = text }))
@@ -58,26 +63,28 @@ nine_digits page is large =
 
 module _ (progress : Progress) (is : IsProgress progress) where
   -- kept keys are no whole command
-  no_command : (keys : List ℕ) → keys_since progress ≡ keys → (command : Command) → IsSpelling keys command
+  never_whole : (keys : List ℕ) → keys_since progress ≡ keys → (command : Command) → IsSpelling keys command
       → ◌≡◌ {A = Option Command} None (Some command)
-  no_command keys same command spelling = absurd (unfinished progress is keys [] command (same ∙ sym (append-nil keys)) spelling)
+  never_whole keys same command spelling = absurd (none_kept progress is keys [] command (same ∙ sym (append-nil keys)) spelling)
 
   -- a key after which more are wanted
-  pub waiting : (before : List ℕ) (byte : ℕ) → keys_since progress ≡ before ++ keys_of (byte ∷ []) → TakesByte before byte None (keys_since progress)
+  pub waiting : (before : List ℕ) (byte : ℕ) → keys_since progress ≡ before ++ keys_of (byte ∷ [])
+      → TakesByte before byte None (keys_since progress)
   waiting before byte same =
-      record { given = tt; only = no_command (before ++ keys_of (byte ∷ [])) same; waits = λ _. same; unfinished = unfinished progress is }
+      record { given = tt; only = never_whole (before ++ keys_of (byte ∷ [])) same; waits = λ _. same; no_command = none_kept progress is }
 
   -- a byte that is no key
   pub ignored : (byte : ℕ) → keys_of (byte ∷ []) ≡ [] → TakesByte (keys_since progress) byte None (keys_since progress)
   ignored byte none = waiting (keys_since progress) byte (rw (none, append-nil (keys_since progress)) refl)
 
 -- the last key of a command
-pub giving : (before : List ℕ) (byte : ℕ) (command : Command) → IsSpelling (before ++ keys_of (byte ∷ [])) command → TakesByte before byte (Some command) []
+pub giving : (before : List ℕ) (byte : ℕ) (command : Command) → IsSpelling (before ++ keys_of (byte ∷ [])) command
+    → TakesByte before byte (Some command) []
 giving before byte command spelling =
     let keys = before ++ keys_of (byte ∷ []) in
     record {
       given = (spelling, refl);
       only = λ other is. ap Some (same_first keys keys [] [] command other refl spelling is).0;
       waits = λ none. absurd cc;
-      unfinished = unfinished Idle tt;
+      no_command = none_kept Idle tt;
     }

@@ -2,12 +2,13 @@
 use Rattle.std.proofs.Common.{◌≡◌, ℕ, List, [], ◌∷◌, ◌++◌, length, Option, Some, None, refl, sym, ap, subst, ◌∙◌, append_assoc, append-nil, arith}
 use Rattle.pv_keys.specs.declared.command.Command.{Command}
 use Rattle.pv_keys.specs.declared.progress.Progress.TheVariants.{Idle}
-use Rattle.pv_keys.specs.Commands.{IsSpelling, IsUnfinished, IsCut, AreCommandsOf, key_of_byte, keys_of}
+use Rattle.pv_keys.specs.Commands.{IsSpelling, HasNoCommand, IsCut, AreCommandsOf, key_of_byte, keys_of}
 use Rattle.pv_keys.specs.Reader.{TakesByte, TakesBytes, commands_in}
-use Rattle.pv_keys.proofs.Machine.{first_in, first-spelling, unfinished}
+use Rattle.pv_keys.proofs.Machine.{first_in, first-spelling, none_kept}
 
 -- keys that begin with two commands begin with one, and have one rest
-pub same_first : (first second x y : List ℕ) (a b : Command) → first ++ x ≡ second ++ y → IsSpelling first a → IsSpelling second b → (a ≡ b) × (x ≡ y)
+pub same_first : (first second x y : List ℕ) (a b : Command) → first ++ x ≡ second ++ y
+    → IsSpelling first a → IsSpelling second b → (a ≡ b) × (x ≡ y)
 same_first first second x y a b same is_a is_b =
     let both : Some (a, x) ≡ Some (b, y) =
     sym (first-spelling first x a is_a) ∙ ap (first_in Idle) same ∙ first-spelling second y b is_b in
@@ -16,31 +17,34 @@ same_first first second x y a b same is_a is_b =
 
 -- so there is one cut
 pub one_cut : (keys x y : List ℕ) (a b : List Command) → IsCut keys a x → IsCut keys b y → (a ≡ b) × (x ≡ y)
-one_cut keys x y [] [] (is_x, unfinished) (is_y, _) = (refl, sym is_x ∙ is_y)
-one_cut keys x y [] (b ∷ q) (is_x, unfinished) (first, later, same, spelling, more) = absurd (unfinished first later b (sym is_x ∙ same) spelling)
-one_cut keys x y (a ∷ p) [] (first, later, same, spelling, more) (is_y, unfinished) = absurd (unfinished first later a (sym is_y ∙ same) spelling)
+one_cut keys x y [] [] (is_x, no_command) (is_y, _) = (refl, sym is_x ∙ is_y)
+one_cut keys x y [] (b ∷ q) (is_x, no_command) (first, later, same, spelling, more) =
+    absurd (no_command first later b (sym is_x ∙ same) spelling)
+one_cut keys x y (a ∷ p) [] (first, later, same, spelling, more) (is_y, no_command) =
+    absurd (no_command first later a (sym is_y ∙ same) spelling)
 one_cut keys x y (a ∷ p) (b ∷ q) (first, later, same, spelling, more) (second, other, equal, spells, rest) =
     let heads = same_first first second later other a b (sym same ∙ equal) spelling spells in
     let tails = one_cut later x y p q more (subst (λ (keys : List ℕ). IsCut keys q y) (sym heads.1) rest) in
     ((λ i. heads.0 i ∷ tails.0 i), tails.1)
 
 -- the keys of a byte before those of others
-keys_of-cons : (before : List ℕ) (byte : ℕ) (bytes : List ℕ) → before ++ keys_of (byte ∷ bytes) ≡ (before ++ keys_of (byte ∷ [])) ++ keys_of bytes
+keys_of-cons : (before : List ℕ) (byte : ℕ) (bytes : List ℕ)
+    → before ++ keys_of (byte ∷ bytes) ≡ (before ++ keys_of (byte ∷ [])) ++ keys_of bytes
 keys_of-cons before byte bytes =
     sym (append_assoc before (key_of_byte byte) (keys_of bytes))
     ∙ ap (λ (keys : List ℕ). (before ++ keys) ++ keys_of bytes) (sym (append-nil (key_of_byte byte)))
 
 -- what is answered after some keys is the cut of these keys and of those of the bytes
-answers_cut : (bytes before after : List ℕ) (answers : List (Option Command)) → IsUnfinished before
+answers_cut : (bytes before after : List ℕ) (answers : List (Option Command)) → HasNoCommand before
     → TakesBytes before bytes answers after → IsCut (before ++ keys_of bytes) (commands_in answers) after
-answers_cut [] before after [] unfinished same = (append-nil before ∙ same, subst IsUnfinished same unfinished)
-answers_cut [] before after (answer ∷ answers) unfinished impossible = absurd impossible
-answers_cut (byte ∷ bytes) before after [] unfinished impossible = absurd impossible
-answers_cut (byte ∷ bytes) before after (None ∷ answers) unfinished (next, takes, more) =
+answers_cut [] before after [] no_command same = (append-nil before ∙ same, subst HasNoCommand same no_command)
+answers_cut [] before after (answer ∷ answers) no_command impossible = absurd impossible
+answers_cut (byte ∷ bytes) before after [] no_command impossible = absurd impossible
+answers_cut (byte ∷ bytes) before after (None ∷ answers) no_command (next, takes, more) =
     let keys = ap (λ (kept : List ℕ). kept ++ keys_of bytes) (takes.waits refl) ∙ sym (keys_of-cons before byte bytes) in
-    subst (λ (keys : List ℕ). IsCut keys (commands_in answers) after) keys (answers_cut bytes next after answers takes.unfinished more)
-answers_cut (byte ∷ bytes) before after (Some command ∷ answers) unfinished (next, takes, more) =
-    let cut = answers_cut bytes next after answers takes.unfinished more in (
+    subst (λ (keys : List ℕ). IsCut keys (commands_in answers) after) keys (answers_cut bytes next after answers takes.no_command more)
+answers_cut (byte ∷ bytes) before after (Some command ∷ answers) no_command (next, takes, more) =
+    let cut = answers_cut bytes next after answers takes.no_command more in (
       before ++ keys_of (byte ∷ []),
       keys_of bytes,
       keys_of-cons before byte bytes,
@@ -49,8 +53,9 @@ answers_cut (byte ∷ bytes) before after (Some command ∷ answers) unfinished 
     )
 
 -- a new reader has no keys before
-pub new_answers : (bytes after : List ℕ) (answers : List (Option Command)) → TakesBytes [] bytes answers after → AreCommandsOf bytes (commands_in answers) after
-new_answers bytes after answers = answers_cut bytes [] after answers (unfinished Idle tt)
+pub new_answers : (bytes after : List ℕ) (answers : List (Option Command)) → TakesBytes [] bytes answers after
+    → AreCommandsOf bytes (commands_in answers) after
+new_answers bytes after answers = answers_cut bytes [] after answers (none_kept Idle tt)
 
 -- two pieces of bytes are one
 pub join : (first second before between after : List ℕ) (a b : List (Option Command))
@@ -73,7 +78,8 @@ part (byte ∷ first) second before after (answer ∷ a) b same (next, takes, mo
     (rest.0, (next, takes, rest.1), rest.2)
 
 -- a byte is answered in one way
-one_answer : (before x y : List ℕ) (byte : ℕ) (a b : Option Command) → TakesByte before byte a x → TakesByte before byte b y → (a ≡ b) × (x ≡ y)
+pub one_answer : (before x y : List ℕ) (byte : ℕ) (a b : Option Command)
+    → TakesByte before byte a x → TakesByte before byte b y → (a ≡ b) × (x ≡ y)
 one_answer before x y byte None None is_a is_b = (refl, is_a.waits refl ∙ sym (is_b.waits refl))
 one_answer before x y byte None (Some b) is_a is_b =
     let same : ◌≡◌ {A = Option Command} None (Some b) = is_a.only b is_b.given.0 in absurd cc

@@ -1,4 +1,6 @@
+mod Answering
+pub mod CallerLemmas
 mod Facts
-pub mod Keys
-pub mod Laws
-pub mod Machine
+mod Keys
+mod Laws
+mod Machine

@@ -1,7 +1,6 @@
 -- Keys one by one as far as the first command: where the commands of the table end, and that what is kept is none.
-use Rattle.std.proofs.Common.{◌≡◌, ℕ, ◌+◌, ◌-◌, ◌*◌, ◌/◌, ◌%◌, ◌^◌, ◌<◌, ◌≤◌, ◌≢◌, ◌⊎◌, Bool, true, false, eqb, ltb, List, [], ◌∷◌, ◌++◌, length, Option, Some, None, decimal, refl, sym, ap, subst, ◌∙◌, inl, inr, arith, if◌then◌else◌}
-use Rattle.std.specs.Fmt.{digits}
-use Rattle.std.specs.Prelude.{codes, ◌==◌, IsTrue, ⊤}
+use Rattle.std.proofs.Common.{◌≡◌, ℕ, ◌+◌, ◌-◌, ◌*◌, ◌/◌, ◌%◌, ◌≤◌, ◌≢◌, true, false, ltb, List, [], ◌∷◌, ◌++◌, length, Option, Some, None, decimal, refl, sym, ap, ◌∙◌, inl, inr, arith, if◌then◌else◌}
+use Rattle.std.specs.Prelude.{codes, ◌==◌}
 use Rattle.std.proofs.lemmas.Bool.{cases_lt, cases_eq}
 use Rattle.std.proofs.lemmas.Bool.Decides.{nat_tests}
 use Rattle.std.proofs.lemmas.Fmt.{decimal_digit, decimal_by_steps, length-decimal-le}
@@ -13,25 +12,25 @@ use Rattle.pv_keys.specs.declared.progress.Progress.{Progress}
 use Rattle.pv_keys.specs.declared.progress.Progress.TheVariants.{Idle, Star, Number, Starred}
 use Rattle.pv_keys.specs.declared.progress.Step.{Step}
 use Rattle.pv_keys.specs.declared.progress.Step.TheVariants.{Wait, Give}
-use Rattle.pv_keys.specs.Commands.{IsDigit, IsSpelling, IsUnfinished, IsNumberCancel, IsZeroSlip, IsTenthDigit, IsStarSlip, IsKeyedPage, IsSlipDigit, number_keys, star, hash}
+use Rattle.pv_keys.specs.Commands.{IsDigit, IsSpelling, HasNoCommand, IsKeyedPage, IsSlipDigit, number_keys, star, hash}
 use Rattle.pv_keys.specs.Reader.{IsProgress, keys_since}
 
 -- * after the keys so far
-abbrev on_star : Progress → Step
+abbrev pub on_star : Progress → Step
 on_star Idle = Wait Star
 on_star Star = Give Cancel
 on_star (Number page) = Wait (Starred page)
 on_star (Starred page) = Give Cancel
 
 -- # after them
-abbrev on_hash : Progress → Step
+abbrev pub on_hash : Progress → Step
 on_hash Idle = Give Next
 on_hash Star = Give Back
 on_hash (Number page) = Give (if page == 90 then End else if page == 930 then Mail else Go page)
 on_hash (Starred page) = Give Slip
 
 -- a digit after them
-abbrev on_digit : Progress → ℕ → Step
+abbrev pub on_digit : Progress → ℕ → Step
 on_digit Idle digit = Give (Route digit)
 on_digit Star digit = Wait (Number digit)
 on_digit (Number page) digit =
@@ -126,7 +125,8 @@ keyed_page page is rest =
     rw (no_end, no_mail) refl
 
 -- the keys of a command, whatever follows, are that command first
-pub first-spelling : (first rest : List ℕ) (command : Command) → IsSpelling first command → first_in Idle (first ++ rest) ≡ Some (command, rest)
+pub first-spelling : (first rest : List ℕ) (command : Command) → IsSpelling first command
+    → first_in Idle (first ++ rest) ≡ Some (command, rest)
 first-spelling first rest (Route digit) (is, text) = rw (text, decimal_digit digit (omega arith)) (digit_first Idle digit is rest)
 first-spelling first rest Next text = rw text refl
 first-spelling first rest (Go page) (is, text) = rw text (numbered page is.within (codes "#") rest ∙ keyed_page page is rest)
@@ -145,15 +145,16 @@ first-spelling first rest Slip (inr (inr is)) =
     rw is.text (numbered is.number is.page (star ∷ is.key ∷ []) rest ∙ star_slip is.number is.key is.other rest)
 
 -- the keys that a reader keeps lead to its state
-pub first-kept : (progress : Progress) → IsProgress progress → (rest : List ℕ) → first_in Idle (keys_since progress ++ rest) ≡ first_in progress rest
+pub first-kept : (progress : Progress) → IsProgress progress → (rest : List ℕ)
+    → first_in Idle (keys_since progress ++ rest) ≡ first_in progress rest
 first-kept Idle is rest = refl
 first-kept Star is rest = refl
 first-kept (Number page) is rest = number_first page is rest
 first-kept (Starred page) is rest = numbered page is (star ∷ []) rest
 
 -- so they begin with no whole command
-pub unfinished : (progress : Progress) → IsProgress progress → IsUnfinished (keys_since progress)
-unfinished progress is first rest command same spelling =
+pub none_kept : (progress : Progress) → IsProgress progress → HasNoCommand (keys_since progress)
+none_kept progress is first rest command same spelling =
     let none = first-kept progress is [] in
     let some = ap (first_in Idle) (append-nil (keys_since progress) ∙ same) ∙ first-spelling first rest command spelling in
     let both : ◌≡◌ {A = Option (Command × List ℕ)} None (Some (command, rest)) = sym none ∙ some in

@@ -100,12 +100,12 @@ IsSpelling keys Slip = IsZeroSlip keys ⊎ IsTenthDigit keys ⊎ IsStarSlip keys
 -- ---- commands among keys
 
 -- the keys begin with no whole command
-abbrev pub IsUnfinished : List ℕ → Type 0
-IsUnfinished keys = (first rest : List ℕ) (command : Command) → keys ≡ first ++ rest → IsSpelling first command → ⊥
+abbrev pub HasNoCommand : List ℕ → Type 0
+HasNoCommand keys = (first rest : List ℕ) (command : Command) → keys ≡ first ++ rest → IsSpelling first command → ⊥
 
 -- the keys are those of the commands, one after another, and a rest that begins with no whole command
 abbrev pub IsCut : List ℕ → List Command → List ℕ → Type 0
-IsCut keys [] rest = (keys ≡ rest) × IsUnfinished rest
+IsCut keys [] rest = (keys ≡ rest) × HasNoCommand rest
 IsCut keys (command ∷ commands) rest =
     (first : List ℕ) × (later : List ℕ) × (keys ≡ first ++ later) × IsSpelling first command × IsCut later commands rest
 

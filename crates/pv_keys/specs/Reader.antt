@@ -6,7 +6,7 @@ use Rattle.pv_keys.specs.declared.progress.Progress.{Progress}
 use Rattle.pv_keys.specs.declared.progress.Progress.TheVariants.{Idle, Star, Number, Starred}
 use Rattle.pv_keys.specs.declared.progress.Step.{Step}
 use Rattle.pv_keys.specs.declared.progress.Step.TheVariants.{Wait, Give}
-use Rattle.pv_keys.specs.Commands.{IsSpelling, IsUnfinished, keys_of, number_keys, star}
+use Rattle.pv_keys.specs.Commands.{IsSpelling, HasNoCommand, keys_of, number_keys, star}
 
 -- the number that was begun is that of a page
 abbrev pub IsProgress : Progress → Type 0
@@ -32,7 +32,7 @@ pub record TakesByte (before : List ℕ) (byte : ℕ) (answer : Option Command) 
   pub given : IfSome answer (λ command. IsSpelling (before ++ keys_of (byte ∷ [])) command × (after ≡ []))
   pub only : (command : Command) → IsSpelling (before ++ keys_of (byte ∷ [])) command → answer ≡ Some command
   pub waits : IsNone answer → after ≡ before ++ keys_of (byte ∷ [])
-  pub unfinished : IsUnfinished after
+  pub no_command : HasNoCommand after
 
 -- after these keys bytes are taken one by one: what is returned at each, and the keys after the last
 abbrev pub TakesBytes : List ℕ → List ℕ → List (Option Command) → List ℕ → Type 0

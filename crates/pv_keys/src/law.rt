@@ -19,7 +19,7 @@ pub fn keys_are_cut_in_one_way()
 
 /// A law: what a reader answers to bytes, one after another, is the commands into which all their keys are cut. So it
 /// does not depend on how the bytes come in pieces.
-#[tactic(auto, using(crate::proofs::Laws::new_answers, crate::proofs::Laws::part, crate::proofs::Laws::join, crate::proofs::Laws::one_way))]
+#[tactic(auto, using(crate::proofs::Laws::new_answers, crate::proofs::Laws::part, crate::proofs::Laws::join, crate::proofs::Laws::one_way, crate::proofs::Answering::some_answers))]
 pub fn answers_are_the_commands()
     // A new reader gives the commands of the keys, and keeps the rest of them.
     ensures commands { (bytes kept : List ℕ) (answers : List (Option Command)) →
@@ -35,7 +35,9 @@ pub fn answers_are_the_commands()
         TakesBytes before first a between → TakesBytes between second b after →
         TakesBytes before (first ++ second) (a ++ b) after }
 
-    // There is one way to answer.
+    // Any bytes are answered, and in one way.
+    ensures some { (bytes : List ℕ) →
+        (answers : List (Option Command)) × (kept : List ℕ) × TakesBytes [] bytes answers kept }
     ensures one { (bytes before x y : List ℕ) (a b : List (Option Command)) →
         TakesBytes before bytes a x → TakesBytes before bytes b y → (a ≡ b) × (x ≡ y) }
 {}

@@ -1,7 +1,7 @@
-ghost use Rattle.std.specs.Prelude.{◌≡◌, ◌≢◌, ◌≤◌, ◌↔◌, ◌+◌, ◌++◌, [], ◌∷◌, decimal, length, IsNone, IfSome};
+ghost use Rattle.std.specs.Prelude.{◌≡◌, ◌≢◌, ◌↔◌, ◌+◌, ◌++◌, [], ◌∷◌, decimal, length, IsNone, IfSome};
 ghost use Rattle.pv_page.specs.Names.{IsPage, zero_digit};
 ghost use Rattle.pv_page.specs.declared.page_no.TheConstants.{PAGE_DIGITS};
-ghost use Rattle.pv_keys.specs.Commands.{star, hash, keys_of, IsDigit, IsSpelling};
+ghost use Rattle.pv_keys.specs.Commands.{star, hash, keys_of, number_keys, IsDigit, IsSpelling};
 ghost use Rattle.pv_keys.specs.Reader.{IsProgress, keys_since, IsStep};
 
 use crate::command::{Command, END_PAGE, MAIL_PAGE};
@@ -9,7 +9,7 @@ use pv_page::{LAST_PAGE, PageNo};
 
 /// The keys since the last command. They begin with no whole command.
 #[derive(Clone, Copy, Debug, PartialEq, Eq)]
-pub(crate) enum Progress {
+pub enum Progress {
     /// None.
     Idle,
     /// `*`.
@@ -22,7 +22,7 @@ pub(crate) enum Progress {
 
 /// What a key does after others.
 #[derive(Clone, Copy, Debug, PartialEq, Eq)]
-pub(crate) enum Step {
+pub enum Step {
     /// The keys are no command yet.
     Wait(Progress),
     /// They are this command.
@@ -88,7 +88,7 @@ impl Progress {
 #[tactic(auto, using(crate::proofs::Keys::tenth_digit))]
 fn digit_of_number(page: PageNo, digit: u8) -> Step
     requires { IsDigit digit × IsPage page }
-    ensures { IsStep ((star ∷ decimal page) ++ (zero_digit + digit) ∷ []) result }
+    ensures { IsStep (number_keys page ++ (zero_digit + digit) ∷ []) result }
 {
     if page.number() == 0 {
         return Step::Give(command_of_zero(digit));
@@ -103,7 +103,7 @@ fn digit_of_number(page: PageNo, digit: u8) -> Step
 #[tactic(auto, using(crate::proofs::Keys::zero_and_digit))]
 fn command_of_zero(digit: u8) -> Command
     requires { IsDigit digit }
-    ensures { IsSpelling ((star ∷ decimal 0) ++ (zero_digit + digit) ∷ []) result }
+    ensures { IsSpelling (number_keys 0 ++ (zero_digit + digit) ∷ []) result }
 {
     match digit {
         0 => Command::Repeat,
@@ -115,7 +115,7 @@ fn command_of_zero(digit: u8) -> Command
 /// The command of `*`, a number and `#`.
 fn command_of_page(page: PageNo) -> Command
     requires { IsPage page }
-    ensures { IsSpelling ((star ∷ decimal page) ++ hash ∷ []) result }
+    ensures { IsSpelling (number_keys page ++ hash ∷ []) result }
 {
     match page.number() {
         END_PAGE => Command::End,
