@@ -3,8 +3,8 @@ use Rattle.std.proofs.Common.{◌≡◌, [], ◌∷◌, inl, inr, lit≤, refl, 
 use Rattle.std.specs.Fmt.{digits}
 use Rattle.std.specs.Prelude.{codes}
 use Rattle.pv_keys.specs.declared.command.Command.TheVariants.{Route, Next, Go, Back, Repeat, Fresh, Mail, End, Cancel, Slip}
-use Rattle.pv_keys.specs.declared.progress.Progress.TheVariants.{Star}
-use Rattle.pv_keys.specs.Commands.{IsDigit, IsSlipDigit, IsKeyedPage, IsSpelling, AreCommandsOf, keys_of, number_keys}
+use Rattle.pv_keys.specs.declared.progress.Progress.TheVariants.{Star, Number, Starred}
+use Rattle.pv_keys.specs.Commands.{IsDigit, IsSlipDigit, IsKeyedPage, IsSpelling, HasNoCommand, AreCommandsOf, keys_of, number_keys}
 use Rattle.pv_keys.proofs.Machine.{none_kept}
 
 -- the digits, * and # are keys, and _ is #; their neighbours are none
@@ -50,6 +50,11 @@ slips = (
   inr (inl (record { number = 123456789; page = lit≤ tt; full = refl; digit = 0; is_digit = lit≤ tt; text = refl })),
   inr (inr (record { number = 12; page = lit≤ tt; key = 35; is_key = refl; other = λ e. omega (arith, e); text = refl })),
 )
+
+-- keys that wait for more: up to nine digits, and a number with one *
+pub waits : HasNoCommand (codes "*0") × HasNoCommand (codes "*123456789") × HasNoCommand (codes "*12*")
+unfolding digits
+waits = (none_kept (Number 0) (lit≤ tt), none_kept (Number 123456789) (lit≤ tt), none_kept (Starred 12) (lit≤ tt))
 
 -- a caller's bytes: a route, a page, a number that is taken back, and a * that waits for more
 pub caller : AreCommandsOf (codes "5*1 2_*3**x*") (Route 5 ∷ Go 12 ∷ Cancel ∷ []) (codes "*")

@@ -10,7 +10,7 @@ use pv_page::{LAST_PAGE, PageNo};
 /// The keys since the last command. They begin with no whole command.
 #[derive(Clone, Copy, Debug, PartialEq, Eq)]
 pub enum Progress {
-    /// None.
+    /// No key.
     Idle,
     /// `*`.
     Star,
