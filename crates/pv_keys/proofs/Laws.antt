@@ -77,6 +77,14 @@ part (byte ∷ first) second before after (answer ∷ a) b same (next, takes, mo
     let rest = part first second next after a b (omega (arith, same)) more in
     (rest.0, (next, takes, rest.1), rest.2)
 
+-- so the answers to the first of the bytes are the commands of these
+pub first_answers : (first second after : List ℕ) (a b : List (Option Command)) → length a ≡ length first
+    → TakesBytes [] (first ++ second) (a ++ b) after
+    → (kept : List ℕ) × AreCommandsOf first (commands_in a) kept × TakesBytes kept second b after
+first_answers first second after a b same takes =
+    let (kept, here, there) = part first second [] after a b same takes in
+    (kept, new_answers first kept a here, there)
+
 -- a byte is answered in one way
 pub one_answer : (before x y : List ℕ) (byte : ℕ) (a b : Option Command)
     → TakesByte before byte a x → TakesByte before byte b y → (a ≡ b) × (x ≡ y)

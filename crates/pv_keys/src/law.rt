@@ -17,27 +17,31 @@ pub fn keys_are_cut_in_one_way()
         (a ≡ b) × (x ≡ y) }
 {}
 
-/// A law: what a reader answers to bytes, one after another, is the commands into which all their keys are cut. So it
-/// does not depend on how the bytes come in pieces.
-#[tactic(auto, using(crate::proofs::Laws::new_answers, crate::proofs::Laws::part, crate::proofs::Laws::join, crate::proofs::Laws::one_way, crate::proofs::Answering::some_answers))]
+/// A law: what a new reader answers to bytes, one after another, is the commands into which all their keys are cut.
 pub fn answers_are_the_commands()
-    // A new reader gives the commands of the keys, and keeps the rest of them.
+    // It gives the commands of the keys, and keeps the rest of them.
     ensures commands { (bytes kept : List ℕ) (answers : List (Option Command)) →
         TakesBytes [] bytes answers kept → AreCommandsOf bytes (commands_in answers) kept }
 
-    // After the first of the bytes it has given the commands of these, and goes on from there.
-    ensures parts { (first second before after : List ℕ) (a b : List (Option Command)) →
-        length a ≡ length first → TakesBytes before (first ++ second) (a ++ b) after →
-        (between : List ℕ) × TakesBytes before first a between × TakesBytes between second b after }
-
-    // Bytes that come in two pieces are answered as those that come in one.
-    ensures pieces { (first second before between after : List ℕ) (a b : List (Option Command)) →
-        TakesBytes before first a between → TakesBytes between second b after →
-        TakesBytes before (first ++ second) (a ++ b) after }
+    // Each is given at the byte that ends it: after the first of the bytes, the commands of these were given.
+    ensures ends { (first second after : List ℕ) (a b : List (Option Command)) →
+        length a ≡ length first → TakesBytes [] (first ++ second) (a ++ b) after →
+        (kept : List ℕ) × AreCommandsOf first (commands_in a) kept × TakesBytes kept second b after }
 
     // Any bytes are answered, and in one way.
     ensures some { (bytes : List ℕ) →
         (answers : List (Option Command)) × (kept : List ℕ) × TakesBytes [] bytes answers kept }
     ensures one { (bytes before x y : List ℕ) (a b : List (Option Command)) →
         TakesBytes before bytes a x → TakesBytes before bytes b y → (a ≡ b) × (x ≡ y) }
+{}
+
+/// A law: bytes that come in pieces are answered as those that come at once.
+#[tactic(auto, using(crate::proofs::Laws::join, crate::proofs::Laws::part))]
+pub fn pieces_are_answered_as_one()
+    ensures joined { (first second before between after : List ℕ) (a b : List (Option Command)) →
+        TakesBytes before first a between → TakesBytes between second b after →
+        TakesBytes before (first ++ second) (a ++ b) after }
+    ensures parted { (first second before after : List ℕ) (a b : List (Option Command)) →
+        length a ≡ length first → TakesBytes before (first ++ second) (a ++ b) after →
+        (between : List ℕ) × TakesBytes before first a between × TakesBytes between second b after }
 {}

@@ -24,7 +24,10 @@ mod progress;
 mod reader;
 
 pub use command::{Command, END_PAGE, MAIL_PAGE};
-pub use law::{answers_are_the_commands, keys_are_cut_in_one_way, no_spelling_begins_another};
+pub use law::{
+    answers_are_the_commands, keys_are_cut_in_one_way, no_spelling_begins_another,
+    pieces_are_answered_as_one,
+};
 pub use reader::KeyReader;
 
 #[cfg(test)]
