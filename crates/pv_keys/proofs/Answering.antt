@@ -15,9 +15,11 @@ use Rattle.pv_keys.proofs.Keys.{digit_alone, zero_and_digit, tenth_digit, longer
 use Rattle.pv_keys.proofs.Machine.{on_star, on_hash, on_digit}
 
 -- a key after a number and *
-star_and_key : (page key : ℕ) → IsProgress (Starred page) → is_key key ≡ true → key ≢ star → IsSpelling (keys_since (Starred page) ++ key ∷ []) Slip
+star_and_key : (page key : ℕ) → IsProgress (Starred page) → is_key key ≡ true → key ≢ star
+    → IsSpelling (keys_since (Starred page) ++ key ∷ []) Slip
 star_and_key page key is key_is other =
-    inr (inr (record { number = page; page = is; key = key; is_key = key_is; other = other; text = append_assoc (number_keys page) (star ∷ []) (key ∷ []) }))
+    let text = append_assoc (number_keys page) (star ∷ []) (key ∷ []) in
+    inr (inr (record { number = page; page = is; key = key; is_key = key_is; other = other; text = text }))
 
 -- * after any keys
 star_step : (progress : Progress) → IsProgress progress → IsStep (keys_since progress ++ star ∷ []) (on_star progress)
@@ -45,7 +47,8 @@ hash_step (Number page) is =
 hash_step (Starred page) is = star_and_key page hash is refl (λ e. omega (arith, e))
 
 -- a digit after a number
-number_step : (page digit : ℕ) → IsProgress (Number page) → IsDigit digit → IsStep (number_keys page ++ (48 + digit) ∷ []) (on_digit (Number page) digit)
+number_step : (page digit : ℕ) → IsProgress (Number page) → IsDigit digit
+    → IsStep (number_keys page ++ (48 + digit) ∷ []) (on_digit (Number page) digit)
 number_step page digit is is_digit =
     elim (cases_eq page 0) [
       | inl zero ↦
@@ -85,10 +88,13 @@ digit_step (Starred page) digit is is_digit =
 
 -- an answer to a byte, and the keys that are kept after it
 abbrev Answer : Progress → ℕ → Type 0
-Answer progress byte = (answer : Option Command) × (next : Progress) × IsProgress next × TakesByte (keys_since progress) byte answer (keys_since next)
+Answer progress byte =
+    (answer : Option Command) × (next : Progress) × IsProgress next
+    × TakesByte (keys_since progress) byte answer (keys_since next)
 
 -- a key has one
-key_answer : (progress : Progress) (byte key : ℕ) (step : Step) → keys_of (byte ∷ []) ≡ key ∷ [] → IsStep (keys_since progress ++ key ∷ []) step → Answer progress byte
+key_answer : (progress : Progress) (byte key : ℕ) (step : Step) → keys_of (byte ∷ []) ≡ key ∷ []
+    → IsStep (keys_since progress ++ key ∷ []) step → Answer progress byte
 key_answer progress byte key (Wait next) is step = (None, next, step.0, waiting next step.0 (keys_since progress) byte (rw is step.1))
 key_answer progress byte key (Give command) is step = (Some command, Idle, tt, giving (keys_since progress) byte command (rw is step))
 
