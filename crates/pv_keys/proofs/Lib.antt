@@ -1,0 +1,6 @@
+mod Answering
+pub mod CallerLemmas
+mod Facts
+mod Keys
+mod Laws
+mod Machine
