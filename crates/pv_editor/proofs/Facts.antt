@@ -20,7 +20,7 @@ use Rattle.pv_editor.specs.Groups.{comma, comma_parts}
 use Rattle.pv_editor.specs.Parts.{is_password_byte, dash}
 use Rattle.pv_editor.specs.Replies.{ok_reply, closing_reply, reply_of, responses_reply}
 use Rattle.pv_editor.specs.Say.{new_seat, turn_of, frame_for, is_logged_on, last_number}
-use Rattle.pv_editor.specs.Words.{word_of_text}
+use Rattle.pv_editor.specs.Words.{word_of_line}
 
 -- ---- texts
 
@@ -75,8 +75,8 @@ responses = (refl, refl)
 -- ---- lines
 
 -- a word is an editor's as it stands, and in small letters it is none
-pub words_of_lines : (word_of_text (codes "LOGON") ≡ Some words.LogOn)
-    × (word_of_text (codes "logon") ≡ None) × (word_of_text (codes "QUITS") ≡ None)
+pub words_of_lines : (word_of_line (codes "LOGON") ≡ Some words.LogOn)
+    × (word_of_line (codes "logon") ≡ None) × (word_of_line (codes "QUITS") ≡ None)
 words_of_lines = (refl, refl, refl)
 
 -- a password has bytes from the exclamation mark to the tilde, and no key

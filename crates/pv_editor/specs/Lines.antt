@@ -16,7 +16,7 @@ use Rattle.pv_editor.specs.declared.word.ChangeWord.{ChangeWord}
 use Rattle.pv_editor.specs.declared.word.ChangeWord.TheVariants as change_words
 use Rattle.pv_editor.specs.Groups.{IsProfileText}
 use Rattle.pv_editor.specs.Parts.{IsAccountText, IsNameText, IsPageText, IsPasswordText, IsKindText, IsOrDash, AreCells, IsRowText, IsFieldText}
-use Rattle.pv_editor.specs.Words.{word_of_text}
+use Rattle.pv_editor.specs.Words.{word_of_line}
 
 -- a word and the tail after it say the change: a row for each form
 abbrev pub IsChangeAfter : ChangeWord → List ℕ → FrameChange → Type 0
@@ -49,7 +49,7 @@ IsLineAfter words.Quit tail = GivesAlone lines.Quit tail
 -- a text of any length says the line, by its first word and its tail
 abbrev pub IsLineOf : List ℕ → EditLine → Type 0
 IsLineOf text line =
-    (first tail : List ℕ) × (word : Word) × IsSplit text first tail × (word_of_text first ≡ Some word) × IsLineAfter word tail line
+    (first tail : List ℕ) × (word : Word) × IsSplit text first tail × (word_of_line first ≡ Some word) × IsLineAfter word tail line
 
 -- a text that is not too long says the line
 pub record IsLine (text : List ℕ) (line : EditLine) : Type 0 where

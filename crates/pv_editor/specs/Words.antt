@@ -10,8 +10,8 @@ abbrev pub are_same : List ℕ → List ℕ → Bool
 are_same a b = pointwise nat_eq a b
 
 -- the word that a text is
-abbrev pub word_of_text : List ℕ → Option Word
-word_of_text text =
+abbrev pub word_of_line : List ℕ → Option Word
+word_of_line text =
     if are_same text (codes "LOGON") then Some words.LogOn else
     if are_same text (codes "NEW") then Some words.New else
     if are_same text (codes "OPEN") then Some words.Open else

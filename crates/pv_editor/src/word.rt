@@ -1,5 +1,5 @@
 ghost use Rattle.std.specs.Prelude.{◌≡◌};
-ghost use Rattle.pv_editor.specs.Words.{word_of_text};
+ghost use Rattle.pv_editor.specs.Words.{word_of_line};
 
 /// The first word of an editor's line.
 #[derive(Clone, Copy, Debug, PartialEq, Eq)]
@@ -49,7 +49,7 @@ pub enum ChangeWord {
 
 /// The word that a text is. `None` exactly when it is none of them.
 pub(crate) fn word_of(text: &[u8]) -> Option<Word>
-    ensures { result ≡ word_of_text text.now }
+    ensures { result ≡ word_of_line text.now }
 {
     if text == b"LOGON".as_slice() {
         Some(Word::LogOn)

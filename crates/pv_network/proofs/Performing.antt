@@ -8,7 +8,7 @@ use Rattle.pv_network.specs.declared.packet.Packet.{Packet}
 use Rattle.pv_edits.specs.declared.record.Record.{Record}
 use Rattle.pv_edits.specs.declared.wish.EditWish.{EditWish}
 use Rattle.pv_edits.specs.Room.{has_room}
-use Rattle.pv_udc.specs.EditList.{EditList, places_of}
+use Rattle.pv_udc.specs.EditList.{EditList, all_places}
 use Rattle.pv_editor.specs.Say.{new_seat, turn_of, Says}
 use Rattle.pv_editor.specs.declared.line.EditLine.{EditLine}
 use Rattle.pv_editor.specs.declared.seat.EditorSeat.{EditorSeat}
@@ -22,7 +22,7 @@ use Rattle.pv_network.specs.Link.{Link, link_in, is_packets_full, number_to_send
 use Rattle.pv_network.specs.Sound.{IsGenuine}
 use Rattle.pv_network.specs.Standing.{State, StandsFor}
 use Rattle.pv_network.specs.Step.{step_of_request, step_of_line, step_of_said, step_of_edit, step_of_send, step_of_acknowledging, with_next_at, step_of_arrival, step_of_deliver, step_of_back}
-use Rattle.pv_network.specs.Verdict.{verdict_of, with_stored}
+use Rattle.pv_network.specs.Verdict.{verdict_of, with_verdict}
 use Rattle.pv_network.specs.World.{World, seat_at, link_at, centre_at}
 use Rattle.pv_network.proofs.Lists.{all_get}
 use Rattle.pv_network.proofs.Soundness.{sound_request, sound_packet, sound_count, sound_heard, sound_applied, taken_is_next}
@@ -30,7 +30,7 @@ use Rattle.pv_network.proofs.Standing.{request_stands, seat_replaced, centre_cou
 
 -- an editor's request is judged
 pub asks : (s : State) (w : World) → StandsFor s w → (editor q : ℕ) (wish : EditWish) (here : EditList) (told : UdcReplyView)
-    → here ≡ with_stored s.update (verdict_of s.update (Edit editor q wish)).stored → told ≡ (verdict_of s.update (Edit editor q wish)).reply
+    → here ≡ with_verdict s.update (verdict_of s.update (Edit editor q wish)).stored → told ≡ (verdict_of s.update (Edit editor q wish)).reply
     → StandsFor (record s { update = here }) (step_of_request w editor q wish).0 × (Reply (reply_of told) ≡ (step_of_request w editor q wish).1)
 asks s w stands editor q wish here told is reply =
     let verdict = verdict_of w.update (Edit editor q wish) in (

@@ -14,7 +14,7 @@ use Rattle.pv_network.specs.Centre.{Centre, CentreStands, Held, new_centre, with
 use Rattle.pv_network.specs.Link.{Link}
 use Rattle.pv_network.specs.Run.{IsRun}
 use Rattle.pv_editor.specs.declared.seat.EditorSeat.{EditorSeat}
-use Rattle.pv_network.specs.Verdict.{with_stored}
+use Rattle.pv_network.specs.Verdict.{with_verdict}
 use Rattle.pv_network.specs.World.{World, with_seat, centre_at, with_centre, with_link, with_edit, with_receipt}
 use Rattle.pv_network.specs.Sound.{IsSound}
 use Rattle.pv_network.specs.Standing.{State, StandsFor}
@@ -70,7 +70,7 @@ module _ (s : State) (w : World) (stands : StandsFor s w) where
       (λ held centre stood. centre_longer w.update held centre stood edit) s.centres w.centres stands.centres
 
   -- another Update Centre, which has stored what the world's stored, leaves all else standing, whatever is acknowledged
-  pub request_stands : (editor q : ℕ) (stored : Option Record) (reply : UdcReplyView) (here : EditList) → here ≡ with_stored w.update stored
+  pub request_stands : (editor q : ℕ) (stored : Option Record) (reply : UdcReplyView) (here : EditList) → here ≡ with_verdict w.update stored
       → IsSound (with_receipt (with_edit w stored) editor q reply) → StandsFor (record s { update = here }) (with_receipt (with_edit w stored) editor q reply)
   request_stands editor q None (Stored place) here is sound = record { sound = sound; update = is; seats = stands.seats; centres = stands.centres; links = stands.links }
   request_stands editor q None (Refused code shown) here is sound = record { sound = sound; update = is; seats = stands.seats; centres = stands.centres; links = stands.links }

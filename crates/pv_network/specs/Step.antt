@@ -11,7 +11,7 @@ use Rattle.pv_edits.specs.declared.wish.EditWish.{EditWish}
 use Rattle.pv_edits.specs.declared.wish.EditWish.TheVariants.{Put}
 use Rattle.pv_edits.specs.Edits.{frame_at}
 use Rattle.pv_words.specs.Parts.{Exactly}
-use Rattle.pv_udc.specs.EditList.{places_of}
+use Rattle.pv_udc.specs.EditList.{all_places}
 use Rattle.pv_udc.specs.Judgement.{next_number}
 use Rattle.pv_udc.specs.declared.request.UdcRequest.TheVariants.{Edit}
 use Rattle.pv_editor.specs.Lines.{IsLine}
@@ -48,8 +48,8 @@ abbrev pub seeded_frame : List ℕ → Content
 seeded_frame row = record blank_frame { body = with_row FIRST_ROW row blank_frame.body }
 
 -- the operator's next number puts that frame under a name
-abbrev pub step_of_seed : World → Name → List ℕ → World × Outcome
-step_of_seed w name row = step_of_request w OPERATOR (next_number w.update.records OPERATOR) (Put name (seeded_frame row))
+abbrev pub step_of_seeding : World → Name → List ℕ → World × Outcome
+step_of_seeding w name row = step_of_request w OPERATOR (next_number w.update.records OPERATOR) (Put name (seeded_frame row))
 
 -- ---- edit
 
@@ -163,7 +163,7 @@ IsChoice _ choice = Unit {0}
 
 -- the world after an event, and the answer
 abbrev pub happens : World → Event → Choice → World × Outcome
-happens w (events.Seed name row) choice = step_of_seed w name row
+happens w (events.Seed name row) choice = step_of_seeding w name row
 happens w (events.Edit port line) choice = step_of_edit w port choice.said
 happens w (events.Send centre) choice = step_of_send w centre
 happens w (events.Deliver centre index) choice = step_of_deliver w centre index

@@ -42,9 +42,9 @@ abbrev pub verdict_of : EditList → UdcRequest → Verdict
 verdict_of u request = verdict_by u (judge u.limits u.records request)
 
 -- the list with the record that is stored, if there is one
-abbrev pub with_stored : EditList → Option Record → EditList
-with_stored u None = u
-with_stored u (Some edit) = with_record u edit
+abbrev pub with_verdict : EditList → Option Record → EditList
+with_verdict u None = u
+with_verdict u (Some edit) = with_record u edit
 
 -- ---- what callers keyed into an editor's frames
 

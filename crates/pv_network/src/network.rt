@@ -5,7 +5,7 @@ ghost use Rattle.pv_editor.specs.declared.line.EditLine.{EditLine};
 ghost use Rattle.pv_editor.specs.declared.step.EditStep.TheVariants as steps;
 ghost use Rattle.pv_network.specs.World.{start};
 ghost use Rattle.pv_network.specs.Standing.{StandsFor, Performs, IsPossible};
-ghost use Rattle.pv_network.specs.Step.{Choice, IsChoice, happens, step_of_request, step_of_seed, step_of_line, step_of_said, step_of_edit, step_of_send, step_of_deliver, step_of_back, step_of_view, step_of_at, step_of_list, step_of_acknowledging};
+ghost use Rattle.pv_network.specs.Step.{Choice, IsChoice, happens, step_of_request, step_of_seeding, step_of_line, step_of_said, step_of_edit, step_of_send, step_of_deliver, step_of_back, step_of_view, step_of_at, step_of_list, step_of_acknowledging};
 
 use crate::centre::{Arrival, Centre, open_centres};
 use crate::event::{EDITORS, Event};
@@ -122,7 +122,7 @@ impl Network {
 
     /// The operator's next number puts a frame under a name that is blank except for its row 2.
     fn seed(&mut self, name: FrameName, row: &[u8; 40]) -> Outcome
-        ensures performs { Performs self.old self.new result (λ w. step_of_seed w name row.now) }
+        ensures performs { Performs self.old self.new result (λ w. step_of_seeding w name row.now) }
         ensures centres { length self.new.centres ≡ length self.old.centres }
     {
         let mut frame = Frame::blank();

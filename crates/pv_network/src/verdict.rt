@@ -1,6 +1,6 @@
 ghost use Rattle.std.specs.Prelude.{◌≡◌};
 ghost use Rattle.pv_udc.specs.Requests.{HasCentre};
-ghost use Rattle.pv_network.specs.Verdict.{view_of, verdict_of, with_stored, reply_found};
+ghost use Rattle.pv_network.specs.Verdict.{view_of, verdict_of, with_verdict, reply_found};
 ghost use Rattle.pv_editor.specs.Replies.{responses_reply};
 
 use pv_edits::Record;
@@ -16,7 +16,7 @@ pub(crate) const FULL: u8 = 14;
 pub(crate) fn store(update: &mut UdcState, request: &UdcRequest) -> UdcReplyView
     requires { HasCentre request.now }
     ensures reply { result ≡ (verdict_of update.old request.now).reply }
-    ensures stored { update.new ≡ with_stored update.old (verdict_of update.old request.now).stored }
+    ensures stored { update.new ≡ with_verdict update.old (verdict_of update.old request.now).stored }
 {
     match update.decide(request) {
         Decision::Answer(reply) => view_of(reply),

@@ -13,9 +13,9 @@ use Rattle.pv_edits.specs.declared.record.Record.{Record}
 use Rattle.pv_edits.specs.declared.wish.EditWish.{EditWish}
 use Rattle.pv_node.specs.declared.decision.Decision.{Decision}
 use Rattle.pv_node.specs.declared.decision.Decision.TheVariants.{Answer, Store}
-use Rattle.pv_udc.specs.EditList.{places_of}
+use Rattle.pv_udc.specs.EditList.{all_places}
 use Rattle.pv_udc.specs.Requests.{edit_of, record_of}
-use Rattle.pv_udc.specs.Judgement.{last_edit, next_number, kept_place, editor_refusal, refusal_of, refused, answers_of, answered_or_stored, judge}
+use Rattle.pv_udc.specs.Judgement.{last_edit, next_number, kept_place, editor_refusal, refusal_of, reply_to, answers_of, decision_of, judge}
 use Rattle.pv_udc.specs.declared.refusal.Refusal.{Refusal}
 use Rattle.pv_udc.specs.declared.reply.UdcReply.{UdcReply}
 use Rattle.pv_udc.specs.declared.reply.UdcReply.TheVariants.{Stored, Again, Old, Early, Refused}
@@ -80,7 +80,7 @@ module _ (limits : Limits) (records : List Record) (editor q : ℕ) (wish : Edit
         reply_is = by (first_of (answers_of limits records (Edit editor q wish))) is;
       }
     where
-      by : (answer : Option UdcReply) → answered_or_stored answer (edit_of editor q wish) (length records) ≡ Store edit reply → reply ≡ Stored (length records)
+      by : (answer : Option UdcReply) → decision_of answer (edit_of editor q wish) (length records) ≡ Store edit reply → reply ≡ Stored (length records)
       by None stored = sym (ap (reply_or reply) stored)
       by (Some other) stored = absurd cc
 
@@ -108,7 +108,7 @@ module _ (limits : Limits) (records : List Record) (editor q : ℕ) (wish : Edit
     where
       by : (known : Option Refusal) (kept : Option ℕ) (fault : Option Refusal)
           → ((place : ℕ) → kept ≡ Some place → last_edit records editor ≡ Some (q, place))
-          → answered_or_stored (first_of (option_map refused known ∷ option_map Again kept ∷ option_map refused fault ∷ [])) (edit_of editor q wish) (length records) ≡ Answer reply
+          → decision_of (first_of (option_map reply_to known ∷ option_map Again kept ∷ option_map reply_to fault ∷ [])) (edit_of editor q wish) (length records) ≡ Answer reply
           → IsAnswered reply
       by (Some refusal) kept fault last answered = subst IsAnswered (ap (reply_or reply) answered) tt
       by None (Some place) fault last answered = subst IsAnswered (ap (reply_or reply) answered) (last place refl)
@@ -153,13 +153,13 @@ last_edit-there records editor q place is = by (last_index (is_edit_of editor) r
     named edit None at is = absurd cc
 
     found : (i : ℕ) (edit : Record) (at : Option ℕ) → last_index (is_edit_of editor) records ≡ Some i → slice_get records i ≡ Some edit
-        → slice_get (places_of records) i ≡ at → (at >>= λ p. placed p (number_in edit)) ≡ pair q place
+        → slice_get (all_places records) i ≡ at → (at >>= λ p. placed p (number_in edit)) ≡ pair q place
         → IsThere records editor q place
     found i edit None last here at is = absurd cc
     found i edit (Some p) last here at is =
         let both = named edit (number_in edit) p is in
         let within : i < length records = slice_get_within records i edit here in
-        let index : p ≡ i = sym (get_or_from_slice_get (places_of records) i p 0 at) ∙ get_or-range_with_len 0 (length records) i 0 within ∙ (let none : 0 + i ≡ i = omega arith in none) in
+        let index : p ≡ i = sym (get_or_from_slice_get (all_places records) i p 0 at) ∙ get_or-range_with_len 0 (length records) i 0 within ∙ (let none : 0 + i ≡ i = omega arith in none) in
         record {
           edit = edit;
           there = ap (slice_get records) (sym both.1 ∙ index) ∙ here;
@@ -168,13 +168,13 @@ last_edit-there records editor q place is = by (last_index (is_edit_of editor) r
         }
 
     there : (i : ℕ) (edit : Option Record) → last_index (is_edit_of editor) records ≡ Some i → slice_get records i ≡ edit
-        → (edit >>= λ e. slice_get (places_of records) i >>= λ p. placed p (number_in e)) ≡ pair q place
+        → (edit >>= λ e. slice_get (all_places records) i >>= λ p. placed p (number_in e)) ≡ pair q place
         → IsThere records editor q place
     there i None last here is = absurd cc
-    there i (Some edit) last here is = found i edit (slice_get (places_of records) i) last here refl is
+    there i (Some edit) last here is = found i edit (slice_get (all_places records) i) last here refl is
 
     by : (i : Option ℕ) → last_index (is_edit_of editor) records ≡ i
-        → (i >>= λ k. slice_get records k >>= λ e. slice_get (places_of records) k >>= λ p. placed p (number_in e)) ≡ pair q place
+        → (i >>= λ k. slice_get records k >>= λ e. slice_get (all_places records) k >>= λ p. placed p (number_in e)) ≡ pair q place
         → IsThere records editor q place
     by None last is = absurd cc
     by (Some i) last is = there i (slice_get records i) last refl is

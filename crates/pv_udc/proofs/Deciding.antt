@@ -11,7 +11,7 @@ use Rattle.pv_edits.specs.declared.wish.EditWish.TheVariants.{Put, Drop, Account
 use Rattle.pv_node.specs.declared.decision.Decision.{Decision}
 use Rattle.pv_node.specs.declared.decision.Decision.TheVariants.{Answer, Store}
 use Rattle.pv_udc.specs.Requests.{edit_of}
-use Rattle.pv_udc.specs.Judgement.{next_number, kept_place, editor_refusal, number_refusal, refusals_of, refusal_of, refused, answers_of, answered_or_stored, judge}
+use Rattle.pv_udc.specs.Judgement.{next_number, kept_place, editor_refusal, number_refusal, refusals_of, refusal_of, reply_to, answers_of, decision_of, judge}
 use Rattle.pv_udc.specs.declared.refusal.Refusal.TheVariants.{NotLoggedOn, BadNumber}
 use Rattle.pv_udc.specs.declared.reply.UdcReply.{UdcReply}
 use Rattle.pv_udc.specs.declared.reply.UdcReply.TheVariants.{Again}
@@ -44,7 +44,7 @@ IsAnswer (Store edit reply) = ⊥
 
 -- a record that is stored is the one that was asked for, and no answer applies
 pub is_stored : (answer : Option UdcReply) (asked edit : Record) (count : ℕ) (reply : UdcReply)
-    → answered_or_stored answer asked count ≡ Store edit reply → (answer ≡ None) × (asked ≡ edit)
+    → decision_of answer asked count ≡ Store edit reply → (answer ≡ None) × (asked ≡ edit)
 is_stored None asked edit count reply is = (refl, ap (stored_or asked) is)
 is_stored (Some other) asked edit count reply is = absurd (subst IsAnswer is tt)
 
@@ -64,9 +64,9 @@ module _ (limits : Limits) (records : List Record) (editor q : ℕ) where
       let none = all_none answers stored.0 in
       record {
         edit_is = stored.1;
-        has_account = of_not _ (some_if-none _ NotLoggedOn (option_map-none_back refused (editor_refusal records editor) none.0));
+        has_account = of_not _ (some_if-none _ NotLoggedOn (option_map-none_back reply_to (editor_refusal records editor) none.0));
         new = option_map-none_back Again (kept_place records editor q) none.1.0;
-        not_refused = option_map-none_back refused (refusal_of limits records editor q wish) none.1.1.0;
+        not_refused = option_map-none_back reply_to (refusal_of limits records editor q wish) none.1.1.0;
       }
 
   -- then its number is the editor's next

@@ -10,7 +10,7 @@ use Rattle.pv_edits.specs.declared.base.Base.{Base}
 use Rattle.pv_edits.specs.declared.record.Record.{Record}
 use Rattle.pv_outside.specs.declared.limits.Limits.{Limits}
 use Rattle.pv_udc.specs.Counts.{counted_on}
-use Rattle.pv_udc.specs.EditList.{places_of, IsCounted}
+use Rattle.pv_udc.specs.EditList.{all_places, IsCounted}
 
 -- one number more
 pub range_with_len-push : (a n : ℕ) → range_with_len a (suc n) ≡ range_with_len a n ++ (a + n) ∷ []
@@ -32,11 +32,11 @@ pub taken_of-push : (records : List Record) (edit : Record) (centre : ℕ)
 taken_of-push records edit centre = count_by-push (is_of_centre centre) records edit
 
 -- the places of one record more
-pub places_of-push : (records : List Record) (edit : Record) → places_of (records ++ edit ∷ []) ≡ places_of records ++ length records ∷ []
-places_of-push records edit =
+pub all_places-push : (records : List Record) (edit : Record) → all_places (records ++ edit ∷ []) ≡ all_places records ++ length records ∷ []
+all_places-push records edit =
     let more : length (records ++ edit ∷ []) ≡ suc (length records) = omega (arith, length-append records (edit ∷ [])) in
     let last : 0 + length records ≡ length records = omega arith in
-    ap (range_with_len 0) more ∙ range_with_len-push 0 (length records) ∙ ap (λ place. places_of records ++ place ∷ []) last
+    ap (range_with_len 0) more ∙ range_with_len-push 0 (length records) ∙ ap (λ place. all_places records ++ place ∷ []) last
 
 -- what is kept beside a base counts on when the base takes in a record
 pub IsCounted-push : (base next : Base) (limits : Limits) (count : ℕ) (counts more : List ℕ) (edit : Record)
@@ -48,8 +48,8 @@ IsCounted-push base next limits count counts more edit is now same within on =
     let records = base.records.items in
     record {
       same_limits = is.same_limits ∙ sym same;
-      in_order = now.places ∙ ap (λ l. l ++ count ∷ []) is.in_order ∙ ap (λ n. places_of records ++ n ∷ []) is.counted
-          ∙ sym (places_of-push records edit) ∙ ap places_of (sym now.records);
+      in_order = now.places ∙ ap (λ l. l ++ count ∷ []) is.in_order ∙ ap (λ n. all_places records ++ n ∷ []) is.counted
+          ∙ sym (all_places-push records edit) ∙ ap all_places (sym now.records);
       counted = omega (arith, is.counted, ap length now.records, length-append records (edit ∷ []));
       within = omega (arith, within);
       taken_up = λ centre. on centre ∙ ap (counted_on (is_of_centre centre edit)) (is.taken_up centre)

@@ -11,9 +11,9 @@ use Rattle.pv_edits.specs.Edits.{makes, is_edit_of, later_or_first, last_index, 
 use Rattle.pv_edits.specs.Room.{has_editor}
 use Rattle.pv_edits.specs.declared.record.Record.{Record}
 use Rattle.pv_edits.specs.declared.record.Record.TheVariants.{Put, Drop, Account, Lease, Taken}
-use Rattle.pv_udc.specs.EditList.{places_of}
+use Rattle.pv_udc.specs.EditList.{all_places}
 use Rattle.pv_udc.specs.Judgement.{last_edit}
-use Rattle.pv_udc.proofs.Growing.{places_of-push}
+use Rattle.pv_udc.proofs.Growing.{all_places-push}
 
 -- an element of a list is there in a longer one
 slice_get-before : {X : Type 0} (xs ys : List X) (i : ℕ) (d : X) → i < length xs → slice_get (xs ++ ys) i ≡ slice_get xs i
@@ -69,11 +69,11 @@ module _ (test : Record → Bool) where
 pub last_edit-his : (records : List Record) (edit : Record) (editor q : ℕ) → is_edit_of editor edit ≡ true → number_in edit ≡ Some q
     → last_edit (records ++ edit ∷ []) editor ≡ Some (q, length records)
 last_edit-his records edit editor q his numbered =
-    let places : List ℕ = places_of records in
+    let places : List ℕ = all_places records in
     let count : length places ≡ length records = length-range_with_len 0 (length records) in
     let last : slice_get (places ++ length records ∷ []) (length records) ≡ Some (length records) =
     ap (slice_get (places ++ length records ∷ [])) (sym count) ∙ slice_get-last places (length records) in
-    rw (last_index-passes (is_edit_of editor) records edit his, slice_get-last records edit, places_of-push records edit, last, numbered)
+    rw (last_index-passes (is_edit_of editor) records edit his, slice_get-last records edit, all_places-push records edit, last, numbered)
     refl
 
 -- the number and the place of the record at an index
@@ -83,19 +83,19 @@ numbered_at records places i =
 
 -- are those in the shorter list
 numbered_at-before : (records : List Record) (edit : Record) (found : Option ℕ) → ((k : ℕ) → found ≡ Some k → k < length records)
-    → (found >>= numbered_at (records ++ edit ∷ []) (places_of records ++ length records ∷ []))
-    ≡ (found >>= numbered_at records (places_of records))
+    → (found >>= numbered_at (records ++ edit ∷ []) (all_places records ++ length records ∷ []))
+    ≡ (found >>= numbered_at records (all_places records))
 numbered_at-before records edit None inside = refl
 numbered_at-before records edit (Some k) inside =
-    let place : k < length (places_of records) = omega (arith, inside k refl, length-range_with_len 0 (length records)) in
-    rw (slice_get-before records (edit ∷ []) k edit (inside k refl), slice_get-before (places_of records) (length records ∷ []) k 0 place)
+    let place : k < length (all_places records) = omega (arith, inside k refl, length-range_with_len 0 (length records)) in
+    rw (slice_get-before records (edit ∷ []) k edit (inside k refl), slice_get-before (all_places records) (length records ∷ []) k 0 place)
     refl
 
 -- another record leaves it as it was
 pub last_edit-others : (records : List Record) (edit : Record) (editor : ℕ) → is_edit_of editor edit ≡ false
     → last_edit (records ++ edit ∷ []) editor ≡ last_edit records editor
 last_edit-others records edit editor other =
-    rw (last_index-fails (is_edit_of editor) records edit other, places_of-push records edit)
+    rw (last_index-fails (is_edit_of editor) records edit other, all_places-push records edit)
     (numbered_at-before records edit (last_index (is_edit_of editor) records) (within (is_edit_of editor) records))
 
 -- ---- accounts stay

@@ -12,7 +12,7 @@ use Rattle.pv_edits.specs.declared.wish.EditWish.TheVariants.{Put, Drop, Account
 use Rattle.pv_node.specs.declared.decision.Decision.TheVariants.{Store}
 use Rattle.pv_udc.specs.Requests.{edit_of, record_of}
 use Rattle.pv_udc.specs.Judgement.{next_number, answers_of, judge}
-use Rattle.pv_udc.specs.Numbers.{IsJudged, number_by, numbers_of, from_one}
+use Rattle.pv_udc.specs.Numbers.{IsJudgedRun, number_by, numbers_of, from_one}
 use Rattle.pv_udc.specs.declared.reply.UdcReply.{UdcReply}
 use Rattle.pv_udc.specs.declared.request.UdcRequest.{UdcRequest}
 use Rattle.pv_udc.specs.declared.request.UdcRequest.TheVariants.{Edit, TakeUp}
@@ -93,7 +93,7 @@ module _ (editor : ℕ) where
         subst (λ e. Counts (records ++ e ∷ [])) (is_stored answer asked edit (length records) reply is).1 (others records asked refl counts)
 
     -- and so on to the end of the list
-    on : (before later records : List Record) → records ≡ before ++ later → IsJudged limits records → Counts before → Counts records
+    on : (before later records : List Record) → records ≡ before ++ later → IsJudgedRun limits records → Counts before → Counts records
     on before [] records is judged counts = subst Counts (sym (append-nil before) ∙ sym is) counts
     on before (edit ∷ later) records is judged counts =
         let here = judged before later edit is in
@@ -101,6 +101,6 @@ module _ (editor : ℕ) where
         (stored before edit here.0 here.1 here.2 counts)
 
     -- in a list that was judged
-    pub numbers_of-judged : (records : List Record) → IsJudged limits records
+    pub numbers_of-judged : (records : List Record) → IsJudgedRun limits records
         → numbers_of editor records ≡ from_one (length (numbers_of editor records))
     numbers_of-judged records judged = (on [] records records refl judged nothing).from

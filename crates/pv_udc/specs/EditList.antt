@@ -20,13 +20,13 @@ abbrev pub with_record : EditList → Record → EditList
 with_record list edit = record list { records = list.records ++ edit ∷ [] }
 
 -- the places of the records: 0, 1, 2 and on
-abbrev pub places_of : List Record → List ℕ
-places_of records = range_with_len 0 (length records)
+abbrev pub all_places : List Record → List ℕ
+all_places records = range_with_len 0 (length records)
 
 -- what is kept beside a base: its limits, how many records it has, which have the places from 0 on, and how many items of each centre
 pub record IsCounted (base : Base) (limits : Limits) (count : ℕ) (counts : List ℕ) : Type 0 where
   pub same_limits : limits ≡ base.limits
-  pub in_order : base.places.items ≡ places_of base.records.items
+  pub in_order : base.places.items ≡ all_places base.records.items
   pub counted : count ≡ length base.records.items
   pub within : count ≤ limits.records
   pub taken_up : (centre : ℕ) → slice_index_or counts centre 0 ≡ taken_of base.records.items centre

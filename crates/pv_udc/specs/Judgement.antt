@@ -17,7 +17,7 @@ use Rattle.pv_edits.specs.declared.record.Record.{Record}
 use Rattle.pv_node.specs.declared.decision.Decision.{Decision}
 use Rattle.pv_node.specs.declared.decision.Decision.TheVariants.{Answer, Store}
 use Rattle.pv_udc.specs.Codes.{code_of}
-use Rattle.pv_udc.specs.EditList.{places_of}
+use Rattle.pv_udc.specs.EditList.{all_places}
 use Rattle.pv_udc.specs.Requests.{record_of}
 use Rattle.pv_udc.specs.declared.refusal.Refusal.{Refusal}
 use Rattle.pv_udc.specs.declared.refusal.Refusal.TheVariants.{NotLoggedOn, NotOwner, BadNumber, NoFrame, FramesFull, AccountsFull, BadFrame, OperatorOnly, LeasesFull, NoAccount}
@@ -30,7 +30,7 @@ use Rattle.pv_udc.specs.declared.request.UdcRequest.TheVariants.{Edit, TakeUp}
 
 -- an editor's last number, and the place of his last edit
 abbrev pub last_edit : List Record → ℕ → Option (ℕ × ℕ)
-last_edit records editor = last_of records (places_of records) editor
+last_edit records editor = last_of records (all_places records) editor
 
 -- the number of his next edit: one more than his last, and 1 at first
 abbrev pub next_number : List Record → ℕ → ℕ
@@ -115,9 +115,9 @@ refused refusal = Refused (code_of refusal)
 -- it was taken up before; others are to come first.
 abbrev pub answers_of : Limits → List Record → UdcRequest → List (Option UdcReply)
 answers_of limits records (Edit editor q wish) =
-    option_map refused (editor_refusal records editor)
+    option_map reply_to (editor_refusal records editor)
     ∷ option_map Again (kept_place records editor q)
-    ∷ option_map refused (refusal_of limits records editor q wish)
+    ∷ option_map reply_to (refusal_of limits records editor q wish)
     ∷ []
 answers_of limits records (TakeUp centre k item) =
     some_if (nat_lt k (taken_of records centre)) (Old (taken_of records centre))
@@ -125,11 +125,11 @@ answers_of limits records (TakeUp centre k item) =
     ∷ []
 
 -- an answer, or the record that is stored after so many
-abbrev pub answered_or_stored : Option UdcReply → Record → ℕ → Decision Record UdcReply
-answered_or_stored (Some reply) edit count = Answer reply
-answered_or_stored None edit count = Store edit (Stored count)
+abbrev pub decision_of : Option UdcReply → Record → ℕ → Decision Record UdcReply
+decision_of (Some reply) edit count = Answer reply
+decision_of None edit count = Store edit (Stored count)
 
 -- what is decided on a request: the first answer that applies, or its record is stored at the end of the list
 abbrev pub judge : Limits → List Record → UdcRequest → Decision Record UdcReply
 judge limits records request =
-    answered_or_stored (first_of (answers_of limits records request)) (record_of request) (length records)
+    decision_of (first_of (answers_of limits records request)) (record_of request) (length records)

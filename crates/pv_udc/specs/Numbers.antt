@@ -14,8 +14,8 @@ abbrev pub IsStoredAt : Limits → List Record → Record → Type 0
 IsStoredAt limits before edit = (request : UdcRequest) × (reply : UdcReply) × (judge limits before request ≡ Store edit reply)
 
 -- each record of the list was stored on some request at the records before it
-abbrev pub IsJudged : Limits → List Record → Type 0
-IsJudged limits records = (before later : List Record) (edit : Record) → records ≡ before ++ edit ∷ later → IsStoredAt limits before edit
+abbrev pub IsJudgedRun : Limits → List Record → Type 0
+IsJudgedRun limits records = (before later : List Record) (edit : Record) → records ≡ before ++ edit ∷ later → IsStoredAt limits before edit
 
 -- the number of a record, if it is this editor's edit
 abbrev pub number_by : ℕ → Record → Option ℕ

@@ -10,7 +10,7 @@ ghost use Rattle.pv_edits.specs.declared.wish.EditWish.{EditWish};
 ghost use Rattle.pv_node.specs.declared.decision.Decision.TheVariants.{Answer, Store};
 ghost use Rattle.pv_udc.specs.Requests.{IsRequest};
 ghost use Rattle.pv_udc.specs.Judgement.{last_edit, judge};
-ghost use Rattle.pv_udc.specs.Numbers.{IsJudged, numbers_of, from_one};
+ghost use Rattle.pv_udc.specs.Numbers.{IsJudgedRun, numbers_of, from_one};
 ghost use Rattle.pv_udc.specs.declared.reply.UdcReply.{UdcReply};
 ghost use Rattle.pv_udc.specs.declared.reply.UdcReply.TheVariants as replies;
 ghost use Rattle.pv_udc.specs.declared.request.UdcRequest.{UdcRequest};
@@ -30,7 +30,7 @@ pub fn spelling_is_a_body()
 
 /// In a list of records that were judged each editor's edits have the numbers 1, 2, 3 and on, in order.
 pub fn edits_are_numbered_from_one()
-    ensures { (limits : Limits) (records : List Record) (editor : ℕ) → IsJudged limits records
+    ensures { (limits : Limits) (records : List Record) (editor : ℕ) → IsJudgedRun limits records
         → numbers_of editor records ≡ from_one (length (numbers_of editor records)) }
 {}
 

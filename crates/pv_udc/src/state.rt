@@ -39,7 +39,7 @@ impl Model for UdcState {
 
 impl UdcState {
     ghost use Rattle.pv_edits.specs.Standing.{IsBaseOf};
-    ghost use Rattle.pv_udc.specs.EditList.{empty_list, with_record, places_of};
+    ghost use Rattle.pv_udc.specs.EditList.{empty_list, with_record, all_places};
     ghost use Rattle.pv_udc.specs.Judgement.{last_edit};
     ghost use Rattle.pv_udc.specs.Replies.{brings_reply_to, reply_place};
 
@@ -77,7 +77,7 @@ impl UdcState {
 
     /// The base of the records: frames, accounts, leases and editors' numbers.
     pub fn base(&self) -> &Base
-        ensures { IsBaseOf result.now self.now.records (places_of self.now.records) }
+        ensures { IsBaseOf result.now self.now.records (all_places self.now.records) }
     {
         &self.base
     }

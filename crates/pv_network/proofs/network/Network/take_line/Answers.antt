@@ -1,5 +1,5 @@
 use Rattle.std.proofs.Common.{rules, ◌≡◌, List, length, get_or, set, refl, sym, ◌∙◌, subst, arith}
-use Rattle.pv_udc.specs.EditList.{places_of}
+use Rattle.pv_udc.specs.EditList.{all_places}
 use Rattle.pv_editor.specs.Say.{new_seat, Says}
 use Rattle.pv_editor.specs.declared.seat.EditorSeat.{EditorSeat}
 use Rattle.pv_network.specs.declared.event.TheConstants.{EDITORS}
