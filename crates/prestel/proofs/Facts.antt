@@ -7,6 +7,7 @@ use Rattle.prestel.specs.declared.grammar.Command.TheVariants.{Nothing, Do}
 use Rattle.prestel.specs.declared.grammar.TheConstants.{COMMENT}
 use Rattle.prestel.specs.declared.word.Word.TheVariants as words
 use Rattle.prestel.specs.Play.{first_world, longest_script}
+use Rattle.pv_network.specs.Step.{Choice}
 use Rattle.prestel.specs.Transcript.{answer_text, answers}
 use Rattle.prestel.specs.Words.{word_of_text}
 
@@ -26,8 +27,8 @@ mebibyte = refl
 
 -- ---- transcripts
 
--- The packet's number comes before the record's. A record that was taken has its acknowledgement beside it.
--- A dash stands for one that could not be made, and for a frame that a centre does not have.
+-- The packet's number comes before the record's. A record that was taken has its acknowledgement beside it, and a dash stands
+-- for one that could not be made, and for a frame that a centre does not have.
 pub lines : (answer_text (SentRecord 3 17) ≡ codes "sent 3 record 17\n")
     × (answer_text (Taken 17 (Some 4)) ≡ codes "taken 17 ack 4\n")
     × (answer_text (Old 17 None) ≡ codes "old 17 ack -\n")
@@ -37,6 +38,10 @@ pub lines : (answer_text (SentRecord 3 17) ≡ codes "sent 3 record 17\n")
 unfolding digits
 lines = (refl, refl, refl, refl, refl, refl)
 
+-- nothing is open in a command
+abbrev any : Choice
+any = record { kept = true; said = None }
+
 -- on a new network nothing is there to send or to deliver, and a comment has no answer
-pub new_network : answers first_world ((Do (Send 0), true) ∷ (Nothing, true) ∷ (Do (Deliver 0 0), true) ∷ []) ≡ codes "idle\nno packet\n"
+pub new_network : answers first_world ((Do (Send 0), any) ∷ (Nothing, any) ∷ (Do (Deliver 0 0), any) ∷ []) ≡ codes "idle\nno packet\n"
 new_network = refl

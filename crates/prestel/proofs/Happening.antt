@@ -9,6 +9,7 @@ use Rattle.prestel.specs.Grammar.{AsksAs}
 -- by the line's word: its centre is one that there is, or its row is a row of cells
 pub can_happen : (s : State) (word : Word) (tail : List ℕ) (event : Event) → AsksAs (length s.centres) word tail event → IsPossible s event
 can_happen s words.Seed tail event asks = subst (IsPossible s) (sym asks.is) tt
+can_happen s words.Edit tail event asks = subst (IsPossible s) (sym asks.is) asks.are.first.0
 can_happen s words.Send tail event asks = subst (IsPossible s) (sym asks.is) asks.are.first.0
 can_happen s words.Deliver tail event asks = subst (IsPossible s) (sym asks.is) asks.are.first.0
 can_happen s words.Back tail event asks = subst (IsPossible s) (sym asks.is) asks.are.first.0

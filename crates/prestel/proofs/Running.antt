@@ -1,17 +1,18 @@
 -- What was run and written, line by line.
-use Rattle.std.proofs.Common.{◌≡◌, ℕ, ◌+◌, ◌≤◌, Bool, List, [], ◌∷◌, ◌++◌, length, take, Option, refl, sym, ap, subst, ◌∙◌, append_assoc, arith}
+use Rattle.std.proofs.Common.{◌≡◌, ℕ, ◌+◌, ◌≤◌, List, [], ◌∷◌, ◌++◌, length, take, Option, refl, sym, ap, subst, ◌∙◌, append_assoc, arith}
 use Rattle.std.specs.Io.KnownBytes.{Appends}
 use Rattle.std.proofs.lemmas.List.{append-nil, length-append}
 use Rattle.std.proofs.Math.Seq.{take-append-add}
 use Rattle.pv_words.specs.Lines.{lines_of}
 use Rattle.pv_network.specs.World.{World}
+use Rattle.pv_network.specs.Step.{Choice}
 use Rattle.pv_network.specs.Standing.{State, StandsFor}
 use Rattle.prestel.specs.declared.ends.AnswerEnd.TheVariants as answering
 use Rattle.prestel.specs.declared.ends.RunEnd.{RunEnd}
 use Rattle.prestel.specs.declared.ends.RunEnd.TheVariants.{BadLine, Unanswered}
 use Rattle.prestel.specs.declared.grammar.Command.{Command}
 use Rattle.prestel.specs.Ends.{HasRun, IsLineEnd, IsRunEnd}
-use Rattle.prestel.specs.Grammar.{ReadsLine, AreRead}
+use Rattle.prestel.specs.Grammar.{ReadsLine, IsChosen, AreRead}
 use Rattle.prestel.specs.Play.{IsTranscript, IsPlayed, StopsAfterLine}
 use Rattle.prestel.specs.Transcript.{answer_to, answers, world_after, world_after_all}
 use Rattle.prestel.proofs.Reading.{Appends-none, Appends-more}
@@ -19,20 +20,20 @@ use Rattle.prestel.proofs.Reading.{Appends-none, Appends-more}
 -- ---- one command more
 
 -- the world after one command more
-world_after-push : (w : World) (runs : List (Command × Bool)) (run : Command × Bool) → world_after_all w (runs ++ run ∷ []) ≡ world_after (world_after_all w runs) run.0 run.1
+world_after-push : (w : World) (runs : List (Command × Choice)) (run : Command × Choice) → world_after_all w (runs ++ run ∷ []) ≡ world_after (world_after_all w runs) run.0 run.1
 world_after-push w [] run = refl
 world_after-push w (first ∷ runs) run = world_after-push (world_after w first.0 first.1) runs run
 
 -- what is written for one command more
-answers-push : (w : World) (runs : List (Command × Bool)) (run : Command × Bool) → answers w (runs ++ run ∷ []) ≡ answers w runs ++ answer_to (world_after_all w runs) run.0 run.1
+answers-push : (w : World) (runs : List (Command × Choice)) (run : Command × Choice) → answers w (runs ++ run ∷ []) ≡ answers w runs ++ answer_to (world_after_all w runs) run.0 run.1
 answers-push w [] run = append-nil (answer_to w run.0 run.1)
 answers-push w (first ∷ runs) run =
     ap (λ (l : List ℕ). answer_to w first.0 first.1 ++ l) (answers-push (world_after w first.0 first.1) runs run)
     ∙ sym (append_assoc (answer_to w first.0 first.1) _ _)
 
 -- one line more reads as one command more
-read-push : (centres : ℕ) (lines : List (List ℕ)) (runs : List (Command × Bool)) (line : List ℕ) (run : Command × Bool)
-    → AreRead centres lines runs → ReadsLine centres line run.0 → AreRead centres (lines ++ line ∷ []) (runs ++ run ∷ [])
+read-push : (centres : ℕ) (lines : List (List ℕ)) (runs : List (Command × Choice)) (line : List ℕ) (run : Command × Choice)
+    → AreRead centres lines runs → ReadsLine centres line run.0 × IsChosen run.0 run.1 → AreRead centres (lines ++ line ∷ []) (runs ++ run ∷ [])
 read-push centres [] [] line run read reads = (reads, tt)
 read-push centres [] (c ∷ cs) line run read reads = absurd read
 read-push centres (l ∷ ls) [] line run read reads = absurd read
@@ -83,15 +84,15 @@ module _ (centres : ℕ) (first : World) (text : List ℕ) (before : Option (Lis
     pub goes_on : (new : State) → HasRun centres line old new mid now → Progress later (number + 1) new now
     goes_on new run =
         let runs = p.transcript.runs in
-        let next : Command × Bool = (run.0, run.2.0) in
-        let step = run.2.1 (world_after_all first runs) p.stands in
+        let next : Command × Choice = (run.0, run.2.0) in
+        let step = run.2.2 (world_after_all first runs) p.stands in
         record {
           done = p.done ++ line ∷ [];
           lines = longer;
           count = omega (arith, length-append p.done (line ∷ []), p.count);
           transcript = record {
             runs = runs ++ next ∷ [];
-            read = read-push centres p.done runs line next p.transcript.read run.1;
+            read = read-push centres p.done runs line next p.transcript.read (run.1, run.2.1);
             written = subst (λ (l : List ℕ). Appends before now l) (sym (answers-push first runs next)) (Appends-more before mid now (answers first runs) _ p.transcript.written step.1);
           };
           stands = subst (λ (w : World). StandsFor new w) (sym (world_after-push first runs next)) step.0;
@@ -111,8 +112,8 @@ module _ (centres : ℕ) (first : World) (text : List ℕ) (before : Option (Lis
     }
     stops faults_before faults_mid faults_now (Unanswered answering.Fault) counted end =
         let runs = p.transcript.runs in
-        let next : Command × Bool = (end.0, end.2.1.0) in
-        let step = end.2.1.1 (world_after_all first runs) p.stands in
+        let next : Command × Choice = (end.0, end.2.1.0) in
+        let step = end.2.1.2 (world_after_all first runs) p.stands in
         let prefix = ap (take (length (answers first runs) + step.0)) (answers-push first runs next) ∙ take-append-add (answers first runs) _ step.0 in (
           omega (arith, counted, end.2.0),
           record {
@@ -120,7 +121,7 @@ module _ (centres : ℕ) (first : World) (text : List ℕ) (before : Option (Lis
             later = lines_of later;
             runs = runs ++ next ∷ [];
             lines = longer;
-            read = read-push centres p.done runs line next p.transcript.read end.1;
+            read = read-push centres p.done runs line next p.transcript.read (end.1, end.2.1.1);
             count = length (answers first runs) + step.0;
             written = subst (λ (l : List ℕ). Appends before now l) (sym prefix) (Appends-more before mid now (answers first runs) _ p.transcript.written step.1);
           },

@@ -1,11 +1,12 @@
 -- Why a part of a play ended before its end: reading the script, an answer, a line, all lines.
-use Rattle.std.specs.Prelude.{◌≡◌, ℕ, ◌+◌, ◌≤◌, Bool, List, [], length, take, Option}
+use Rattle.std.specs.Prelude.{◌≡◌, ℕ, ◌+◌, ◌≤◌, List, [], length, take, Option}
 use Rattle.std.specs.Io.KnownBytes.{Appends}
 use Rattle.pv_outside.specs.Counts.{Rose}
 use Rattle.pv_outside.specs.declared.status.Status.{Status}
 use Rattle.pv_outside.specs.declared.status.Status.TheVariants as statuses
 use Rattle.pv_network.specs.Standing.{State, StandsFor}
 use Rattle.pv_network.specs.World.{World}
+use Rattle.pv_network.specs.Step.{Choice}
 use Rattle.prestel.specs.declared.ends.ReadEnd.{ReadEnd}
 use Rattle.prestel.specs.declared.ends.ReadEnd.TheVariants as reads
 use Rattle.prestel.specs.declared.ends.AnswerEnd.{AnswerEnd}
@@ -13,7 +14,7 @@ use Rattle.prestel.specs.declared.ends.AnswerEnd.TheVariants as answering
 use Rattle.prestel.specs.declared.ends.RunEnd.{RunEnd}
 use Rattle.prestel.specs.declared.ends.RunEnd.TheVariants.{BadLine, Unanswered}
 use Rattle.prestel.specs.declared.grammar.Command.{Command}
-use Rattle.prestel.specs.Grammar.{ReadsLine, HasNoForm}
+use Rattle.prestel.specs.Grammar.{ReadsLine, HasNoForm, IsChosen}
 use Rattle.prestel.specs.Transcript.{answer_to, world_after}
 use Rattle.prestel.specs.Play.{longest_script, StopsAtBadLine, StopsInAnswers, StopsAfterLine}
 
@@ -37,13 +38,13 @@ IsReadEnd text faults_before faults_now reads.Memory = text ≡ []
 
 -- a command was run: for each world that the network stood for it stands for the next, and the answer was written
 abbrev pub GivesAnswer : Command → State → State → Option (List ℕ) → Option (List ℕ) → Type 0
-GivesAnswer command old new before now = (kept : Bool)
-    × ((w : World) → StandsFor old w → StandsFor new (world_after w command kept) × Appends before now (answer_to w command kept))
+GivesAnswer command old new before now = (choice : Choice) × IsChosen command choice
+    × ((w : World) → StandsFor old w → StandsFor new (world_after w command choice) × Appends before now (answer_to w command choice))
 
 -- a command was begun: for each world that the network stood for a prefix of the answer was written
 abbrev pub HasBegun : Command → State → Option (List ℕ) → Option (List ℕ) → Type 0
-HasBegun command old before now = (kept : Bool)
-    × ((w : World) → StandsFor old w → (count : ℕ) × Appends before now (take count (answer_to w command kept)))
+HasBegun command old before now = (choice : Choice) × IsChosen command choice
+    × ((w : World) → StandsFor old w → (count : ℕ) × Appends before now (take count (answer_to w command choice)))
 
 -- why the answer to a command was not written
 abbrev pub IsAnswerEnd : Command → State → Option (List ℕ) → Option (List ℕ) → ℕ → ℕ → AnswerEnd → Type 0

@@ -1,11 +1,13 @@
 -- The lines of the script, and what each of them asks for.
-use Rattle.std.specs.Prelude.{◌≡◌, ℕ, ◌⊎◌, Bool, List, [], ◌∷◌, Some}
+use Rattle.std.specs.Prelude.{◌≡◌, ℕ, ◌⊎◌, List, [], ◌∷◌, Some}
 use Rattle.std.specs.List.{AllZip}
 use Rattle.pv_words.specs.Numbers.{IsNumber, IsBelow}
-use Rattle.pv_words.specs.Parts.{IsOne, AreTwo, Gives, GivesAlone}
+use Rattle.pv_words.specs.Parts.{IsPart, IsOne, AreTwo, Gives, GivesAlone}
 use Rattle.pv_words.specs.Split.{IsSplit}
 use Rattle.pv_network.specs.declared.event.Event.{Event}
 use Rattle.pv_network.specs.declared.event.Event.TheVariants as events
+use Rattle.pv_network.specs.declared.event.TheConstants.{EDITORS}
+use Rattle.pv_network.specs.Step.{Choice, IsChoice}
 use Rattle.prestel.specs.declared.grammar.Command.{Command}
 use Rattle.prestel.specs.declared.grammar.Command.TheVariants.{Nothing, Do}
 use Rattle.prestel.specs.declared.grammar.TheConstants.{COMMENT}
@@ -17,6 +19,7 @@ use Rattle.prestel.specs.Words.{word_of_text}
 -- a word and the tail after it ask for the event, in a play of this many centres: a row for each form
 abbrev pub AsksAs : ℕ → Word → List ℕ → Event → Type 0
 AsksAs centres words.Seed tail = Gives (AreTwo IsFrameText IsRowText) (λ parts. events.Seed parts.0 parts.1) tail
+AsksAs centres words.Edit tail = Gives (AreTwo (IsBelow EDITORS) IsPart) (λ parts. events.Edit parts.0 parts.1) tail
 AsksAs centres words.Send tail = Gives (IsOne (IsBelow centres)) (λ centre. events.Send centre) tail
 AsksAs centres words.Deliver tail = Gives (AreTwo (IsBelow centres) IsNumber) (λ parts. events.Deliver parts.0 parts.1) tail
 AsksAs centres words.Back tail = Gives (AreTwo (IsBelow centres) IsNumber) (λ parts. events.Back parts.0 parts.1) tail
@@ -37,6 +40,11 @@ ReadsLine centres line (Do event) = Asks centres line event
 abbrev pub HasNoForm : ℕ → List ℕ → Type 0
 HasNoForm centres line = (command : Command) → ReadsLine centres line command → ⊥
 
--- the lines read as the commands that were run, one for each; beside a command stands what a stop in it kept
-abbrev pub AreRead : ℕ → List (List ℕ) → List (Command × Bool) → Type 0
-AreRead centres lines runs = AllZip (λ line run. ReadsLine centres line run.0) lines runs
+-- what was open in a command: in that of an editor's line, what the line says
+abbrev pub IsChosen : Command → Choice → Type 0
+IsChosen Nothing choice = Unit {0}
+IsChosen (Do event) choice = IsChoice event choice
+
+-- the lines read as the commands that were run, one for each; beside a command stands what was open in it
+abbrev pub AreRead : ℕ → List (List ℕ) → List (Command × Choice) → Type 0
+AreRead centres lines runs = AllZip (λ line run. ReadsLine centres line run.0 × IsChosen run.0 run.1) lines runs

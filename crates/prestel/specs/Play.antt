@@ -9,6 +9,7 @@ use Rattle.pv_words.specs.Lines.{lines_of}
 use Rattle.pv_network.specs.OneList.{OneList}
 use Rattle.pv_network.specs.Standing.{State, StandsFor}
 use Rattle.pv_network.specs.World.{World, start}
+use Rattle.pv_network.specs.Step.{Choice}
 use Rattle.prestel.specs.declared.grammar.Command.{Command}
 use Rattle.prestel.specs.Grammar.{AreRead, HasNoForm}
 use Rattle.prestel.specs.Transcript.{answers, world_after_all}
@@ -45,7 +46,7 @@ IsAllLeft (Some left) text = left ≡ text
 
 -- every one of the lines was read as a command and run, and what was written is the answers to them
 pub record IsTranscript (centres : ℕ) (first : World) (lines : List (List ℕ)) (written_before written_now : Option (List ℕ)) : Type 0 where
-  pub runs : List (Command × Bool)
+  pub runs : List (Command × Choice)
   pub read : AreRead centres lines runs
   pub written : Appends written_before written_now (answers first runs)
 
@@ -71,7 +72,7 @@ pub record StopsAtBadLine (centres : ℕ) (first : World) (text : List ℕ) (num
 pub record StopsInAnswers (centres : ℕ) (first : World) (text : List ℕ) (written_before written_now : Option (List ℕ)) : Type 0 where
   pub run : List (List ℕ)
   pub later : List (List ℕ)
-  pub runs : List (Command × Bool)
+  pub runs : List (Command × Choice)
   pub lines : lines_of text ≡ run ++ later
   pub read : AreRead centres run runs
   pub count : ℕ

@@ -1,5 +1,5 @@
 -- What is written for what came of a script's commands.
-use Rattle.std.specs.Prelude.{ℕ, Bool, List, [], ◌∷◌, ◌++◌, Option, Some, None, codes, decimal}
+use Rattle.std.specs.Prelude.{ℕ, List, [], ◌∷◌, ◌++◌, Option, Some, None, codes, decimal}
 use Rattle.pv_cells.specs.Notation.{notation_of}
 use Rattle.pv_screen.specs.Painting.{screen_bytes}
 use Rattle.pv_network.specs.declared.outcome.Why.{Why}
@@ -8,7 +8,7 @@ use Rattle.pv_network.specs.declared.outcome.Why.TheVariants as why
 use Rattle.pv_network.specs.declared.outcome.Outcome.{Outcome}
 use Rattle.pv_network.specs.declared.outcome.Outcome.TheVariants as outcomes
 use Rattle.pv_network.specs.World.{World}
-use Rattle.pv_network.specs.Step.{happens}
+use Rattle.pv_network.specs.Step.{Choice, happens}
 use Rattle.prestel.specs.declared.grammar.Command.{Command}
 use Rattle.prestel.specs.declared.grammar.Command.TheVariants.{Nothing, Do}
 
@@ -46,24 +46,24 @@ answer_text outcomes.NotHeld = codes "-" ++ newline
 answer_text (outcomes.Applied count) = codes "applied " ++ decimal count ++ newline
 answer_text (outcomes.Records count) = codes "records " ++ decimal count ++ newline
 
--- ---- commands, one after another; beside each stands what a stop in it kept
+-- ---- commands, one after another; beside each stands what was open in it
 
 -- the world after a command
-abbrev pub world_after : World → Command → Bool → World
-world_after w Nothing kept = w
-world_after w (Do event) kept = (happens w event kept).0
+abbrev pub world_after : World → Command → Choice → World
+world_after w Nothing choice = w
+world_after w (Do event) choice = (happens w event choice).0
 
 -- what is written for a command
-abbrev pub answer_to : World → Command → Bool → List ℕ
-answer_to w Nothing kept = []
-answer_to w (Do event) kept = answer_text (happens w event kept).1
+abbrev pub answer_to : World → Command → Choice → List ℕ
+answer_to w Nothing choice = []
+answer_to w (Do event) choice = answer_text (happens w event choice).1
 
 -- the world after commands
-abbrev pub world_after_all : World → List (Command × Bool) → World
+abbrev pub world_after_all : World → List (Command × Choice) → World
 world_after_all w [] = w
 world_after_all w (run ∷ runs) = world_after_all (world_after w run.0 run.1) runs
 
 -- what is written for commands
-abbrev pub answers : World → List (Command × Bool) → List ℕ
+abbrev pub answers : World → List (Command × Choice) → List ℕ
 answers w [] = []
 answers w (run ∷ runs) = answer_to w run.0 run.1 ++ answers (world_after w run.0 run.1) runs

@@ -12,6 +12,7 @@ is_text a b = pointwise nat_eq a b
 abbrev pub word_of_text : List ℕ → Option Word
 word_of_text text =
     if is_text text (codes "seed") then Some words.Seed else
+    if is_text text (codes "edit") then Some words.Edit else
     if is_text text (codes "send") then Some words.Send else
     if is_text text (codes "deliver") then Some words.Deliver else
     if is_text text (codes "back") then Some words.Back else

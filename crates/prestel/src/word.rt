@@ -6,6 +6,8 @@ ghost use Rattle.prestel.specs.Words.{word_of_text};
 pub enum Word {
     /// `seed NAME TEXT`
     Seed,
+    /// `edit E LINE`
+    Edit,
     /// `send C`
     Send,
     /// `deliver C K`
@@ -26,6 +28,8 @@ pub fn word_of(text: &[u8]) -> Option<Word>
 {
     if text == b"seed".as_slice() {
         Some(Word::Seed)
+    } else if text == b"edit".as_slice() {
+        Some(Word::Edit)
     } else if text == b"send".as_slice() {
         Some(Word::Send)
     } else if text == b"deliver".as_slice() {

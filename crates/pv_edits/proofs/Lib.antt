@@ -4,4 +4,5 @@ mod Counting
 mod Facts
 mod Growing
 mod LastIndex
+mod Leases
 mod OneSpelling

@@ -148,11 +148,14 @@ impl Base {
     }
 
     /// Whom a page belongs to: the account of the longest leased root whose digits are a prefix of the
-    /// page's, by the last lease of that root, or the operator.
+    /// page's, by the last lease of that root, or the operator. If no root is leased, no record is looked at.
     pub fn owner(&self, page: PageNo) -> AccountNo
         ensures { (records : List Record) (places : List ℕ) → IsBaseOf self.now records places →
             result ≡ owner_of records page }
     {
+        if self.leased == 0 {
+            return self.operator.number;
+        }
         match lot_of(&self.records, page) {
             Some(lot) => lot.account,
             None => self.operator.number,

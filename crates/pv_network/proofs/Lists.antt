@@ -42,6 +42,12 @@ zip_at R (a ∷ xs) [] i d e all there = absurd all
 zip_at R (a ∷ xs) (b ∷ ys) zero d e all there = all.0
 zip_at R (a ∷ xs) (b ∷ ys) (suc i) d e all there = zip_at R xs ys i d e all.1 (omega arith)
 
+-- an element of a list is read with any default
+pub read_again : {X : Type 0} (xs : List X) (i : ℕ) (d e : X) → i < length xs → get_or xs i d ≡ get_or xs i e
+read_again [] i d e within = let none : ⊥ = omega (arith, within) in absurd none
+read_again (x ∷ xs) zero d e within = refl
+read_again (x ∷ xs) (suc i) d e within = read_again xs i d e (omega (arith, within))
+
 -- two elements stand together, however often
 pub zip_replicate : {X Y : Type 0} (R : X → Y → Type 0) (n : ℕ) (x : X) (y : Y) → R x y → AllZip R (replicate n x) (replicate n y)
 zip_replicate R zero x y here = tt

@@ -1,5 +1,5 @@
 -- Each event at a network is that event at each world that it stands for.
-use Rattle.std.proofs.Common.{◌≡◌, ℕ, ◌<◌, true, false, cond, leb, List, [], ◌∷◌, ◌++◌, length, get_or, set, Some, None, refl, sym, ap, subst, ◌∙◌}
+use Rattle.std.proofs.Common.{◌≡◌, ℕ, ◌<◌, true, false, cond, leb, List, [], ◌∷◌, ◌++◌, length, get_or, set, Option, Some, None, refl, sym, ap, subst, ◌∙◌}
 use Rattle.std.specs.Prelude.{slice_get}
 use Rattle.pv_network.specs.declared.centre.Arrival.{Arrival}
 use Rattle.pv_network.specs.declared.centre.Arrival.TheVariants as arrivals
@@ -8,7 +8,12 @@ use Rattle.pv_network.specs.declared.packet.Packet.{Packet}
 use Rattle.pv_edits.specs.declared.record.Record.{Record}
 use Rattle.pv_edits.specs.declared.wish.EditWish.{EditWish}
 use Rattle.pv_edits.specs.Room.{has_room}
-use Rattle.pv_udc.specs.EditList.{EditList}
+use Rattle.pv_udc.specs.EditList.{EditList, all_places}
+use Rattle.pv_editor.specs.Say.{new_seat, turn_of, Says}
+use Rattle.pv_editor.specs.declared.line.EditLine.{EditLine}
+use Rattle.pv_editor.specs.declared.seat.EditorSeat.{EditorSeat}
+use Rattle.pv_editor.specs.declared.step.EditStep.{EditStep}
+use Rattle.pv_network.specs.declared.outcome.Outcome.{Outcome}
 use Rattle.pv_udc.specs.declared.request.UdcRequest.TheVariants.{Edit}
 use Rattle.pv_editor.specs.Replies.{reply_of}
 use Rattle.pv_editor.specs.declared.replies.UdcReplyView.{UdcReplyView}
@@ -16,17 +21,16 @@ use Rattle.pv_network.specs.Centre.{CentreStands, Held, arrival_of, with_next}
 use Rattle.pv_network.specs.Link.{Link, link_in, is_packets_full, number_to_send, with_packet, with_acknowledgement, heard_link}
 use Rattle.pv_network.specs.Sound.{IsGenuine}
 use Rattle.pv_network.specs.Standing.{State, StandsFor}
-use Rattle.pv_network.specs.Step.{step_of_request, step_of_send, step_of_acknowledging, with_next_at, step_of_arrival, step_of_deliver, step_of_back}
-use Rattle.pv_network.specs.Verdict.{verdict_of, with_verdict}
-use Rattle.pv_network.specs.World.{World, link_at, centre_at}
+use Rattle.pv_network.specs.Step.{step_of_request, step_of_line, step_of_said, step_of_edit, step_of_send, step_of_acknowledging, with_next_at, step_of_arrival, step_of_deliver, step_of_back}
+use Rattle.pv_network.specs.Verdict.{verdict_of, list_after}
+use Rattle.pv_network.specs.World.{World, seat_at, link_at, centre_at}
 use Rattle.pv_network.proofs.Lists.{all_get}
 use Rattle.pv_network.proofs.Soundness.{sound_request, sound_packet, sound_count, sound_heard, sound_applied, taken_is_next}
-use Rattle.pv_network.proofs.Standing.{request_stands, centre_count, centre_takes, centre_has_room, centre_stands, centre_replaced, link_replaced}
+use Rattle.pv_network.proofs.Standing.{request_stands, seat_replaced, centre_count, centre_takes, centre_has_room, centre_stands, centre_replaced, link_replaced}
 
 -- an editor's request is judged
 pub asks : (s : State) (w : World) → StandsFor s w → (editor q : ℕ) (wish : EditWish) (here : EditList) (told : UdcReplyView)
-    → here ≡ with_verdict s.update (verdict_of s.update (Edit editor q wish)).stored
-    → told ≡ (verdict_of s.update (Edit editor q wish)).reply
+    → here ≡ list_after s.update (verdict_of s.update (Edit editor q wish)).stored → told ≡ (verdict_of s.update (Edit editor q wish)).reply
     → StandsFor (record s { update = here }) (step_of_request w editor q wish).0 ×
     (Reply (reply_of told) ≡ (step_of_request w editor q wish).1)
 asks s w stands editor q wish here told is reply =
@@ -35,6 +39,33 @@ asks s w stands editor q wish here told is reply =
           (sound_request w editor q wish stands.sound),
       ap (λ (v : UdcReplyView). Reply (reply_of v)) (rw stands.update at reply),
     )
+
+-- an editor's line is taken at a seat
+pub takes_line : (s : State) (w : World) → StandsFor s w
+    → (port : ℕ) (text : List ℕ) (here after : EditorSeat) (step : EditStep) (seats : List EditorSeat)
+    → here ≡ get_or s.seats port new_seat → (says : Says here text s.update.records (all_places s.update.records) after step)
+    → seats ≡ set s.seats port after
+    → StandsFor (record s { seats = seats }) (step_of_line w port says.line).0 × (step ≡ (step_of_line w port says.line).1)
+takes_line s w stands port text here after step seats read says made =
+    let turn : EditorSeat → EditList → EditorSeat × EditStep = λ seat u. turn_of seat u.records (all_places u.records) says.line in
+    let same : turn here s.update ≡ turn (seat_at w port) w.update =
+    ap (λ (seat : EditorSeat). turn seat s.update) (read ∙ ap (λ (l : List EditorSeat). get_or l port new_seat) stands.seats)
+    ∙ ap (turn (seat_at w port)) stands.update in
+    let seat : after ≡ (turn (seat_at w port) w.update).0 = says.seat_is ∙ ap (λ (t : EditorSeat × EditStep). t.0) same in (
+      seat_replaced s w stands port seats _ (made ∙ ap (λ (l : List EditorSeat). set l port after) stands.seats
+          ∙ ap (set w.seats port) seat),
+      says.step_is ∙ ap (λ (t : EditorSeat × EditStep). t.1) same,
+    )
+
+-- the step that a line comes to is done
+pub does_step : (w : World) (port : ℕ) (said : Option EditLine) (new : State) (outcome : Outcome) (step : EditStep)
+    → step ≡ (step_of_line w port said).1
+    → StandsFor new (step_of_said (step_of_line w port said).0 port step).0 ×
+    (outcome ≡ (step_of_said (step_of_line w port said).0 port step).1)
+    → StandsFor new (step_of_edit w port said).0 × (outcome ≡ (step_of_edit w port said).1)
+does_step w port said new outcome step is done =
+    let next = (step_of_line w port said).0 in
+    subst (λ (s : EditStep). StandsFor new (step_of_said next port s).0 × (outcome ≡ (step_of_said next port s).1)) is done
 
 module _ (s : State) (w : World) (stands : StandsFor s w) (c : ℕ) where
   -- a record is packed

@@ -23,6 +23,11 @@ use Rattle.pv_udc.specs.declared.reply.UdcReply.{UdcReply}
 use Rattle.pv_udc.specs.declared.reply.UdcReply.TheVariants as replies
 use Rattle.pv_udc.specs.declared.request.UdcRequest.TheVariants.{Edit}
 use Rattle.pv_udc.proofs.CallerLemmas.{has_room-judged, next-judged, is_his, IsAnswered, is_answered, last_edit-there, last_edit-his, last_edit-others}
+use Rattle.pv_editor.specs.Say.{new_seat}
+use Rattle.pv_editor.specs.declared.line.EditLine.{EditLine}
+use Rattle.pv_editor.specs.declared.seat.EditorSeat.{EditorSeat}
+use Rattle.pv_editor.specs.declared.step.EditStep.{EditStep}
+use Rattle.pv_editor.specs.declared.step.EditStep.TheVariants as steps
 use Rattle.pv_editor.specs.declared.replies.UdcReplyView.TheVariants.{Stored, Refused}
 use Rattle.pv_network.specs.declared.centre.Arrival.{Arrival}
 use Rattle.pv_network.specs.declared.centre.Arrival.TheVariants as arrivals
@@ -35,9 +40,9 @@ use Rattle.pv_network.specs.Link.{End, Link, new_link, is_packets_full, number_t
 use Rattle.pv_network.specs.OneList.{IsNextOfEditor, HasNumbersInOrder, StandsAt, HasOnePlaceEach, MatchesReceipt}
 use Rattle.pv_network.specs.Run.{EachFollows, MayFollow}
 use Rattle.pv_network.specs.Sound.{IsGenuine, IsSoundLink, IsSound}
-use Rattle.pv_network.specs.Step.{with_verdict, step_of_request, seeded_frame, step_of_packing, step_of_number, step_of_send, step_of_acknowledging, with_next_at, step_of_arrival, step_of_packet, step_of_deliver, step_of_heard, step_of_back, happens, after}
+use Rattle.pv_network.specs.Step.{Choice, with_verdict, step_of_request, seeded_frame, step_of_line, step_of_said, step_of_edit, step_of_packing, step_of_number, step_of_send, step_of_acknowledging, with_next_at, step_of_arrival, step_of_packet, step_of_deliver, step_of_heard, step_of_back, happens, after}
 use Rattle.pv_network.specs.Verdict.{view_of, verdict_by}
-use Rattle.pv_network.specs.World.{World, Receipt, start, centre_at, link_at, with_centre, with_link, with_edit, with_receipt}
+use Rattle.pv_network.specs.World.{World, Receipt, start, with_seat, centre_at, link_at, with_centre, with_link, with_edit, with_receipt}
 use Rattle.pv_network.proofs.Counts.{count_by-grows, frame_count-none, frames_within}
 use Rattle.pv_network.proofs.Lists.{set_at, all_get, get_prefix, get_push, get_last}
 
@@ -250,6 +255,25 @@ module _ (w : World) (editor q : ℕ) (wish : EditWish) (sound : IsSound w) wher
       by (Answer reply) is = sound_answered reply (is_answered w.update.limits w.update.records editor q wish reply is)
       by (Store edit reply) is = full edit reply is (leb w.update.limits.records (length w.update.records)) refl
 
+-- ---- edit
+
+-- a sound world stays sound with another seat
+pub sound_seat : (w : World) (port : ℕ) (seat : EditorSeat) → IsSound w → IsSound (with_seat w port seat)
+sound_seat w port seat sound = record { law = sound.law; next = sound.next; records = sound.records; frames = sound.frames; links = sound.links }
+
+-- a sound world stays sound whatever an editor says
+sound_edit : (w : World) (port : ℕ) (said : Option EditLine) → IsSound w → IsSound (step_of_edit w port said).0
+sound_edit w port said sound = by (step_of_line w port said).1
+  where
+    next : IsSound (step_of_line w port said).0
+    next = sound_seat w port _ sound
+
+    by : (step : EditStep) → IsSound (step_of_said (step_of_line w port said).0 port step).0
+    by (steps.Say text) = next
+    by (steps.Ask editor q wish) = sound_request (step_of_line w port said).0 editor q wish next
+    by (steps.Responses editor from) = next
+    by steps.Close = sound_seat (step_of_line w port said).0 port new_seat next
+
 -- ---- send
 
 -- a sound world stays sound with a packet that carries the list's record of its number
@@ -359,19 +383,20 @@ sound_back w c index sound = arrives (slice_get (link_at w c).up index) refl
 
 -- ---- all
 
--- a sound world stays sound whatever event happens, whatever a stop kept
-sound_happens : (w : World) (event : Event) (kept : Bool) → IsSound w → IsSound (happens w event kept).0
-sound_happens w (events.Seed name row) kept sound =
+-- a sound world stays sound whatever event happens, whatever is open in it
+sound_happens : (w : World) (event : Event) (choice : Choice) → IsSound w → IsSound (happens w event choice).0
+sound_happens w (events.Seed name row) choice sound =
     sound_request w OPERATOR (next_number w.update.records OPERATOR) (Put name (seeded_frame row)) sound
-sound_happens w (events.Send centre) kept sound = sound_send w centre sound
-sound_happens w (events.Deliver centre index) kept sound = sound_deliver w centre index sound
-sound_happens w (events.Back centre index) kept sound = sound_back w centre index sound
-sound_happens w (events.View centre name) kept sound = sound
-sound_happens w (events.At centre) kept sound = sound
-sound_happens w events.List kept sound = sound
+sound_happens w (events.Edit port line) choice sound = sound_edit w port choice.said sound
+sound_happens w (events.Send centre) choice sound = sound_send w centre sound
+sound_happens w (events.Deliver centre index) choice sound = sound_deliver w centre index sound
+sound_happens w (events.Back centre index) choice sound = sound_back w centre index sound
+sound_happens w (events.View centre name) choice sound = sound
+sound_happens w (events.At centre) choice sound = sound
+sound_happens w events.List choice sound = sound
 
 -- a sound world stays sound however many events happen
-pub sound_after : (w : World) (events : List (Event × Bool)) → IsSound w → IsSound (after w events)
+pub sound_after : (w : World) (events : List (Event × Choice)) → IsSound w → IsSound (after w events)
 sound_after w [] sound = sound
 sound_after w (event ∷ events) sound = sound_after (happens w event.0 event.1).0 events (sound_happens w event.0 event.1 sound)
 

@@ -13,10 +13,12 @@ use Rattle.pv_editor.specs.declared.replies.UdcReplyView.TheVariants.{Stored, Re
 use Rattle.pv_network.specs.Centre.{Centre, CentreStands, Held, new_centre, with_next}
 use Rattle.pv_network.specs.Link.{Link}
 use Rattle.pv_network.specs.Run.{IsRun}
-use Rattle.pv_network.specs.Verdict.{with_verdict}
-use Rattle.pv_network.specs.World.{World, centre_at, with_centre, with_link, with_edit, with_receipt}
+use Rattle.pv_editor.specs.declared.seat.EditorSeat.{EditorSeat}
+use Rattle.pv_network.specs.Verdict.{list_after}
+use Rattle.pv_network.specs.World.{World, with_seat, centre_at, with_centre, with_link, with_edit, with_receipt}
 use Rattle.pv_network.specs.Sound.{IsSound}
 use Rattle.pv_network.specs.Standing.{State, StandsFor}
+use Rattle.pv_network.proofs.Soundness.{sound_seat}
 use Rattle.pv_network.proofs.Lists.{zip_set, zip_at, zip_weaken}
 
 -- ---- a centre: all that the network cites
@@ -59,7 +61,7 @@ module _ (u : EditList) (here : Held) (centre : Centre) (stands : CentreStands u
 module _ (s : State) (w : World) (stands : StandsFor s w) where
   -- it stands for the same world whether it is out of memory or not
   pub out_stands : (out : Bool) → StandsFor (record s { is_out = out }) w
-  out_stands out = record { sound = stands.sound; update = stands.update; centres = stands.centres; links = stands.links }
+  out_stands out = record { sound = stands.sound; update = stands.update; seats = stands.seats; centres = stands.centres; links = stands.links }
 
   -- the centres stand for the same with one more record in the list
   longer : (edit : Record) → AllZip (CentreStands (with_record w.update edit)) s.centres w.centres
@@ -68,14 +70,24 @@ module _ (s : State) (w : World) (stands : StandsFor s w) where
       (λ held centre stood. centre_longer w.update held centre stood edit) s.centres w.centres stands.centres
 
   -- another Update Centre, which has stored what the world's stored, leaves all else standing, whatever is acknowledged
-  pub request_stands : (editor q : ℕ) (stored : Option Record) (reply : UdcReplyView) (here : EditList)
-      → here ≡ with_verdict w.update stored
+  pub request_stands : (editor q : ℕ) (stored : Option Record) (reply : UdcReplyView) (here : EditList) → here ≡ list_after w.update stored
       → IsSound (with_receipt (with_edit w stored) editor q reply)
       → StandsFor (record s { update = here }) (with_receipt (with_edit w stored) editor q reply)
-  request_stands editor q None (Stored place) here is sound = record { sound = sound; update = is; centres = stands.centres; links = stands.links }
-  request_stands editor q None (Refused code shown) here is sound = record { sound = sound; update = is; centres = stands.centres; links = stands.links }
-  request_stands editor q (Some edit) (Stored place) here is sound = record { sound = sound; update = is; centres = longer edit; links = stands.links }
-  request_stands editor q (Some edit) (Refused code shown) here is sound = record { sound = sound; update = is; centres = longer edit; links = stands.links }
+  request_stands editor q None (Stored place) here is sound = record { sound = sound; update = is; seats = stands.seats; centres = stands.centres; links = stands.links }
+  request_stands editor q None (Refused code shown) here is sound = record { sound = sound; update = is; seats = stands.seats; centres = stands.centres; links = stands.links }
+  request_stands editor q (Some edit) (Stored place) here is sound = record { sound = sound; update = is; seats = stands.seats; centres = longer edit; links = stands.links }
+  request_stands editor q (Some edit) (Refused code shown) here is sound = record { sound = sound; update = is; seats = stands.seats; centres = longer edit; links = stands.links }
+
+  -- another seat in the place of one leaves all else standing
+  pub seat_replaced : (port : ℕ) (seats : List EditorSeat) (seat : EditorSeat) → seats ≡ set w.seats port seat
+      → StandsFor (record s { seats = seats }) (with_seat w port seat)
+  seat_replaced port seats seat is = record {
+    sound = sound_seat w port seat stands.sound;
+    update = stands.update;
+    seats = is;
+    centres = stands.centres;
+    links = stands.links;
+  }
 
   module _ (c : ℕ) where
     -- a centre that is read stands for the world's
@@ -90,6 +102,7 @@ module _ (s : State) (w : World) (stands : StandsFor s w) where
     centre_replaced here centre is sound = record {
       sound = sound;
       update = stands.update;
+      seats = stands.seats;
       centres = zip_set (CentreStands w.update) s.centres w.centres c here centre stands.centres is;
       links = stands.links;
     }
@@ -97,4 +110,4 @@ module _ (s : State) (w : World) (stands : StandsFor s w) where
     -- another link in the place of one leaves all else standing
     pub link_replaced : (links : List Link) (link : Link) → links ≡ set w.links c link → IsSound (with_link w c link)
         → StandsFor (record s { links = links }) (with_link w c link)
-    link_replaced links link is sound = record { sound = sound; update = stands.update; centres = stands.centres; links = is }
+    link_replaced links link is sound = record { sound = sound; update = stands.update; seats = stands.seats; centres = stands.centres; links = is }

@@ -4,6 +4,8 @@ use Rattle.std.specs.List.{AllZip}
 use Rattle.pv_network.specs.declared.event.Event.{Event}
 use Rattle.pv_network.specs.declared.event.Event.TheVariants as events
 use Rattle.pv_udc.specs.EditList.{EditList}
+use Rattle.pv_editor.specs.declared.seat.EditorSeat.{EditorSeat}
+use Rattle.pv_network.specs.declared.event.TheConstants.{EDITORS}
 use Rattle.pv_network.specs.Centre.{Held, CentreStands}
 use Rattle.pv_network.specs.Link.{Link}
 use Rattle.pv_network.specs.Sound.{IsSound}
@@ -12,6 +14,7 @@ use Rattle.pv_network.specs.World.{World}
 -- what is seen of a network: its parts, and whether it once was out of memory
 pub record State : Type 0 where
   pub update : EditList
+  pub seats : List EditorSeat
   pub centres : List Held
   pub links : List Link
   pub is_out : Bool
@@ -20,6 +23,7 @@ pub record State : Type 0 where
 pub record StandsFor (s : State) (w : World) : Type 0 where
   pub sound : IsSound w
   pub update : s.update ≡ w.update
+  pub seats : s.seats ≡ w.seats
   pub centres : AllZip (CentreStands w.update) s.centres w.centres
   pub links : s.links ≡ w.links
 
@@ -31,9 +35,10 @@ IsStanding s = (w : World) × StandsFor s w
 abbrev pub Performs : {A : Type 0} → State → State → A → (World → World × A) → Type 0
 Performs old new outcome step = (w : World) → StandsFor old w → StandsFor new (step w).0 × (outcome ≡ (step w).1)
 
--- the event, if it is at a centre, is at one that there is
+-- an event at a centre or at a port is at one that there is
 abbrev pub IsPossible : State → Event → Type 0
 IsPossible s (events.Seed name row) = Unit {0}
+IsPossible s (events.Edit port line) = port < EDITORS
 IsPossible s (events.Send centre) = centre < length s.centres
 IsPossible s (events.Deliver centre index) = centre < length s.centres
 IsPossible s (events.Back centre index) = centre < length s.centres

@@ -10,9 +10,16 @@ use Rattle.pv_edits.specs.declared.room.TheConstants.{OPERATOR}
 use Rattle.pv_edits.specs.declared.wish.EditWish.{EditWish}
 use Rattle.pv_edits.specs.declared.wish.EditWish.TheVariants.{Put}
 use Rattle.pv_edits.specs.Edits.{frame_at}
+use Rattle.pv_words.specs.Parts.{Exactly}
+use Rattle.pv_udc.specs.EditList.{all_places}
 use Rattle.pv_udc.specs.Judgement.{next_number}
 use Rattle.pv_udc.specs.declared.request.UdcRequest.TheVariants.{Edit}
-use Rattle.pv_editor.specs.Replies.{reply_of}
+use Rattle.pv_editor.specs.Lines.{IsLine}
+use Rattle.pv_editor.specs.Replies.{reply_of, closing_reply, responses_reply}
+use Rattle.pv_editor.specs.Say.{new_seat, turn_of}
+use Rattle.pv_editor.specs.declared.line.EditLine.{EditLine}
+use Rattle.pv_editor.specs.declared.step.EditStep.{EditStep}
+use Rattle.pv_editor.specs.declared.step.EditStep.TheVariants as steps
 use Rattle.pv_network.specs.declared.packet.Packet.{Packet}
 use Rattle.pv_network.specs.declared.centre.Arrival.{Arrival}
 use Rattle.pv_network.specs.declared.centre.Arrival.TheVariants as arrivals
@@ -22,8 +29,8 @@ use Rattle.pv_network.specs.declared.outcome.Outcome.{Outcome}
 use Rattle.pv_network.specs.declared.outcome.Outcome.TheVariants as outcomes
 use Rattle.pv_network.specs.Centre.{with_next, arrival_of}
 use Rattle.pv_network.specs.Link.{is_packets_full, number_to_send, with_packet, with_acknowledgement, heard_link}
-use Rattle.pv_network.specs.Verdict.{Verdict, verdict_of}
-use Rattle.pv_network.specs.World.{World, centre_at, link_at, with_centre, with_link, with_edit, with_receipt, page_base}
+use Rattle.pv_network.specs.Verdict.{Verdict, verdict_of, reply_found}
+use Rattle.pv_network.specs.World.{World, seat_at, with_seat, centre_at, link_at, with_centre, with_link, with_edit, with_receipt, page_base}
 
 -- ---- seed
 
@@ -43,6 +50,24 @@ seeded_frame row = record blank_frame { body = with_row FIRST_ROW row blank_fram
 -- the operator's next number puts that frame under a name
 abbrev pub step_of_seeding : World → Name → List ℕ → World × Outcome
 step_of_seeding w name row = step_of_request w OPERATOR (next_number w.update.records OPERATOR) (Put name (seeded_frame row))
+
+-- ---- edit
+
+-- a line is taken at a seat: what it says makes another seat of it, and comes to a step
+abbrev pub step_of_line : World → ℕ → Option EditLine → World × EditStep
+step_of_line w port said =
+    let turn = turn_of (seat_at w port) w.update.records (all_places w.update.records) said in (with_seat w port turn.0, turn.1)
+
+-- the step that a line comes to is done; after the end of a session the seat is new
+abbrev pub step_of_said : World → ℕ → EditStep → World × Outcome
+step_of_said w port (steps.Say text) = (w, outcomes.Reply text)
+step_of_said w port (steps.Ask editor q wish) = step_of_request w editor q wish
+step_of_said w port (steps.Responses editor from) = (w, outcomes.Reply (responses_reply (reply_found w.update.records editor from)))
+step_of_said w port steps.Close = (with_seat w port new_seat, outcomes.Reply closing_reply)
+
+-- an editor's line arrives at a port
+abbrev pub step_of_edit : World → ℕ → Option EditLine → World × Outcome
+step_of_edit w port said = let step = step_of_line w port said in step_of_said step.0 port step.1
 
 -- ---- view
 
@@ -130,18 +155,29 @@ step_of_list w = (w, outcomes.Records (length w.update.records))
 
 -- ---- all
 
--- The world after an event, and the answer. The last argument is a choice of the outside: whether a stop within a write
--- kept the record that was being written. No event stops a node yet, so that none depends on it.
-abbrev pub happens : World → Event → Bool → World × Outcome
-happens w (events.Seed name row) kept = step_of_seeding w name row
-happens w (events.Send centre) kept = step_of_send w centre
-happens w (events.Deliver centre index) kept = step_of_deliver w centre index
-happens w (events.Back centre index) kept = step_of_back w centre index
-happens w (events.View centre name) kept = step_of_view w centre name
-happens w (events.At centre) kept = step_of_at w centre
-happens w events.List kept = step_of_list w
+-- What the definitions leave open in an event: whether a stop within a write kept the record that was being written (no event
+-- stops a node yet, so that none depends on it), and what an editor's line says.
+pub record Choice : Type 0 where
+  pub kept : Bool
+  pub said : Option EditLine
 
--- the world after a list of events, each with what a stop kept
-abbrev pub after : World → List (Event × Bool) → World
+-- what a line says is read from it, and is nothing if it is none of an editor's lines
+abbrev pub IsChoice : Event → Choice → Type 0
+IsChoice (events.Edit port line) choice = Exactly (IsLine line) choice.said
+IsChoice _ choice = Unit {0}
+
+-- the world after an event, and the answer
+abbrev pub happens : World → Event → Choice → World × Outcome
+happens w (events.Seed name row) choice = step_of_seeding w name row
+happens w (events.Edit port line) choice = step_of_edit w port choice.said
+happens w (events.Send centre) choice = step_of_send w centre
+happens w (events.Deliver centre index) choice = step_of_deliver w centre index
+happens w (events.Back centre index) choice = step_of_back w centre index
+happens w (events.View centre name) choice = step_of_view w centre name
+happens w (events.At centre) choice = step_of_at w centre
+happens w events.List choice = step_of_list w
+
+-- the world after a list of events, each with what was open in it
+abbrev pub after : World → List (Event × Choice) → World
 after w [] = w
 after w (step ∷ steps) = after (happens w step.0 step.1).0 steps

@@ -1,5 +1,9 @@
 -- What the Update Centre makes of an editor's request: the record that it stores, and its reply.
-use Rattle.std.specs.Prelude.{ℕ, nat_le, if◌then◌else◌, Option, Some, None, length}
+use Rattle.std.specs.Prelude.{ℕ, nat_le, if◌then◌else◌, Option, Some, None, option_map, List, length, slice_get}
+use Rattle.pv_fields.specs.Reading.{◌>>=◌}
+use Rattle.pv_post.specs.declared.item.Item.{Item}
+use Rattle.pv_edits.specs.declared.record.Record.TheVariants.{Put, Drop, Account, Lease, Taken}
+use Rattle.pv_udc.specs.Replies.{reply_place}
 use Rattle.pv_outside.specs.declared.limits.Limits.{Limits}
 use Rattle.pv_edits.specs.declared.record.Record.{Record}
 use Rattle.pv_node.specs.declared.decision.Decision.{Decision}
@@ -38,6 +42,22 @@ abbrev pub verdict_of : EditList → UdcRequest → Verdict
 verdict_of u request = verdict_by u (judge u.limits u.records request)
 
 -- the list with the record that is stored, if there is one
-abbrev pub with_verdict : EditList → Option Record → EditList
-with_verdict u None = u
-with_verdict u (Some edit) = with_record u edit
+abbrev pub list_after : EditList → Option Record → EditList
+list_after u None = u
+list_after u (Some edit) = with_record u edit
+
+-- ---- what callers keyed into an editor's frames
+
+-- the item that a record took up
+abbrev pub item_in : Record → Option Item
+item_in (Put editor q name frame) = None
+item_in (Drop editor q name) = None
+item_in (Account editor q account) = None
+item_in (Lease editor q root account) = None
+item_in (Taken taken) = Some taken.item
+
+-- the first reply to a page that is the editor's now, of those at this place and after it, with its place
+abbrev pub reply_found : List Record → ℕ → ℕ → Option (ℕ × Item)
+reply_found records editor from =
+    reply_place records editor from >>= λ place. slice_get records place >>= λ edit. option_map (λ (item : Item). (place, item))
+    (item_in edit)

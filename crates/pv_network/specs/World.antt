@@ -3,8 +3,11 @@ use Rattle.std.specs.Prelude.{ℕ, Option, Some, None, List, [], ◌∷◌, ◌+
 use Rattle.pv_outside.specs.declared.limits.Limits.{Limits}
 use Rattle.pv_edits.specs.declared.record.Record.{Record}
 use Rattle.pv_udc.specs.EditList.{EditList, empty_list, with_record}
+use Rattle.pv_editor.specs.Say.{new_seat}
+use Rattle.pv_editor.specs.declared.seat.EditorSeat.{EditorSeat}
 use Rattle.pv_editor.specs.declared.replies.UdcReplyView.{UdcReplyView}
 use Rattle.pv_editor.specs.declared.replies.UdcReplyView.TheVariants.{Stored, Refused}
+use Rattle.pv_network.specs.declared.event.TheConstants.{EDITORS}
 use Rattle.pv_network.specs.Centre.{Centre, new_centre}
 use Rattle.pv_network.specs.Link.{Link, new_link, link_in}
 
@@ -18,6 +21,8 @@ pub record Receipt : Type 0 where
 pub record World : Type 0 where
   -- the edit list with its limits
   pub update : EditList
+  -- the editors' seats, one for each port
+  pub seats : List EditorSeat
   -- the centres, and the link of each
   pub centres : List Centre
   pub links : List Link
@@ -28,10 +33,19 @@ pub record World : Type 0 where
 abbrev pub start : ℕ → Limits → World
 start centres limits = record {
   update = empty_list limits;
+  seats = replicate EDITORS new_seat;
   centres = replicate centres new_centre;
   links = replicate centres new_link;
   receipts = [];
 }
+
+-- the seat at a port; after the last there is none, and a new one stands for it
+abbrev pub seat_at : World → ℕ → EditorSeat
+seat_at w port = slice_index_or w.seats port new_seat
+
+-- the world with another seat at a port
+abbrev pub with_seat : World → ℕ → EditorSeat → World
+with_seat w port seat = record w { seats = slice_set w.seats port seat }
 
 -- the centre of a number; after the last there is none, and a new one stands for it
 abbrev pub centre_at : World → ℕ → Centre

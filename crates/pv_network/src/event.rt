@@ -1,11 +1,16 @@
 use pv_page::FrameName;
+use pv_words::Part;
 
-/// What can happen to a network. Centres and packets are counted from 0. A later event may borrow a part of a
-/// script's line, so that an event is not `Copy`.
-#[derive(Debug, Drop, PartialEq, Eq)]
-pub enum Event {
+/// How many editors' ports there are.
+pub const EDITORS: u8 = 4;
+
+/// What can happen to a network. Centres, ports and packets are counted from 0. An event borrows the line of an editor.
+#[derive(Debug, Drop)]
+pub enum Event<'a> {
     /// The operator's next number puts a frame that is blank but for row 2 under a name.
     Seed { name: FrameName, row: [u8; 40] },
+    /// A line of an editor arrives at his port.
+    Edit { port: u8, line: Part<'a> },
     /// The Update Centre packs the next record for a centre.
     Send { centre: u8 },
     /// The packet of this index, of those that were made for a centre, arrives there.

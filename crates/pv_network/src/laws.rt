@@ -1,10 +1,10 @@
 //! Laws of all worlds, each the clause of a function that does nothing.
 
-ghost use Rattle.std.specs.Prelude.{ℕ, Bool, List};
+ghost use Rattle.std.specs.Prelude.{ℕ, List};
 ghost use Rattle.pv_outside.specs.declared.limits.Limits.{Limits};
 ghost use Rattle.pv_network.specs.declared.event.Event.{Event};
 ghost use Rattle.pv_network.specs.World.{start};
-ghost use Rattle.pv_network.specs.Step.{after};
+ghost use Rattle.pv_network.specs.Step.{Choice, after};
 ghost use Rattle.pv_network.specs.OneList.{OneList};
 ghost use Rattle.pv_network.specs.Sound.{IsSound};
 
@@ -13,8 +13,8 @@ ghost use Rattle.pv_network.specs.Sound.{IsSound};
 /// each record is one that could be stored after those before it, with a valid frame. Beside this law, each
 /// packet carries the list's record of its number.
 pub fn every_reachable_world_is_sound()
-    ensures one_list { (centres : ℕ) (limits : Limits) (events : List (Event × Bool))
+    ensures one_list { (centres : ℕ) (limits : Limits) (events : List (Event × Choice))
         → OneList (after (start centres limits) events) }
-    ensures sound { (centres : ℕ) (limits : Limits) (events : List (Event × Bool))
+    ensures sound { (centres : ℕ) (limits : Limits) (events : List (Event × Choice))
         → IsSound (after (start centres limits) events) }
 {}

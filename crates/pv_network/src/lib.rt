@@ -29,7 +29,7 @@ mod outcome;
 mod packet;
 mod verdict;
 
-pub use event::Event;
+pub use event::{EDITORS, Event};
 pub use laws::every_reachable_world_is_sound;
 pub use network::Network;
 pub use outcome::{Outcome, Turn, Why};

@@ -1,14 +1,18 @@
-ghost use Rattle.std.specs.Prelude.{◌≡◌, ℕ, ◌+◌, ◌<◌, ◌≤◌, ◌^◌, Bool, false, length, IsTrue, IsOk, IsErr, IfOk};
+ghost use Rattle.std.specs.Prelude.{◌≡◌, ℕ, ◌+◌, ◌<◌, ◌≤◌, ◌^◌, Option, false, length, IsTrue, IsOk, IsErr, IfOk};
+ghost use Rattle.pv_words.specs.Parts.{Exactly};
+ghost use Rattle.pv_editor.specs.Lines.{IsLine};
+ghost use Rattle.pv_editor.specs.declared.line.EditLine.{EditLine};
+ghost use Rattle.pv_editor.specs.declared.step.EditStep.TheVariants as steps;
 ghost use Rattle.pv_network.specs.World.{start};
 ghost use Rattle.pv_network.specs.Standing.{StandsFor, Performs, IsPossible};
-ghost use Rattle.pv_network.specs.Step.{happens, step_of_request, step_of_seeding, step_of_send, step_of_deliver, step_of_back, step_of_view, step_of_at, step_of_list, step_of_acknowledging};
+ghost use Rattle.pv_network.specs.Step.{Choice, IsChoice, happens, step_of_request, step_of_seeding, step_of_line, step_of_said, step_of_edit, step_of_send, step_of_deliver, step_of_back, step_of_view, step_of_at, step_of_list, step_of_acknowledging};
 
 use crate::centre::{Arrival, Centre, open_centres};
-use crate::event::Event;
+use crate::event::{EDITORS, Event};
 use crate::links::Links;
 use crate::outcome::{Outcome, Turn};
-use crate::verdict::store;
-use pv_editor::reply_text;
+use crate::verdict::{responses, store};
+use pv_editor::{EditStep, EditorSeat, closing_text, reply_text};
 use pv_edits::{EditWish, OPERATOR};
 use pv_frame::{FIRST_ROW, Frame};
 use pv_outside::Limits;
@@ -22,6 +26,7 @@ use std::marker::Model;
 #[derive(Debug, Drop)]
 pub struct Network {
     update: UdcState,
+    seats: [EditorSeat; EDITORS as usize],
     centres: Vec<Centre>,
     links: Links,
     // Whether a step was out of memory; every later step is too.
@@ -36,6 +41,7 @@ impl Model for Network {
 
     ghost view = { λ n. record {
       update = n.update;
+      seats = n.seats;
       centres = n.centres.items;
       links = n.links;
       is_out = n.is_out;
@@ -44,6 +50,7 @@ impl Model for Network {
     // It stands for a world: so each record of a packet has room at the centre that takes it.
     ghost invariant = { λ n. (length n.links ≡ length n.centres.items) × IsStanding (record {
       update = n.update;
+      seats = n.seats;
       centres = n.centres.items;
       links = n.links;
       is_out = n.is_out;
@@ -62,20 +69,22 @@ impl Network {
     {
         Ok(Network {
             update: UdcState::open(alloc, limits)?,
+            seats: [EditorSeat::new(); EDITORS as usize],
             centres: open_centres(alloc, centres, limits)?,
             links: Links::open(alloc, centres)?,
             is_out: false,
         })
     }
 
-    /// Lets an event happen, and returns what came of it. The event's centre is one of the network's. The only error is that memory ran out: after it, every later
-    /// step returns it too. No event so far takes memory.
+    /// Lets an event happen, and returns what came of it. The event's centre is one of the network's, and
+    /// its port is below [`EDITORS`]. The only error is that memory ran out: after it, every later step
+    /// returns it too. No event so far takes memory.
     pub fn step(&mut self, event: &Event) -> Result<Outcome, AllocError>
         requires { IsPossible self.old event.now }
 
         // Whatever world the network stood for, it stands for the next one, and the outcome is that answer.
-        ensures performs { IfOk result (λ outcome. (kept : Bool)
-            × Performs self.old self.new outcome (λ w. happens w event.now kept)) }
+        ensures performs { IfOk result (λ outcome. (choice : Choice) × IsChoice event.now choice
+            × Performs self.old self.new outcome (λ w. happens w event.now choice)) }
         ensures centres { length self.new.centres ≡ length self.old.centres }
 
         // A network that is not out of memory succeeds. One that is out of memory stays so.
@@ -94,13 +103,14 @@ impl Network {
     /// Lets an event happen.
     fn happen(&mut self, event: &Event) -> Result<Outcome, AllocError>
         requires { IsPossible self.old event.now }
-        ensures performs { IfOk result (λ outcome. (kept : Bool)
-            × Performs self.old self.new outcome (λ w. happens w event.now kept)) }
+        ensures performs { IfOk result (λ outcome. (choice : Choice) × IsChoice event.now choice
+            × Performs self.old self.new outcome (λ w. happens w event.now choice)) }
         ensures centres { length self.new.centres ≡ length self.old.centres }
         ensures succeeds { IsOk result }
     {
         Ok(match event {
             Event::Seed { name, row } => self.seed(*name, row),
+            Event::Edit { port, line } => self.edit(*port as usize, line.bytes()),
             Event::Send { centre } => self.send(*centre as usize),
             Event::Deliver { centre, index } => self.deliver(*centre as usize, *index),
             Event::Back { centre, index } => self.back(*centre as usize, *index),
@@ -129,6 +139,49 @@ impl Network {
     {
         let reply = store(&mut self.update, &UdcRequest::Edit { editor, q, wish });
         Outcome::Reply(reply_text(&reply))
+    }
+
+    /// An editor's line arrives at a port.
+    fn edit(&mut self, port: usize, line: &[u8]) -> Outcome
+        requires { port < EDITORS }
+        ensures performs { (said : Option EditLine) × Exactly (IsLine line.now) said
+            × Performs self.old self.new result (λ w. step_of_edit w port said) }
+        ensures centres { length self.new.centres ≡ length self.old.centres }
+    {
+        match self.take_line(port, line) {
+            EditStep::Say(text) => Outcome::Reply(text),
+            EditStep::Ask { editor, q, wish } => self.ask(editor, q, wish),
+            EditStep::Responses { editor, from } => self.responses(editor, from),
+            EditStep::Close => self.close(port),
+        }
+    }
+
+    /// Takes an editor's line at a port, and returns the step that it comes to.
+    fn take_line(&mut self, port: usize, line: &[u8]) -> EditStep
+        requires { port < EDITORS }
+        ensures performs { (said : Option EditLine) × Exactly (IsLine line.now) said
+            × Performs self.old self.new result (λ w. step_of_line w port said) }
+        ensures centres { length self.new.centres ≡ length self.old.centres }
+    {
+        self.seats[port].line(line, self.update.base())
+    }
+
+    /// What was keyed into an editor's frames, from a place on.
+    fn responses(&self, editor: AccountNo, from: u64) -> Outcome
+        ensures { (port : ℕ) → Performs self.now self.now result
+            (λ w. step_of_said w port (steps.Responses editor from)) }
+    {
+        Outcome::Reply(responses(&self.update, editor, from))
+    }
+
+    /// Ends the session at a port.
+    fn close(&mut self, port: usize) -> Outcome
+        requires { port < EDITORS }
+        ensures performs { Performs self.old self.new result (λ w. step_of_said w port steps.Close) }
+        ensures centres { length self.new.centres ≡ length self.old.centres }
+    {
+        self.seats[port] = EditorSeat::new();
+        Outcome::Reply(closing_text())
     }
 
     /// Packs the next record for a centre.

@@ -1,9 +1,12 @@
 ghost use Rattle.std.specs.Prelude.{◌≡◌};
 ghost use Rattle.pv_udc.specs.Requests.{HasCentre};
-ghost use Rattle.pv_network.specs.Verdict.{view_of, verdict_of, with_verdict};
+ghost use Rattle.pv_network.specs.Verdict.{view_of, verdict_of, list_after, reply_found};
+ghost use Rattle.pv_editor.specs.Replies.{responses_reply};
 
-use pv_editor::UdcReplyView;
+use pv_editor::{Text, UdcReplyView, responses_text};
+use pv_edits::Record;
 use pv_node::Decision;
+use pv_page::AccountNo;
 use pv_udc::{UdcReply, UdcRequest, UdcState};
 
 /// The code of a request whose record would be one too many: it prints how many there are.
@@ -13,7 +16,7 @@ pub(crate) const FULL: u8 = 14;
 pub(crate) fn store(update: &mut UdcState, request: &UdcRequest) -> UdcReplyView
     requires { HasCentre request.now }
     ensures reply { result ≡ (verdict_of update.old request.now).reply }
-    ensures stored { update.new ≡ with_verdict update.old (verdict_of update.old request.now).stored }
+    ensures stored { update.new ≡ list_after update.old (verdict_of update.old request.now).stored }
 {
     match update.decide(request) {
         Decision::Answer(reply) => view_of(reply),
@@ -25,6 +28,19 @@ pub(crate) fn store(update: &mut UdcState, request: &UdcRequest) -> UdcReplyView
             update.absorb(&record, place);
             view_of(reply)
         }
+    }
+}
+
+/// What a search for replies to an editor's pages comes to, from a place on.
+pub(crate) fn responses(update: &UdcState, editor: AccountNo, from: u64) -> Text
+    ensures { result ≡ responses_reply (reply_found update.now.records editor from) }
+{
+    let Some(place) = update.reply_for(editor, from) else {
+        return responses_text(None);
+    };
+    match update.rec_at(place) {
+        Some(Record::Taken(taken)) => responses_text(Some((place, &taken.item))),
+        _ => responses_text(None),
     }
 }
 

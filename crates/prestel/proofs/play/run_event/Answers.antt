@@ -21,7 +21,8 @@ returns-then-is_err-2-clause-err g c =
       c.write_all.ensures.failed failed,
       (
         step.0,
+        step.1,
         λ w stands.
-            (prefix.0, subst (λ (l : List ℕ). Appends (g.K.Sink.written c.args.out.now) (g.K.Sink.written c.write_all.new.self) (take prefix.0 l)) (text ∙ ap answer_text (step.1 w stands).1) prefix.1),
+            (prefix.0, subst (λ (l : List ℕ). Appends (g.K.Sink.written c.args.out.now) (g.K.Sink.written c.write_all.new.self) (take prefix.0 l)) (text ∙ ap answer_text (step.2 w stands).1) prefix.1),
       ),
     )

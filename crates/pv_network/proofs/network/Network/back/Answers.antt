@@ -12,7 +12,7 @@ use Rattle.pv_network.proofs.network.Network.back.Goals.{After-hear}
 abbrev before : After-hear → State
 before c =
     let n = c.self.inside in
-    record { update = n.update; centres = n.centres.items; links = n.links; is_out = n.is_out }
+    record { update = n.update; seats = n.seats; centres = n.centres.items; links = n.links; is_out = n.is_out }
 
 -- the link's end hears it
 heard : (c : After-hear) (w : World) → StandsFor (before c) w

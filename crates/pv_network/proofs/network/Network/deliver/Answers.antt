@@ -42,7 +42,7 @@ returns-in-Full-clause-performs c = λ w stands.
 abbrev before : After-take → State
 before c =
     let n = c.self.inside in
-    record { update = n.update; centres = n.centres.items; links = n.links; is_out = n.is_out }
+    record { update = n.update; seats = n.seats; centres = n.centres.items; links = n.links; is_out = n.is_out }
 
 -- the centre has room for the record
 pub take-requires-clause-room : goal.take-requires-clause-room

@@ -1,6 +1,9 @@
-use Rattle.std.proofs.Common.{[], false, refl, sym, ◌∙◌, arith}
+use Rattle.std.specs.Prelude.{replicate}
+use Rattle.std.proofs.Common.{◌≡◌, [], ◌∷◌, length, false, refl, sym, ◌∙◌, arith}
 use Rattle.std.proofs.lemmas.List.{length-replicate}
 use Rattle.pv_udc.specs.EditList.{empty_list}
+use Rattle.pv_editor.specs.Say.{new_seat}
+use Rattle.pv_network.specs.declared.event.TheConstants.{EDITORS}
 use Rattle.pv_network.specs.Centre.{CentreStands, nothing_held, new_centre}
 use Rattle.pv_network.specs.Link.{new_link}
 use Rattle.pv_network.specs.Standing.{StandsFor}
@@ -12,12 +15,13 @@ use Rattle.pv_network.proofs.network.Network.open.Goals.{In_ok-open-2}
 
 -- nothing has happened to any centre
 started : (c : In_ok-open-2) → StandsFor
-    (record { update = c.in_ok-open.field-0; centres = c.in_ok-open_centres.field-0.items; links = c.in_ok-open-2.field-0; is_out = false }) (start c.args.centres c.args.limits)
+    (record { update = c.in_ok-open.field-0; seats = c.new.result ∷ c.new.result ∷ c.new.result ∷ c.new.result ∷ []; centres = c.in_ok-open_centres.field-0.items; links = c.in_ok-open-2.field-0; is_out = false }) (start c.args.centres c.args.limits)
 started c =
     let limits = c.args.limits in
     record {
       sound = sound_start c.args.centres limits;
       update = c.in_ok-open.ensures;
+      seats = rw c.new.ensures refl;
       centres = rw c.in_ok-open_centres.ensures
           (zip_replicate (CentreStands (empty_list limits)) c.args.centres (nothing_held limits) new_centre
           (record { within = omega arith; prefix = refl; limits = refl }));

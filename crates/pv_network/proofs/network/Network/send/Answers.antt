@@ -12,7 +12,7 @@ use Rattle.pv_network.proofs.network.Network.send.Goals.{After-pack-index}
 abbrev before : After-pack-index → State
 before c =
     let n = c.self.inside in
-    record { update = n.update; centres = n.centres.items; links = n.links; is_out = n.is_out }
+    record { update = n.update; seats = n.seats; centres = n.centres.items; links = n.links; is_out = n.is_out }
 
 -- the record of the next number goes down in a packet
 sent : (c : After-pack-index) (w : World) → StandsFor (before c) w

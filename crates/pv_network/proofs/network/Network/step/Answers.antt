@@ -1,22 +1,24 @@
 use Rattle.std.proofs.Common.{Bool, Result, Ok, Err}
 use Rattle.std.specs.Prelude.{IfOk}
+use Rattle.pv_network.specs.declared.event.Event.{Event}
 use Rattle.pv_network.specs.declared.outcome.Outcome.{Outcome}
 use Rattle.pv_network.specs.Standing.{State, Performs}
-use Rattle.pv_network.specs.Step.{happens}
-use Rattle.pv_network.specs.World.{World}
+use Rattle.pv_network.specs.Step.{Choice, IsChoice, happens}
 use Rattle.pv_network.proofs.Standing.{out_stands}
 use Rattle.pv_network.proofs.network.Network.step.Goals as goal
 
 -- what was performed stays so, whether memory ran out or not
-noted : {E : Type 0} (r : Result Outcome E) (old new : State) (out : Bool) (step : Bool → World → World × Outcome)
-    → IfOk r (λ outcome. (kept : Bool) × Performs old new outcome (step kept))
-    → IfOk r (λ outcome. (kept : Bool) × Performs old (record new { is_out = out }) outcome (step kept))
-noted (Ok outcome) old new out step is = (is.0, λ w stands. let done = is.1 w stands in (out_stands new (step is.0 w).0 done.0 out, done.1))
-noted (Err e) old new out step is = tt
+noted : {E : Type 0} (r : Result Outcome E) (old new : State) (out : Bool) (event : Event)
+    → IfOk r (λ outcome. (choice : Choice) × IsChoice event choice × Performs old new outcome (λ w. happens w event choice))
+    → IfOk r (λ outcome. (choice : Choice) × IsChoice event choice × Performs old (record new { is_out = out }) outcome
+    (λ w. happens w event choice))
+noted (Ok outcome) old new out event is =
+    (is.0, is.1, λ w stands. let done = is.2 w stands in (out_stands new (happens w event is.0).0 done.0 out, done.1))
+noted (Err e) old new out event is = tt
 
 pub returns-clause-performs : goal.returns-clause-performs
 returns-clause-performs c =
-    noted c.happen-outcome.result _ _ c.is_err-self-inside.result (λ kept w. happens w c.args.event.now kept)
+    noted c.happen-outcome.result _ _ c.is_err-self-inside.result c.args.event.now
     (rw (← c.self-2.view_is) at c.happen-outcome.ensures.performs)
 
 -- it stands for the world that it stood for
