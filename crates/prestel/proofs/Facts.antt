@@ -27,8 +27,8 @@ mebibyte = refl
 
 -- ---- transcripts
 
--- The packet's number comes before the record's. A record that was taken has its acknowledgement beside it, and a dash stands
--- for one that could not be made, and for a frame that a centre does not have.
+-- The packet's number comes before the record's. A record that was taken has its acknowledgement beside it.
+-- A dash stands for one that could not be made, and for a frame that a centre does not have.
 pub lines : (answer_text (SentRecord 3 17) ≡ codes "sent 3 record 17\n")
     × (answer_text (Taken 17 (Some 4)) ≡ codes "taken 17 ack 4\n")
     × (answer_text (Old 17 None) ≡ codes "old 17 ack -\n")

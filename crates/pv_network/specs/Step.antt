@@ -155,8 +155,8 @@ step_of_list w = (w, outcomes.Records (length w.update.records))
 
 -- ---- all
 
--- What the definitions leave open in an event: whether a stop within a write kept the record that was being written (no event
--- stops a node yet, so that none depends on it), and what an editor's line says.
+-- What the definitions leave open in an event: whether a stop within a write kept the record that was being written, and what
+-- an editor's line says. No event stops a node yet, so that none depends on the first.
 pub record Choice : Type 0 where
   pub kept : Bool
   pub said : Option EditLine
