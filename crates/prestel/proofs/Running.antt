@@ -12,7 +12,7 @@ use Rattle.prestel.specs.declared.ends.RunEnd.{RunEnd}
 use Rattle.prestel.specs.declared.ends.RunEnd.TheVariants.{BadLine, Unanswered}
 use Rattle.prestel.specs.declared.grammar.Command.{Command}
 use Rattle.prestel.specs.Ends.{HasRun, IsLineEnd, IsRunEnd}
-use Rattle.prestel.specs.Grammar.{ReadsLine, IsChoice, AreRead}
+use Rattle.prestel.specs.Grammar.{ReadsLine, IsCommandChoice, AreRead}
 use Rattle.prestel.specs.Play.{IsTranscript, IsPlayed, StopsAfterLine}
 use Rattle.prestel.specs.Transcript.{answer_to, answers, world_after, world_after_all}
 use Rattle.prestel.proofs.Reading.{Appends-none, Appends-more}
@@ -33,7 +33,7 @@ answers-push w (first ∷ runs) run =
 
 -- one line more reads as one command more
 read-push : (centres : ℕ) (lines : List (List ℕ)) (runs : List (Command × Choice)) (line : List ℕ) (run : Command × Choice)
-    → AreRead centres lines runs → ReadsLine centres line run.0 × IsChoice run.0 run.1 → AreRead centres (lines ++ line ∷ []) (runs ++ run ∷ [])
+    → AreRead centres lines runs → ReadsLine centres line run.0 × IsCommandChoice run.0 run.1 → AreRead centres (lines ++ line ∷ []) (runs ++ run ∷ [])
 read-push centres [] [] line run read reads = (reads, tt)
 read-push centres [] (c ∷ cs) line run read reads = absurd read
 read-push centres (l ∷ ls) [] line run read reads = absurd read

@@ -14,7 +14,7 @@ use Rattle.prestel.specs.declared.ends.AnswerEnd.TheVariants as answering
 use Rattle.prestel.specs.declared.ends.RunEnd.{RunEnd}
 use Rattle.prestel.specs.declared.ends.RunEnd.TheVariants.{BadLine, Unanswered}
 use Rattle.prestel.specs.declared.grammar.Command.{Command}
-use Rattle.prestel.specs.Grammar.{ReadsLine, HasNoForm, IsChoice}
+use Rattle.prestel.specs.Grammar.{ReadsLine, HasNoForm, IsCommandChoice}
 use Rattle.prestel.specs.Transcript.{answer_to, world_after}
 use Rattle.prestel.specs.Play.{longest_script, StopsAtBadLine, StopsInAnswers, StopsAfterLine}
 
@@ -38,12 +38,12 @@ IsReadEnd text faults_before faults_now reads.Memory = text ≡ []
 
 -- a command was run: for each world that the network stood for it stands for the next, and the answer was written
 abbrev pub GivesAnswer : Command → State → State → Option (List ℕ) → Option (List ℕ) → Type 0
-GivesAnswer command old new before now = (choice : Choice) × IsChoice command choice
+GivesAnswer command old new before now = (choice : Choice) × IsCommandChoice command choice
     × ((w : World) → StandsFor old w → StandsFor new (world_after w command choice) × Appends before now (answer_to w command choice))
 
 -- a command was begun: for each world that the network stood for a prefix of the answer was written
 abbrev pub HasBegun : Command → State → Option (List ℕ) → Option (List ℕ) → Type 0
-HasBegun command old before now = (choice : Choice) × IsChoice command choice
+HasBegun command old before now = (choice : Choice) × IsCommandChoice command choice
     × ((w : World) → StandsFor old w → (count : ℕ) × Appends before now (take count (answer_to w command choice)))
 
 -- why the answer to a command was not written

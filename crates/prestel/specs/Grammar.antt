@@ -41,10 +41,10 @@ abbrev pub HasNoForm : ℕ → List ℕ → Type 0
 HasNoForm centres line = (command : Command) → ReadsLine centres line command → ⊥
 
 -- what was open in a command: in that of an editor's line, what the line says
-abbrev pub IsChoice : Command → Choice → Type 0
-IsChoice Nothing choice = Unit {0}
-IsChoice (Do event) choice = IsChoice event choice
+abbrev pub IsCommandChoice : Command → Choice → Type 0
+IsCommandChoice Nothing choice = Unit {0}
+IsCommandChoice (Do event) choice = IsCommandChoice event choice
 
 -- the lines read as the commands that were run, one for each; beside a command stands what was open in it
 abbrev pub AreRead : ℕ → List (List ℕ) → List (Command × Choice) → Type 0
-AreRead centres lines runs = AllZip (λ line run. ReadsLine centres line run.0 × IsChoice run.0 run.1) lines runs
+AreRead centres lines runs = AllZip (λ line run. ReadsLine centres line run.0 × IsCommandChoice run.0 run.1) lines runs
