@@ -43,7 +43,7 @@ HasNoForm centres line = (command : Command) → ReadsLine centres line command 
 -- what was open in a command: in that of an editor's line, what the line says
 abbrev pub IsCommandChoice : Command → Choice → Type 0
 IsCommandChoice Nothing choice = Unit {0}
-IsCommandChoice (Do event) choice = IsCommandChoice event choice
+IsCommandChoice (Do event) choice = IsChoice event choice
 
 -- the lines read as the commands that were run, one for each; beside a command stands what was open in it
 abbrev pub AreRead : ℕ → List (List ℕ) → List (Command × Choice) → Type 0
