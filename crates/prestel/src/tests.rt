@@ -66,10 +66,62 @@ fn comes_to(alloc: Global, script: &[u8], wanted: Status, written: &[u8]) -> Res
 const ROW_ENDS: &[u8] =
     b"\\0d\\0a\\0d\\0a\\0d\\0a\\0d\\0a\\0d\\0a\\0d\\0a\\0d\\0a\\0d\\0a\\0d\\0a\\0d\\0a\\0d\\0a\\0d\\0a\\0d\\0a\\0d\\0a\\0d\\0a\\0d\\0a\\0d\\0a\\0d\\0a\\0d\\0a\\0d\\0a\\0d\\0a\\0d\\0a\n";
 
+/// The operator leases 12 and 123 to two accounts, and each of the three stores pages.
+const OWNERS: &[u8] = b"edit 0 LOGON 0000000000 0000
+edit 0 ACCOUNT 1 1000000001 ABCD 0 -
+edit 0 ACCOUNT 2 1000000002 EFGH 0 -
+edit 0 LEASE 3 12 1000000001
+edit 0 LEASE 4 123 1000000002
+edit 1 LOGON 1000000001 ABCD
+edit 1 NEW 12a
+edit 1 STORE 1
+edit 1 NEW 1234a
+edit 1 STORE 2
+edit 1 NEW 13a
+edit 1 STORE 2
+edit 2 LOGON 1000000002 EFGH
+edit 2 NEW 1234a
+edit 2 STORE 1
+edit 2 NEW 12a
+edit 2 STORE 2
+edit 0 NEW 0a
+edit 0 STORE 5
+edit 0 NEW 12b
+edit 0 STORE 6
+seed 0b X
+edit 0 LAST
+";
+
+/// What is written then.
+const OWNED: &[u8] = b"OK
+OK 0
+OK 1
+OK 2
+OK 3
+OK
+OK
+OK 4
+OK
+NO 2 NOT OWNER
+OK
+NO 2 NOT OWNER
+OK
+OK
+OK 5
+OK
+NO 2 NOT OWNER
+OK
+OK 6
+OK
+NO 2 NOT OWNER
+OK 7
+OK 6
+";
+
 #[test]
 fn scripts_have_their_transcripts(rt: HostRuntime) -> Result<(), Fail> {
     let alloc = rt.alloc();
-    let cases: [(&[u8], &[u8], &[u8]); 4] = [
+    let cases: [(&[u8], &[u8], &[u8]); 6] = [
         (b"", b"", b""),
         (
             b"seed 1a HELLO\nview 0 1a\nsend 0\ndeliver 0 0\nview 0 1a",
@@ -82,10 +134,16 @@ fn scripts_have_their_transcripts(rt: HostRuntime) -> Result<(), Fail> {
             ROW_ENDS,
         ),
         (
-            b"seed 1a A\nseed 2a B\nsend 0\nsend 0\ndeliver 0 1\ndeliver 0 0\ndeliver 0 1\ndeliver 0 0\nsend 0\ndeliver 0 9\n",
-            b"OK 0\nOK 1\nsent 0 record 0\nsent 1 record 1\nearly 1 ack 0\ntaken 0 ack 1\ntaken 1 ack 2\nold 0 ack 3\nsent 2 record 0\nno packet\n",
+            b"seed 1a A\nseed 2a B\nsend 0\nsend 0\ndeliver 0 1\ndeliver 0 0\ndeliver 0 1\ndeliver 0 0\nback 0 0\nback 0 3\nsend 0\ndeliver 0 9\nback 0 9\n",
+            b"OK 0\nOK 1\nsent 0 record 0\nsent 1 record 1\nearly 1 ack 0\ntaken 0 ack 1\ntaken 1 ack 2\nold 0 ack 3\nheard 0\nheard 2\nidle\nno packet\nno packet\n",
             b"",
         ),
+        (
+            b"edit 0 LOGON 0000000000 0000\nedit 0 NEW 1a\nedit 0 STORE 1\nedit 0 STORE 1\nedit 0 STORE 3\nlist\nedit 0 QUIT\nedit 0 LAST\nedit 0 \n",
+            b"OK\nOK\nOK 0\nOK 0\nNO 3 NUMBER 2 WANTED\nrecords 1\nBYE\nNO 1 LOG ON FIRST\nNO 11 BAD LINE\n",
+            b"",
+        ),
+        (OWNERS, OWNED, b""),
     ];
     for (script, first, rest) in cases {
         let mut wanted = Vec::new(alloc);
@@ -138,7 +196,7 @@ fn lines_at_the_edge_of_a_form(rt: HostRuntime) -> Result<(), Fail> {
 }
 
 /// Lines that are no valid commands.
-const NO_FORMS: [&[u8]; 36] = [
+const NO_FORMS: [&[u8]; 39] = [
     b"seed 1a 01234567890123456789012345678901234567890",
     b"seed 1a \\1f\\1f\\1f\\1f\\1f\\1f\\1f\\1f\\1f\\1f\\1f\\1f\\1f\\1f\\1f\\1f\\1f\\1f\\1f\\1f\\1f\\1f\\1f\\1f\\1f\\1f\\1f\\1f\\1f\\1f\\1f\\1f\\1f\\1f\\1f\\1f\\1f\\1f\\1f\\1f\\1f",
     b"seed 1a",
@@ -174,7 +232,10 @@ const NO_FORMS: [&[u8]; 36] = [
     b"deliver 0 +1",
     b"view 0 1a ",
     b"view 0 1",
-    b"back 0 0",
+    b"back 0",
+    b"back 1 0",
+    b"edit 0",
+    b"edit 4 QUIT",
 ];
 
 #[test]
