@@ -1,8 +1,9 @@
 //! All nodes of the viewdata network as one machine that goes by events.
 //!
 //! A [`Network`] has one Update Centre, which keeps the list of all edits, and one to four retrieval
-//! centres, each of which has applied a prefix of that list. Each edit puts a whole frame under a
-//! name. An [`Event`] happens to the network, one at a time, and an [`Outcome`] says what came of it.
+//! centres, each of which has applied a prefix of that list. Editors type lines at four ports, and
+//! what they ask for is judged and stored by the rules of `pv_udc`. An [`Event`] happens to the
+//! network, one at a time, and an [`Outcome`] says what came of it.
 //! Packets are numbered in the order in which they were made; any of them may be delivered at any time,
 //! never, or again.
 //!
