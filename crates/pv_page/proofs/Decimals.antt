@@ -1,16 +1,12 @@
 -- The decimal texts of pages and accounts, and the digits that are such a text.
 use Rattle.std.proofs.Common.{◌≡◌, ℕ, zero, suc, ◌+◌, ◌-◌, ◌^◌, ◌<◌, ◌≤◌, ◌≢◌, List, [], ◌∷◌, ◌++◌, length, get_or, take, drop, All, replicate, not, None, decimal, refl, sym, ap, ◌∙◌, inl, inr, arith}
-use Rattle.std.specs.Char.{IsAsciiDigit, is_ascii_digit}
-use Rattle.std.specs.Int.{IsInRange}
-use Rattle.std.specs.List.{position_or_len}
-use Rattle.std.proofs.lemmas.Bool.Decides.{nat_tests}
-use Rattle.std.proofs.lemmas.Grind.{common_steps}
-use Rattle.std.proofs.lemmas.List.Sums.{prefix_len_passes, prefix_len_is}
-use Rattle.std.specs.Str.Parse.{AllDigits, digits_value}
+use Rattle.std.proofs.lemmas.{Bool.Decides.nat_tests, Grind.common_steps, List.Sums.{prefix_len_passes, prefix_len_is}}
 use Rattle.std.proofs.lemmas.Bool.{cases_eq, cases_lt, le-ltb}
 use Rattle.std.proofs.lemmas.List.{get_or_default, append-nil, take-append-drop, take-replicate, length-append, length-replicate}
 use Rattle.std.proofs.lemmas.Str.Parse.{IsNumeralModel, numerals_by_value, tells_digits, tells_by_index, digit_at, digits_value_short}
-use Rattle.std.proofs.lemmas.Fmt.{decimal_digit, decimal_nonempty, decimal_injective, first_decimal, length-decimal-le, digits_decimal, digits_value-decimal, decimal-digits_value}
+use Rattle.std.proofs.lemmas.Fmt.{decimal_digit, decimal_nonempty, decimal_injective, first_decimal, length-decimal-le, digits_decimal, digits_value-decimal, decimal-digits_value, IsAscii-from_digits}
+use Rattle.std.{proofs.lemmas.Str.IsUtf8-from_ascii, specs.{Char.{IsAsciiDigit, is_ascii_digit}, Int.IsInRange, List.position_or_len}}
+use Rattle.std.specs.Str.Parse.{AllDigits, digits_value}
 use Rattle.pv_fields.specs.Refusals.{first_of}
 use Rattle.pv_page.specs.Names.{IsPage, IsAccount, account_text, first_not_digit, page_errors}
 
@@ -42,11 +38,7 @@ module _ (n : ℕ) (page : IsPage n) where
 
   -- a page's text of several digits does not begin with a zero
   pub first_of_page : 1 < length (decimal n) → get_or (decimal n) 0 0 ≢ 48
-  first_of_page several leading =
-      elim (cases_lt n 10) [
-        | inl small ↦ absurd (omega (arith, ap length (decimal_digit n small)))
-        | inr large ↦ absurd (omega (arith, first_decimal n (omega arith) (omega arith)))
-      ]
+  first_of_page several leading = grind (arith, common_steps, cases_lt, decimal_digit, first_decimal)
 
 -- two pages with the same text are the same page
 pub page_injective : (m n : ℕ) → IsPage m → IsPage n → decimal m ≡ decimal n → m ≡ n
@@ -124,20 +116,12 @@ module _ (text : List ℕ) (digits : AllDigits 10 text) (ten : length text ≡ 1
 
   -- and its text
   pub account_text-digits : text ≡ account_text (digits_value 10 text)
-  account_text-digits =
-      let n = digits_value 10 text in
-      let parts = zeros_and_number text digits (omega arith) (omega (arith, account_within)) in
-      let count : parts.0 ≡ 10 - length (decimal n) =
-      omega (arith, ten, ap length parts.1, length-append (replicate parts.0 48) (decimal n), length-replicate {A = ℕ} parts.0 48) in
-      parts.1 ∙ ap (λ k. replicate k 48 ++ decimal n) count
+  account_text-digits = grind (arith, common_steps, account_within, length-append, length-replicate, zeros_and_number)
 
 module _ (n : ℕ) (account : IsAccount n) where
   -- an account's text has ten digits
   pub length-account_text : length (account_text n) ≡ 10
-  length-account_text =
-      let zeros = 10 - length (decimal n) in
-      let few = length-decimal-le 10 n (omega arith) (omega arith) (omega arith) in
-      omega (arith, few, length-append (replicate zeros 48) (decimal n), length-replicate {A = ℕ} zeros 48)
+  length-account_text = grind (arith, common_steps, length-append, length-decimal-le, length-replicate)
 
   -- each of its bytes is a digit
   pub digits_of_account : AllDigits 10 (account_text n)
@@ -145,9 +129,7 @@ module _ (n : ℕ) (account : IsAccount n) where
 
   -- what the digits write is the account's number
   pub digits_value-account : digits_value 10 (account_text n) ≡ n
-  digits_value-account =
-      (zeros_before (10 - length (decimal n)) (decimal n) (digits_decimal own n (omega arith))).1
-      ∙ digits_value-decimal own n (omega arith)
+  digits_value-account = grind (arith, common_steps, digits_decimal, digits_value-decimal, own, zeros_before)
 
 -- ---- the errors of a page's digits
 
@@ -178,3 +160,21 @@ page_without_error text n page is =
     let digits = none_from_digits text (rw is (digits_of_page n page)) in
     let plain : 1 < length text → get_or text 0 0 ≢ 48 = rw is (first_of_page n page) in
     grind (arith, nat_tests)
+
+-- what the code on pages follows from
+pub ruleset pages = (common_steps, length-page, is_read, page_within, decimal-digits, page_without_error, page_injective)
+
+-- what the code on accounts follows from
+pub ruleset accounts = (
+  common_steps,
+  length-decimal-le,
+  account_within,
+  account_text-digits,
+  length-account_text,
+  digits_of_account,
+  digits_value-account,
+  account_text-written,
+)
+
+-- digits are a text
+pub ruleset ascii = (common_steps, IsAscii-from_digits, IsUtf8-from_ascii)

@@ -1,7 +1,5 @@
 -- Worked examples, computed from the definitions: each constant at the last value that fits, and the next.
-use Rattle.std.proofs.Common.{◌≡◌, [], ◌∷◌, true, false, Ok, Err, lit≤, refl, arith}
-use Rattle.std.specs.Fmt.{digits}
-use Rattle.std.specs.Prelude.{codes}
+use Rattle.std.{proofs.Common.{◌≡◌, [], ◌∷◌, true, false, Ok, Err, lit≤, refl, arith}, specs.{Fmt.digits, Prelude.codes}}
 use Rattle.pv_page.specs.declared.page_error.PageError.TheVariants.{Empty, TooLong, NotDigit, LeadingZero}
 use Rattle.pv_page.specs.Names.{IsPage, IsAccount, IsLetter, account_text, covers, name_text, page_of_digits, space}
 

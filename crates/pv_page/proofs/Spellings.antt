@@ -2,10 +2,8 @@
 use Rattle.std.proofs.Common.{refl, lit<}
 use Rattle.pv_fields.specs.Reading.{Reads}
 use Rattle.pv_fields.proofs.Readings.{Reads-byte, Reads-four, Reads-eight, Reads-at_most, Reads-within, ◌&◌, Reads-map}
-use Rattle.pv_page.specs.Names.{IsPage, IsAccount, IsName}
-use Rattle.pv_page.specs.Spelling.{page_bytes, page_at, account_bytes, account_at, name_bytes, name_at}
-use Rattle.pv_page.specs.declared.page_no.TheConstants.{LAST_PAGE}
-use Rattle.pv_page.specs.declared.account_no.TheConstants.{LAST_ACCOUNT}
+use Rattle.pv_page.specs.{Names.{IsPage, IsAccount, IsName}, Spelling.{page_bytes, page_at, account_bytes, account_at, name_bytes, name_at}}
+use Rattle.pv_page.specs.declared.{page_no.TheConstants.LAST_PAGE, account_no.TheConstants.LAST_ACCOUNT}
 use Rattle.pv_page.specs.declared.frame_name.TheConstants.{FIRST_LETTER, LAST_LETTER}
 
 -- a page

@@ -50,6 +50,7 @@ impl AccountNo {
 
     /// The account that ten decimal digits write, with zeros before its number. `None` exactly when the
     /// text has another length, or a byte that is no digit.
+    #[tactic(auto, using(crate::proofs::Decimals::accounts))]
     pub fn of_digits(text: &[u8]) -> Option<AccountNo>
         ensures found { IfSome result (λ account. IsAccount account × (text.now ≡ account_text account)) }
         ensures only { (account : ℕ) → IsAccount account → text.now ≡ account_text account
@@ -64,6 +65,7 @@ impl AccountNo {
     }
 
     /// The account's ten digits, with zeros before its number.
+    #[tactic(auto, using(crate::proofs::Decimals::accounts))]
     pub fn digits(&self) -> [u8; ACCOUNT_DIGITS]
         ensures text { result ≡ account_text self.now }
         ensures within { IsAccount self.now }

@@ -11,6 +11,7 @@ pub(crate) fn first_not_digit(text: &[u8]) -> Option<usize>
 }
 
 /// Whether each byte is a digit.
+#[tactic(auto, using(crate::proofs::Decimals::digits_from_none, crate::proofs::Decimals::none_from_digits))]
 pub(crate) fn are_digits(text: &[u8]) -> bool
     ensures { IsTrue result ↔ AllDigits 10 text.now }
 {
@@ -18,6 +19,7 @@ pub(crate) fn are_digits(text: &[u8]) -> bool
 }
 
 /// The number that one to nineteen digits write.
+#[tactic(auto, using(crate::proofs::Decimals::ascii))]
 pub(crate) fn number_of(digits: &[u8]) -> u64
     requires { (0 < length digits.now) × (length digits.now ≤ 19) × AllDigits 10 digits.now }
     ensures { result ≡ digits_value 10 digits.now }

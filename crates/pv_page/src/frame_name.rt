@@ -56,6 +56,7 @@ impl FrameName {
 
     /// Writes the name's text at the beginning of `into` and returns its length, 2 to 10. The bytes after
     /// the text are as they were.
+    #[tactic(auto, using(std::proofs::lemmas::Grind::common_steps, pv_fields::proofs::CallerLemmas::appends_then, pv_fields::proofs::CallerLemmas::slice_after, crate::proofs::Decimals::pages))]
     pub fn text(&self, into: &mut [u8; 10]) -> usize
         ensures text { into.new ≡ name_text self.now ++ drop result into.old }
         ensures len { result ≡ length (name_text self.now) }
@@ -85,11 +86,13 @@ impl FrameName {
 }
 
 /// A law: two names with the same text are the same name.
+#[tactic(auto, using(crate::proofs::CallerLemmas::names))]
 pub fn one_text_is_one_name()
     ensures { (a b : Name) → IsName a → IsName b → name_text a ≡ name_text b → a ≡ b }
 {}
 
 /// A law: what the text of every name looks like, for code that finds names between spaces.
+#[tactic(auto, using(crate::proofs::CallerLemmas::names))]
 pub fn texts_of_names()
     // It has two to ten bytes.
     ensures len { (name : Name) → IsName name →

@@ -54,6 +54,7 @@ impl PageNo {
     ///
     /// The error is the first that applies: no digit, more than nine bytes, a byte that is no digit (the
     /// first such byte is named), or a zero before other digits.
+    #[tactic(auto, using(crate::proofs::Decimals::pages))]
     pub fn of_digits(digits: &[u8]) -> Result<PageNo, PageError>
         ensures reads { result ≡ page_of_digits digits.now }
 

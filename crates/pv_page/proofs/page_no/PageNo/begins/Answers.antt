@@ -1,5 +1,4 @@
-use Rattle.std.proofs.Common.{◌≡◌, Decides, drop, length, decimal, refl, rules, sym, subst}
-use Rattle.std.proofs.lemmas.Bool.Decides.{Decides-eqb}
+use Rattle.std.proofs.{Common.{◌≡◌, Decides, drop, length, decimal, refl, rules, sym, subst}, lemmas.Bool.Decides.Decides-eqb}
 use Rattle.std.proofs.lemmas.Slice.Eq.{starts_is}
 use Rattle.pv_page.specs.Names.{Covers, covers}
 use Rattle.pv_page.proofs.page_no.PageNo.begins.Goals as goal
