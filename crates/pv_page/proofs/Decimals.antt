@@ -7,7 +7,7 @@ use Rattle.std.proofs.lemmas.Str.Parse.{IsNumeralModel, numerals_by_value, tells
 use Rattle.std.proofs.lemmas.Fmt.{decimal_digit, decimal_nonempty, decimal_injective, first_decimal, length-decimal-le, digits_decimal, digits_value-decimal, decimal-digits_value, IsAscii-from_digits}
 use Rattle.std.{proofs.lemmas.Str.IsUtf8-from_ascii, specs.{Char.{IsAsciiDigit, is_ascii_digit}, Int.IsInRange, List.position_or_len}}
 use Rattle.std.specs.Str.Parse.{AllDigits, digits_value}
-use Rattle.pv_fields.specs.Refusals.{first_of}
+use Rattle.pv_fields.{proofs.CallerLemmas.{appends_then, slice_after}, specs.Refusals.first_of}
 use Rattle.pv_page.specs.Names.{IsPage, IsAccount, account_text, first_not_digit, page_errors}
 
 -- std's words for digits and their value
@@ -162,7 +162,7 @@ page_without_error text n page is =
     grind (arith, nat_tests)
 
 -- what the code on pages follows from
-pub ruleset pages = (common_steps, length-page, is_read, page_within, decimal-digits, page_without_error, page_injective)
+pub ruleset pages = (common_steps, is_read, page_within, decimal-digits)
 
 -- what the code on accounts follows from
 pub ruleset accounts = (
@@ -178,3 +178,6 @@ pub ruleset accounts = (
 
 -- digits are a text
 pub ruleset ascii = (common_steps, IsAscii-from_digits, IsUtf8-from_ascii)
+
+-- what the bytes of a name's text follow from
+pub ruleset name_parts = (common_steps, appends_then, slice_after, length-page)

@@ -56,7 +56,7 @@ impl FrameName {
 
     /// Writes the name's text at the beginning of `into` and returns its length, 2 to 10. The bytes after
     /// the text are as they were.
-    #[tactic(auto, using(std::proofs::lemmas::Grind::common_steps, pv_fields::proofs::CallerLemmas::appends_then, pv_fields::proofs::CallerLemmas::slice_after, crate::proofs::Decimals::pages))]
+    #[tactic(auto, using(crate::proofs::Decimals::name_parts))]
     pub fn text(&self, into: &mut [u8; 10]) -> usize
         ensures text { into.new ≡ name_text self.now ++ drop result into.old }
         ensures len { result ≡ length (name_text self.now) }
