@@ -1,16 +1,11 @@
 -- The canonical notation is read back, and can be printed.
+use Rattle.std.proofs.lemmas.{Grind.common_steps, Bool.{and_parts, lt-ltb, Decides.nat_tests}}
+use Rattle.std.proofs.lemmas.{List.Elements.{All-nil, All-cons, All-head, All-tail, All-append, All-weaker}, Str.digit_value-digit_char}
 use Rattle.std.proofs.Common.{◌≡◌, ℕ, ◌+◌, ◌*◌, ◌/◌, ◌%◌, ◌<◌, ◌≤◌, ◌==◌, not, Bool, true, false, cond, List, [], ◌∷◌, ◌++◌, length, Option, Some, None, Ok, refl, sym, ap, subst, ◌∙◌, arith}
-use Rattle.std.specs.Char.{digit_char}
-use Rattle.std.specs.List.{All, AllPass}
-use Rattle.std.proofs.lemmas.Bool.{and_parts, lt-ltb}
-use Rattle.std.proofs.lemmas.Bool.Decides.{nat_tests}
-use Rattle.std.proofs.lemmas.List.Elements.{All-nil, All-cons, All-head, All-tail, All-append, All-weaker}
-use Rattle.std.proofs.lemmas.Str.{digit_value-digit_char}
+use Rattle.std.specs.{Char.digit_char, List.{All, AllPass}}
 use Rattle.pv_fields.specs.Padded.{padded_list}
 use Rattle.pv_cells.specs.Notation.{IsByte, is_printable, is_plain, notation_of_byte, notation_of, notation_at, ReadsAs}
-use Rattle.pv_cells.specs.Row.{IsCell, row_of_text}
-use Rattle.pv_cells.specs.declared.reading.TheConstants.{BLANK}
-use Rattle.pv_cells.specs.declared.writing.TheConstants.{BACKSLASH}
+use Rattle.pv_cells.specs.{Row.{IsCell, row_of_text}, declared.{reading.TheConstants.BLANK, writing.TheConstants.BACKSLASH}}
 use Rattle.pv_cells.proofs.Rows.{row_again}
 
 -- the notation of a byte, by whether it is written as itself
@@ -21,11 +16,7 @@ written byte plain = cond plain (byte ∷ []) (BACKSLASH ∷ digit_char (byte / 
 written_again : (byte : ℕ) (plain : Bool) (rest : List ℕ) → is_plain byte ≡ plain → IsByte byte
     → notation_at (written byte plain ++ rest) ≡ Some (byte, rest)
 written_again byte true rest is small = rw is refl
-written_again byte false rest is small =
-    let high = digit_value-digit_char (byte / 16) (omega arith) in
-    let low = digit_value-digit_char (byte % 16) (omega arith) in
-    let value : 16 * (byte / 16) + byte % 16 ≡ byte = omega arith in
-    rw (high, low, lt-ltb (byte / 16) 16 (omega arith), lt-ltb (byte % 16) 16 (omega arith)) (ap (λ b. Some (b, rest)) value)
+written_again byte false rest is small = grind (arith, common_steps, digit_value-digit_char, lt-ltb)
 
 -- the notation of bytes is read as the bytes
 pub notation_reads : (bytes : List ℕ) → All IsByte bytes → ReadsAs (notation_of bytes) bytes
@@ -80,16 +71,10 @@ digit_prints digit small = grind (arith, nat_tests)
 -- either form can be printed
 written_prints : (byte : ℕ) (plain : Bool) → is_plain byte ≡ plain → IsByte byte → AllPass is_printable (written byte plain)
 written_prints byte true is small = All-cons Prints byte [] (and_parts (is_printable byte) (not (byte == BACKSLASH)) is).0 (All-nil Prints)
-written_prints byte false is small =
-    let high = digit_char (byte / 16) in
-    let low = digit_char (byte % 16) in
-    let digits = All-cons Prints low [] (digit_prints (byte % 16) (omega arith)) (All-nil Prints) in
-    All-cons Prints BACKSLASH (high ∷ low ∷ []) refl (All-cons Prints high (low ∷ []) (digit_prints (byte / 16) (omega arith)) digits)
+written_prints byte false is small = grind (arith, common_steps, All-cons, All-nil, digit_prints)
 
 -- each byte of a notation can be printed
 pub notation_prints : (bytes : List ℕ) → All IsByte bytes → AllPass is_printable (notation_of bytes)
 notation_prints [] small = All-nil Prints
 notation_prints (byte ∷ bytes) small =
-    All-append Prints (notation_of_byte byte) (notation_of bytes)
-    (written_prints byte (is_plain byte) refl (All-head IsByte byte bytes small))
-    (notation_prints bytes (All-tail IsByte byte bytes small))
+    grind (arith, nat_tests, All-append, All-head, All-tail, written_prints, notation_prints bytes (All-tail IsByte byte bytes small))

@@ -1,12 +1,8 @@
 -- Worked examples, computed from the definitions: each constant at the last value that fits, and the next.
 use Rattle.std.proofs.Common.{◌≡◌, true, false, [], ◌∷◌, ◌++◌, codes, map, replicate, refl, Ok, Err, lit≤, arith}
-use Rattle.std.specs.Char.{digit_char, digit_value}
-use Rattle.std.specs.List.{range_with_len}
-use Rattle.pv_cells.specs.Mosaic.{Block, IsMosaic}
-use Rattle.pv_cells.specs.Notation.{is_printable, notation_of, ReadsAs}
-use Rattle.pv_cells.specs.Row.{IsCell, row_of_text}
-use Rattle.pv_cells.specs.declared.error.NotationError.TheVariants.{TooLong, BadEscape, BadByte}
-use Rattle.pv_cells.specs.declared.reading.TheConstants.{ROW_LENGTH}
+use Rattle.std.specs.{Char.{digit_char, digit_value}, List.range_with_len}
+use Rattle.pv_cells.specs.{Mosaic.{Block, IsMosaic}, Notation.{is_printable, notation_of, ReadsAs}, Row.{IsCell, row_of_text}}
+use Rattle.pv_cells.specs.declared.{error.NotationError.TheVariants.{TooLong, BadEscape, BadByte}, reading.TheConstants.ROW_LENGTH}
 
 -- ---- notation
 

@@ -1,18 +1,13 @@
 -- What a text is read as, cell by cell.
-use Rattle.std.proofs.Common.{◌≡◌, ℕ, zero, suc, ◌-◌, ◌≤◌, Bool, ◌==◌, List, [], ◌∷◌, length, replicate, Option, Some, None, Result, Ok, leb, refl, sym, ap, ◌∙◌, subst, arith}
-use Rattle.std.specs.Prelude.{option_map, unwrap_or}
-use Rattle.std.specs.List.{All}
-use Rattle.std.proofs.lemmas.Bool.{leb-true, le-leb}
-use Rattle.std.proofs.lemmas.Bool.Decides.{nat_tests}
+use Rattle.std.proofs.lemmas.{Grind.common_steps, Bool.{leb-true, le-leb, Decides.nat_tests}}
 use Rattle.std.proofs.lemmas.List.Elements.{All-nil, All-cons, All-head, All-tail, All-append, All-same, All-replicate}
-use Rattle.pv_fields.specs.Padded.{padded_list}
-use Rattle.pv_fields.specs.Reading.{many_at}
-use Rattle.pv_fields.specs.Refusals.{first_of, unless}
-use Rattle.pv_fields.proofs.CallerLemmas.{some_if-some, unless_ok}
-use Rattle.pv_cells.specs.Notation.{notation_at, ReadsAs}
-use Rattle.pv_cells.specs.Row.{IsCell, cell_at, row_errors, row_of_text, SpellsCells}
-use Rattle.pv_cells.specs.declared.error.NotationError.{NotationError}
-use Rattle.pv_cells.specs.declared.reading.TheConstants.{BLANK, LAST_CELL}
+use Rattle.std.proofs.Common.{◌≡◌, ℕ, zero, suc, ◌-◌, ◌≤◌, Bool, ◌==◌, List, [], ◌∷◌, length, replicate, Option, Some, None, Result, Ok, leb, refl, sym, ap, ◌∙◌, subst, arith}
+use Rattle.std.specs.{Prelude.{option_map, unwrap_or}, List.All}
+use Rattle.pv_fields.specs.{Padded.padded_list, Reading.many_at, Refusals.{first_of, unless}}
+use Rattle.pv_fields.proofs.CallerLemmas.{some_if-some, unless_ok, IsPadded-set, take-set, padded_list-take, length-items}
+use Rattle.pv_fields.proofs.Readings.{many_more, many_ends, many_done}
+use Rattle.pv_cells.specs.{Notation.{notation_at, ReadsAs}, Row.{IsCell, cell_at, row_errors, row_of_text, SpellsCells}}
+use Rattle.pv_cells.specs.declared.{error.NotationError.NotationError, reading.TheConstants.{BLANK, LAST_CELL}}
 
 -- ---- cells
 
@@ -20,9 +15,7 @@ use Rattle.pv_cells.specs.declared.reading.TheConstants.{BLANK, LAST_CELL}
 cell_found : (o : Option (ℕ × List ℕ)) (text : List ℕ) (cell : ℕ × List ℕ) → notation_at text ≡ o → cell_at text ≡ Some cell
     → IsCell cell.0 × (notation_at text ≡ Some cell)
 cell_found None text cell is some = let never : None ≡ Some cell = rw is at some in absurd cc
-cell_found (Some byte) text cell is some =
-    let test = some_if-some (leb byte.0 LAST_CELL) byte cell (rw is at some) in
-    subst (λ c. IsCell c.0 × (notation_at text ≡ Some c)) test.1 (leb-true _ _ test.0, is)
+cell_found (Some byte) text cell is some = grind (arith, common_steps, leb-true, some_if-some)
 
 -- and such a byte is read as a cell
 cell_again : (text : List ℕ) (cell : ℕ) (rest : List ℕ) → notation_at text ≡ Some (cell, rest) → IsCell cell
@@ -40,14 +33,7 @@ found_next : (n : ℕ) (text : List ℕ) (o : Option (ℕ × List ℕ)) → cell
     → ((rest : List ℕ) → IsFound n rest (many_at cell_at n rest))
     → IsFound (suc n) text (unwrap_or (option_map (λ x. let more = many_at cell_at n x.1 in (x.0 ∷ more.0, more.1)) o) ([], text))
 found_next n text None is others = record { reads = λ end. end; are_cells = All-nil IsCell; fits = omega arith }
-found_next n text (Some cell) is others =
-    let first = cell_found (notation_at text) text cell refl is in
-    let more = others cell.1 in
-    record {
-      reads = λ end. (cell.1, first.1, more.reads end);
-      are_cells = All-cons IsCell cell.0 (many_at cell_at n cell.1).0 first.0 more.are_cells;
-      fits = omega (arith, more.fits);
-    }
+found_next n text (Some cell) is others = grind (arith, common_steps, All-cons, cell_found)
 
 is_found : (n : ℕ) (text : List ℕ) → IsFound n text (many_at cell_at n text)
 is_found zero text = record { reads = λ end. end; are_cells = All-nil IsCell; fits = omega arith }
@@ -72,28 +58,15 @@ no_error is_full at (first ∷ rest) none = absurd (grind (arith, nat_tests))
 module _ (width : ℕ) (text row : List ℕ) where
   -- a row that is read is spelled by the text
   pub row_found : row_of_text width text ≡ Ok row → SpellsCells width text row
-  row_found is =
-      let found = many_at cell_at width text in
-      let both = unless_ok _ _ _ is in
-      let facts = is_found width text in
-      record {
-        cells = found.0;
-        reads = facts.reads (no_error _ _ found.1 both.0);
-        are_cells = facts.are_cells;
-        fits = facts.fits;
-        row_is = sym both.1;
-      }
+  row_found is = grind (arith, common_steps, is_found, no_error, unless_ok)
 
   -- a row that is spelled is read
   pub row_again : SpellsCells width text row → row_of_text width text ≡ Ok row
-  row_again spells =
-      let row_from : List ℕ × List ℕ → Result (List ℕ) NotationError = λ found.
-      unless (first_of (row_errors (length found.0 == width) (length text - length found.1) found.1)) (padded_list BLANK width found.0) in
-      ap row_from (many_reads spells.cells text width spells.reads spells.are_cells spells.fits) ∙ ap Ok (sym spells.row_is)
+  row_again spells = grind (arith, common_steps, many_reads)
 
   -- each element of such a row is a cell
   pub row_cells : SpellsCells width text row → All IsCell row
-  row_cells spells =
-      let blanks = width - length spells.cells in
-      All-same IsCell row (padded_list BLANK width spells.cells) spells.row_is
-      (All-append IsCell spells.cells (replicate blanks BLANK) spells.are_cells (All-replicate IsCell blanks BLANK (omega arith)))
+  row_cells spells = grind (arith, common_steps, All-append, All-replicate, All-same)
+
+-- what the cells so far in a row follow from
+pub ruleset filling = (common_steps, IsPadded-set, take-set, padded_list-take, length-items, many_more, many_ends, many_done)

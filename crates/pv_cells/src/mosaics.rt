@@ -30,6 +30,7 @@ pub const DARK: u8 = 0x20;
 /// The code of the mosaic whose lit squares have this sum of weights: 0x20 to 0x3F without the bottom
 /// right square, 0x60 to 0x7F with it. `None` exactly when the number has a bit that is no square's
 /// weight.
+#[tactic(auto, using(crate::proofs::Squares::squares))]
 pub fn mosaic(weights: u8) -> Option<u8>
     ensures found { IfSome result (λ code. IsMosaic weights code) }
     ensures only { (code : ℕ) → IsMosaic weights code → result ≡ Some code }
@@ -46,6 +47,7 @@ pub fn mosaic(weights: u8) -> Option<u8>
 
 /// The sum of the weights of the lit squares in the mosaic of this code. `None` exactly outside 0x20 to
 /// 0x3F and 0x60 to 0x7F.
+#[tactic(auto, using(crate::proofs::Squares::is_mosaic))]
 pub fn weights_of(code: u8) -> Option<u8>
     ensures found { IfSome result (λ weights. IsMosaic weights code) }
     ensures only { (weights : ℕ) → IsMosaic weights code → result ≡ Some weights }

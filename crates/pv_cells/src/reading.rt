@@ -39,6 +39,7 @@ pub fn row_of(text: &[u8]) -> Result<[u8; ROW_LENGTH], NotationError>
 }
 
 /// Reads a row of `N` cells, as [`row_of`] does one of forty: a title has fewer.
+#[tactic(auto, using(crate::proofs::Rows::row_found, crate::proofs::Rows::row_cells))]
 pub fn cells_of<const N: usize>(text: &[u8]) -> Result<[u8; N], NotationError>
     ensures reads { result ≡ row_of_text N text.now }
 
@@ -56,6 +57,7 @@ pub fn cells_of<const N: usize>(text: &[u8]) -> Result<[u8; N], NotationError>
 }
 
 /// Reads cells into a blank row while it has room: returns their count, and the rest of the text.
+#[tactic(auto, using(crate::proofs::Rows::filling))]
 fn fill<'a>(row: &mut [u8], text: &'a [u8]) -> (usize, &'a [u8])
     requires { row.old ≡ replicate (length row.old) BLANK }
     ensures row { row.new ≡ padded_list BLANK (length row.old) (many_at cell_at (length row.old) text.now).0 }

@@ -1,9 +1,6 @@
 use Rattle.std.proofs.Common.{length, take, ◌-◌, ◌≡◌}
-use Rattle.pv_fields.specs.Padded.{IsPadded}
-use Rattle.pv_fields.specs.Reading.{many_at}
-use Rattle.pv_cells.specs.Row.{cell_at}
-use Rattle.pv_cells.specs.declared.reading.TheConstants.{BLANK}
-use Rattle.pv_fields.proofs.Readings.{prepend}
+use Rattle.pv_fields.{specs.{Padded.IsPadded, Reading.many_at}, proofs.Readings.prepend}
+use Rattle.pv_cells.specs.{Row.cell_at, declared.reading.TheConstants.BLANK}
 use Rattle.pv_cells.proofs.reading.fill.Given as goal
 
 -- the cells so far and those that are still to be read are those of the text; the rest of the row is blank

@@ -1,5 +1,4 @@
-use Rattle.std.proofs.Common.{arith}
-use Rattle.std.proofs.lemmas.List.Folds.{length-flat_map-take}
+use Rattle.std.proofs.{Common.arith, lemmas.List.Folds.length-flat_map-take}
 use Rattle.pv_cells.specs.Notation.{notation_of_byte}
 use Rattle.pv_cells.proofs.writing.fits.Goals as goal
 
