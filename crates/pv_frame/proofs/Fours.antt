@@ -1,4 +1,7 @@
 -- Lists of values that take four bytes each, as bytes and back.
+use Rattle.std.proofs.Common.{rules}
+use Rattle.std.proofs.lemmas.Bool.Decides.{nat_tests}
+use Rattle.std.proofs.lemmas.Grind.{common_steps}
 use Rattle.std.proofs.Common.{◌≡◌, ℕ, zero, suc, ◌*◌, ◌/◌, Bool, true, false, not, List, [], ◌∷◌, ◌++◌, length, take, drop, map, All, None, refl, sym, ap, ◌∙◌, arith}
 use Rattle.std.specs.Prelude.{position, flat_map}
 use Rattle.std.specs.Simd.{first_chunks}
@@ -17,9 +20,7 @@ length-groups (suc count) bytes = ap suc (length-groups count (drop 4 bytes))
 
 -- of four bytes each there are a quarter as many groups
 fours_of : (count : ℕ) (bytes : List ℕ) → length bytes ≡ 4 * count → fours bytes ≡ first_chunks 4 count bytes
-fours_of count bytes is =
-    let quarter : length bytes / 4 ≡ count = omega arith in
-    ap (λ n. first_chunks 4 n bytes) quarter
+fours_of count bytes is = grind (arith, common_steps)
 
 pub length-fours : (count : ℕ) (bytes : List ℕ) → length bytes ≡ 4 * count → length (fours bytes) ≡ count
 length-fours count bytes is = ap length (fours_of count bytes is) ∙ length-groups count bytes
@@ -34,9 +35,7 @@ module _ {X : Type 0} (spell : X → List ℕ) (read : List ℕ → X) (test : L
   module _ (four : (x : X) → length (spell x) ≡ 4) where
     groups_spelled : (xs : List X) → first_chunks 4 (length xs) (flat_map spell xs) ≡ map spell xs
     groups_spelled [] = refl
-    groups_spelled (x ∷ xs) =
-        rw (flat_map-cons spell x xs, take_at (spell x) (flat_map spell xs) 4 (four x), drop_at (spell x) (flat_map spell xs) 4 (four x))
-        (ap (λ groups. spell x ∷ groups) (groups_spelled xs))
+    groups_spelled (x ∷ xs) = search (rules, drop_at, flat_map-cons, take_at, groups_spelled xs)
 
     -- the groups of what is spelled are the spellings
     fours_spelled : (xs : List X) → fours (flat_map spell xs) ≡ map spell xs
@@ -45,26 +44,16 @@ module _ {X : Type 0} (spell : X → List ℕ) (read : List ℕ → X) (test : L
     module _ (Has : X → Type 0) (again : (x : X) → Has x → (test (spell x) ≡ true) × (read (spell x) ≡ x)) where
       read_each : (xs : List X) → All Has xs → map read (map spell xs) ≡ xs
       read_each [] has = refl
-      read_each (x ∷ xs) has =
-          ap (λ y. y ∷ map read (map spell xs)) (again x (All-head Has x xs has)).1
-          ∙ ap (λ ys. x ∷ ys) (read_each xs (All-tail Has x xs has))
+      read_each (x ∷ xs) has = grind (arith, common_steps, All-head, All-tail, read_each xs (All-tail Has x xs has))
 
       pass_each : (xs : List X) → All Has xs → All (λ bytes. not (test bytes) ≡ false) (map spell xs)
       pass_each [] has = All-nil (λ bytes. not (test bytes) ≡ false)
-      pass_each (x ∷ xs) has =
-          All-cons (λ bytes. not (test bytes) ≡ false) (spell x) (map spell xs)
-          (not_from_true (test (spell x)) (again x (All-head Has x xs has)).0)
-          (pass_each xs (All-tail Has x xs has))
+      pass_each (x ∷ xs) has = grind (arith, nat_tests, All-cons, All-head, All-tail, not_from_true, pass_each xs (All-tail Has x xs has))
 
       -- what is spelled is read again
       pub fours_again : (xs : List X) → All Has xs
           → (first_bad test (flat_map spell xs) ≡ None) × (map read (fours (flat_map spell xs)) ≡ xs)
-      fours_again xs has =
-          let groups = fours_spelled xs in (
-            ap (position (λ bytes. not (test bytes))) groups
-                ∙ position-none (λ bytes. not (test bytes)) (map spell xs) [] (pass_each xs has),
-            ap (map read) groups ∙ read_each xs has,
-          )
+      fours_again xs has = grind (arith, common_steps, fours_spelled, pass_each, position-none, read_each)
 
   module _ (Fits : List ℕ → Type 0) (first : (bytes : List ℕ) → Fits bytes → Fits (take 4 bytes)) (rest : (bytes : List ℕ) → Fits bytes
       → Fits (drop 4 bytes))
@@ -88,6 +77,4 @@ module _ {X : Type 0} (spell : X → List ℕ) (read : List ℕ → X) (test : L
     -- bytes without a bad group are the spelling of what they are read as
     pub fours_found : (count : ℕ) (bytes : List ℕ) → length bytes ≡ 4 * count → Fits bytes → first_bad test bytes ≡ None
         → flat_map spell (map read (fours bytes)) ≡ bytes
-    fours_found count bytes is fits none =
-        let groups = fours_of count bytes is in
-        rw groups (groups_found count bytes is fits (all_fail (λ four. not (test four)) (first_chunks 4 count bytes) (rw groups at none)))
+    fours_found count bytes is fits none = grind (arith, common_steps, all_fail, fours_of, groups_found)

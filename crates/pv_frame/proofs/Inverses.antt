@@ -1,4 +1,5 @@
 -- Each code is read as what it spells, and spells what it is read as.
+use Rattle.std.proofs.lemmas.Grind.{common_steps}
 use Rattle.std.proofs.Common.{◌≡◌, ℕ, zero, suc, true, false, cond, List, [], ◌∷◌, length, map, All, Option, Some, None, refl, sym, ap, ◌∙◌, inl, inr, arith}
 use Rattle.std.specs.Prelude.{IfSome, is_some, is_none, unwrap_or, nat_le, ◌==◌}
 use Rattle.std.specs.Int.{w32, from_be_bytes, to_be_bytes}
@@ -23,32 +24,15 @@ kind_found (suc (suc (suc code))) some = absurd cc
 pub route_again : (route : Option ℕ) → IfSome route IsPage
     → (spells_route (route_bytes route) ≡ true) × (route_of (route_bytes route) ≡ route)
 route_again None is = (refl, refl)
-route_again (Some page) is =
-    let number : from_be_bytes w32 (to_be_bytes w32 page) ≡ page = from_be_bytes-to_be_bytes_4 page (omega arith) in
-    let below : nat_le page LAST_PAGE ≡ true = le-leb page LAST_PAGE is in (
-      ap is_route number ∙ or_left (nat_le page LAST_PAGE) (page == NO_ROUTE) below,
-      ap page_of number ∙ ap (λ b. cond b (Some page) None) below,
-    )
+route_again (Some page) is = grind (arith, common_steps, from_be_bytes-to_be_bytes_4, is_route, le-leb, or_left, page_of)
 
 pub route_found : (bytes : List ℕ) → length bytes ≡ 4 → IsBytes bytes → spells_route bytes ≡ true → route_bytes (route_of bytes) ≡ bytes
-route_found bytes len fits is =
-    let number = from_be_bytes w32 bytes in
-    let back : to_be_bytes w32 number ≡ bytes = be_bytes_4 bytes number len fits refl in
-    elim (cases_Bool (nat_le number LAST_PAGE)) [
-      | inl page ↦ rw page back
-      | inr other ↦
-          let none : (number == NO_ROUTE) ≡ true = rw other at is in
-          rw other (ap (to_be_bytes w32) (sym (eqb-true number NO_ROUTE none)) ∙ back)
-    ]
+route_found bytes len fits is = grind (arith, common_steps, be_bytes_4, cases_Bool, eqb-true)
 
 -- a route leads to a page or nowhere
 pub pages_of : (groups : List (List ℕ)) → All (λ route. IfSome route IsPage) (map route_of groups)
 pages_of [] = All-nil (λ route. IfSome route IsPage)
-pages_of (bytes ∷ groups) =
-    let number = from_be_bytes w32 bytes in
-    let one : IfSome (page_of number) IsPage =
-    elim (cases_Bool (nat_le number LAST_PAGE)) [ inl page ↦ rw page (leb-true number LAST_PAGE page) | inr other ↦ rw other tt ] in
-    All-cons (λ route. IfSome route IsPage) (route_of bytes) (map route_of groups) one (pages_of groups)
+pages_of (bytes ∷ groups) = grind (arith, common_steps, All-cons, cases_Bool, leb-true, page_of, route_of, pages_of groups)
 
 -- a field
 field_code_again : (kind : FieldKind) → field_kind_of (field_code kind) ≡ Some kind
@@ -56,17 +40,7 @@ field_code_again Digits = refl
 field_code_again Words = refl
 
 pub field_again : (field : Field) → (spells_field (field_bytes field) ≡ true) × (field_of (field_bytes field) ≡ field)
-field_again field =
-    let kind = field_code_again field.kind in (
-      ap is_some kind,
-      λ i. record {
-        row = field.row;
-        column = field.column;
-        length = field.length;
-        kind =
-            ap (λ (k : Option FieldKind). unwrap_or k Digits) kind i;
-      },
-    )
+field_again field = grind (arith, common_steps, field_code_again)
 
 field_code_found : (code : ℕ) → is_some (field_kind_of code) ≡ true → field_code (unwrap_or (field_kind_of code) Digits) ≡ code
 field_code_found zero some = refl

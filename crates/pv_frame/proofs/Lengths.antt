@@ -1,4 +1,5 @@
 -- The length of the spelling of a frame.
+use Rattle.std.proofs.lemmas.Grind.{common_steps}
 use Rattle.std.proofs.Common.{◌≡◌, ℕ, ◌+◌, ◌*◌, List, [], ◌∷◌, ◌++◌, length, Option, Some, None, refl, arith}
 use Rattle.std.specs.Prelude.{flat_map}
 use Rattle.std.specs.Int.{w16, to_be_bytes}
@@ -21,22 +22,7 @@ length-fields = length-pieces 4 field_bytes (λ _. refl)
 
 -- a frame takes 950 bytes, and four for each field
 pub length-spelling : (frame : Content) → IsFrame frame → length (spelling_of frame) ≡ FIELDS_AT + FIELD_BYTES * length frame.fields
-length-spelling frame is =
-    let fields = flat_map field_bytes frame.fields ++ [] in
-    let rest = frame.price ∷ to_be_bytes w16 frame.group ++ length frame.fields ∷ fields in
-    let routes = flat_map route_bytes frame.routes in
-    omega (
-      arith,
-      is.title,
-      is.body,
-      is.routes,
-      length-append frame.title (frame.body ++ kind_code frame.kind ∷ (routes ++ rest)),
-      length-append frame.body (kind_code frame.kind ∷ (routes ++ rest)),
-      length-append routes rest,
-      length-routes frame.routes,
-      length-append (flat_map field_bytes frame.fields) [],
-      length-fields frame.fields,
-    )
+length-spelling frame is = grind (arith, common_steps, field_bytes, kind_code, length-append, length-fields, length-routes, route_bytes)
 
 -- what the length of a spelling follows from
 pub ruleset sizes = (length-spelling, length-routes, length-fields)

@@ -6,7 +6,8 @@ pub mod Inverses
 pub mod Lengths
 pub mod Meaning
 pub mod OneSpelling
-pub mod Parts
+pub mod Padding
+mod Parts
 pub mod RoundTrip
 pub mod Rows
 pub mod Searching

@@ -1,4 +1,5 @@
 -- The error of a frame is what it says, and a frame without error is well formed.
+use Rattle.std.proofs.lemmas.Grind.{common_steps}
 use Rattle.std.proofs.Common.{◌≡◌, ℕ, zero, suc, ◌+◌, ◌<◌, ◌≤◌, Bool, true, false, not, List, [], ◌∷◌, ◌++◌, length, get_or, All, Option, Some, None, refl, sym, subst, ◌∙◌, inl, inr, max, min, arith}
 use Rattle.std.specs.Prelude.{option_map, position, nat_lt, nat_le, ◌==◌, ◌&&◌, ◌↔◌, Any, AllPairs}
 use Rattle.std.specs.Int.{is_in_range, IsInRange}
@@ -22,9 +23,7 @@ Decides-range : (low high n : ℕ) → Decides (is_in_range low high n) (IsInRan
 Decides-range low high n = Decides-and (nat_le low n) (nat_le n high) (Decides-leb low n) (Decides-leb n high)
 
 Decides-lies_in_body : (field : Field) → Decides (lies_in_body field) (LiesInBody field)
-Decides-lies_in_body field =
-    Decides-and _ _ (Decides-and _ _ (Decides-range FIRST_ROW LAST_ROW field.row) (Decides-range 1 ROW_LENGTH field.length))
-    (Decides-leb (end_of field) ROW_LENGTH)
+Decides-lies_in_body field = grind (arith, common_steps, Decides-and, Decides-leb, Decides-range, end_of)
 
 -- two fields meet exactly if some cell lies in both
 pub Decides-meets : (a b : Field) → Decides (meets a b) (ShareCell a b)
@@ -169,8 +168,7 @@ says frame = by_cells frame _ refl
 -- a well-formed frame has no error
 no_error : (frame : Content) (error : Option FrameError) → IsWellFormed frame → HasCause frame error → error ≡ None
 no_error frame None is it = refl
-no_error frame (Some Cell) is it =
-    absurd (omega (arith, All-append IsCell frame.title frame.body is.ranges.title is.ranges.body it.0 it.1 it.2, it.3, it.4))
+no_error frame (Some Cell) is it = grind (arith, common_steps, All-append)
 no_error frame (Some Price) is it = absurd (omega (arith, is.ranges.price))
 no_error frame (Some (FieldRange i)) is it = absurd (it.1.1 (is.inside i no_field it.1.0))
 no_error frame (Some (FieldsMeet i j)) is it = absurd (is.apart i j no_field it.2.0 it.2.1 it.2.2)
@@ -183,3 +181,6 @@ valid frame = (λ none. subst (HasCause frame) none (says frame), λ is. no_erro
 -- a valid frame has its cells and its price in range
 pub HasRanges-valid : (frame : Content) → IsValid frame → HasRanges frame
 HasRanges-valid frame is = ((valid frame).0 is).ranges
+
+-- what is known of fields that meet
+pub ruleset meets_says = (Decides-meets)

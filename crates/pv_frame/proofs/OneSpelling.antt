@@ -53,3 +53,6 @@ ReadsBack-frame a b more rest has_a has_b same =
     let parts : raw_of a ≡ raw_of b = λ i. record (raw i) { fields = first i } in
     let again = sym (decode_of-spelling a has_a) ∙ ap (λ (raw : Raw). decode_of (1 ∷ raw_bytes raw)) parts ∙ decode_of-spelling b has_b in
     (same_frame a b again, after)
+
+-- what is known of spellings that begin the same bytes
+pub ruleset frames = (ReadsBack-frame)

@@ -1,4 +1,5 @@
 -- The parts of a frame are read as they are spelled.
+use Rattle.std.proofs.lemmas.Grind.{common_steps}
 use Rattle.std.proofs.Common.{◌≡◌, ℕ, ◌++◌, length, Some, refl, arith, length-append}
 use Rattle.std.proofs.lemmas.Bool.{le-ltb}
 use Rattle.std.proofs.lemmas.List.{append-nil, take_at, drop_at}
@@ -7,12 +8,7 @@ use Rattle.pv_fields.proofs.Readings.{Reads-byte, Reads-two, Reads-run, Reads-re
 
 -- cells of a fixed length, whatever they are
 Reads-cells : (n : ℕ) → Reads (λ cells. length cells ≡ n) (λ cells. cells) (run_at n)
-Reads-cells n = record {
-  found = λ bytes cells rest fits is. let f = (Reads-run n).found bytes cells rest fits is in (f.0.0, f.1);
-  again = λ cells rest ends len.
-      let long = le-ltb (length (cells ++ rest)) n (omega (arith, len, length-append cells rest)) in
-      rw (long, take_at cells rest n len, drop_at cells rest n len) refl;
-}
+Reads-cells n = grind (arith, common_steps, Reads-run, drop_at, le-ltb, length-append, take_at)
 
 -- all the rest
 Reads-all : ReadsLast (λ bytes. Unit {0}) (λ bytes. bytes) all_at

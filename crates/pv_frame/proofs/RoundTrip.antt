@@ -1,4 +1,5 @@
 -- What is spelled is read again, and what is read is spelled so.
+use Rattle.std.proofs.lemmas.Grind.{common_steps}
 use Rattle.std.proofs.Common.{◌≡◌, ℕ, zero, suc, ◌<◌, ◌≤◌, false, List, [], ◌∷◌, ◌++◌, length, take, map, Option, Some, None, Result, Ok, Err, refl, sym, ap, subst, ◌∙◌, inl, inr, arith}
 use Rattle.std.specs.Prelude.{flat_map, is_none, unwrap_or, ◌==◌}
 use Rattle.std.specs.Int.{w32, to_be_bytes}
@@ -7,7 +8,7 @@ use Rattle.std.proofs.lemmas.List.{append-nil, take_all}
 use Rattle.pv_frame.proofs.Vocabulary.{IsPadded, padded_list, first_of, whole, IsBytes, Kind, Information, Response, Mail, FrameCodecError, Short, Version, Invalid, Trailing, FIELDS, VERSION, NO_ROUTE, Content, IsFrame, kind_code, kind_of, route_bytes, route_of, spells_route, field_bytes, field_of, spells_field, fours, error_of, no_field, Field, Raw, IsRaw, raw_bytes, raw_at, frame_of, field_size, first_bad, head_errors, tail_errors, kind_error, route_error, count_error, short_error, field_error, trailing_error, frame_error, raw_error, frame_read, decode_of, raw_of, spelling_of, HasSpelling}
 use Rattle.pv_fields.proofs.Readings.{all_found}
 use Rattle.pv_fields.proofs.CallerLemmas.{first_of-none, none_of, none_of_both, some_if-false, some_if-none, option_map-none, option_map-none_back, unless_ok, IsPadded-padded_list, take-padded_list, IsBytes-drop, IsBytes-take}
-use Rattle.pv_frame.proofs.Fours.{fours_again, fours_found, length-read}
+use Rattle.pv_frame.proofs.Fours.{fours_again, fours_found, length-fours, length-read}
 use Rattle.pv_frame.proofs.Inverses.{kind_again, kind_found, route_again, route_found, pages_of, field_again, field_found}
 use Rattle.pv_frame.proofs.Lengths.{length-route, length-routes, length-fields}
 use Rattle.pv_frame.proofs.Parts.{Reads-raw}
@@ -30,10 +31,8 @@ IsBytes-four n (suc (suc (suc (suc i)))) = omega arith
 
 IsBytes-routes : (routes : List (Option ℕ)) → IsBytes (flat_map route_bytes routes)
 IsBytes-routes [] = λ i. omega arith
-IsBytes-routes (None ∷ routes) =
-    IsBytes-append (route_bytes None) (flat_map route_bytes routes) (IsBytes-four NO_ROUTE) (IsBytes-routes routes)
-IsBytes-routes (Some page ∷ routes) =
-    IsBytes-append (to_be_bytes w32 page) (flat_map route_bytes routes) (IsBytes-four page) (IsBytes-routes routes)
+IsBytes-routes (None ∷ routes) = grind (arith, common_steps, IsBytes-append, IsBytes-four, route_bytes, routes, IsBytes-routes routes)
+IsBytes-routes (Some page ∷ routes) = grind (arith, common_steps, IsBytes-append, IsBytes-four, route_bytes, routes, IsBytes-routes routes)
 
 kind_code-byte : (kind : Kind) → kind_code kind < 256
 kind_code-byte Information = omega arith
@@ -122,6 +121,10 @@ HasLayout-of raw head tail =
       fields = rw (take_all (field_size raw) raw.fields (omega arith)) at (option_map-none_back _ _ field.0);
     }
 
+-- there are places for its fields
+pub few_fours : (raw : Raw) → HasLayout raw → length (fours raw.fields) ≤ FIELDS
+few_fours raw layout = omega (arith, layout.few, length-fours raw.count raw.fields layout.size)
+
 -- the fields in their places
 module _ (raw : Raw) (layout : HasLayout raw) (places : List Field)
     (is : places ≡ padded_list no_field FIELDS (map field_of (fours raw.fields))) where
@@ -129,13 +132,10 @@ module _ (raw : Raw) (layout : HasLayout raw) (places : List Field)
   length-fields_read = length-read field_of raw.count raw.fields layout.size
 
   pub IsPadded-fields : IsPadded no_field FIELDS raw.count places
-  IsPadded-fields =
-      rw (is, ← length-fields_read)
-      (IsPadded-padded_list no_field FIELDS (map field_of (fours raw.fields)) (omega (arith, length-fields_read, layout.few)))
+  IsPadded-fields = grind (arith, common_steps, IsPadded-padded_list, field_of, fours, length-fields_read, no_field)
 
   pub take-fields : take raw.count places ≡ map field_of (fours raw.fields)
-  take-fields = ap (λ n. take n places) (sym length-fields_read) ∙ ap (take (length (map field_of (fours raw.fields)))) is
-      ∙ take-padded_list no_field FIELDS (map field_of (fours raw.fields))
+  take-fields = grind (arith, common_steps, field_of, fours, length-fields_read, no_field, take-padded_list)
 
 module _ (raw : Raw) (is : IsRaw raw) (layout : HasLayout raw) where
   pub IsFrame-frame_of : IsFrame (frame_of raw)
@@ -197,3 +197,9 @@ is_found (version ∷ bytes) frame fits is =
   where
     ok : Raw → Result Raw FrameCodecError
     ok raw = Ok raw
+
+-- what the code that reads follows from
+pub ruleset spelled = (decode_of-spelling, is_found)
+
+-- what is known of the fields in their places
+pub ruleset places = (HasLayout-of, IsPadded-fields, take-fields, few_fours)

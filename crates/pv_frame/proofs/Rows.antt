@@ -1,4 +1,5 @@
 -- A frame that is blank except for a row is valid.
+use Rattle.std.proofs.lemmas.Grind.{common_steps}
 use Rattle.std.proofs.Common.{◌≡◌, ℕ, ◌-◌, true, List, ◌++◌, length, drop, replicate, All, refl, ap, ◌∙◌, arith}
 use Rattle.std.specs.List.{list_all}
 use Rattle.std.proofs.lemmas.List.{drop-replicate}
@@ -9,9 +10,7 @@ use Rattle.pv_frame.proofs.Cells.{Decides-cells}
 -- the row in place of the first 40 blank cells
 pub row_written : (row : List ℕ) → length row ≡ 40 → record blank_frame { body = row ++ drop 40 blank_frame.body } ≡ frame_of_row row
 unfolding frame_of_row
-row_written row width =
-    let rest : 880 - 40 ≡ 880 - length row = omega (arith, width) in
-    ap (λ cells. record blank_frame { body = row ++ cells }) (drop-replicate 40 880 32 ∙ ap (λ n. replicate n 32) rest)
+row_written row width = grind (arith, common_steps, blank_frame, drop-replicate)
 
 pub IsValid-frame_of_row : (row : List ℕ) → All IsCell row → IsValid (frame_of_row row)
 unfolding frame_of_row
@@ -20,3 +19,6 @@ IsValid-frame_of_row row are_cells =
     let body : list_all is_cell (row ++ replicate (880 - length row) 32) ≡ true =
     (Decides-cells (row ++ replicate (880 - length row) 32)).1 (All-append IsCell row (replicate (880 - length row) 32) are_cells blanks) in
     rw body refl
+
+-- what is known of a frame that is blank except for a row
+pub ruleset rows = (row_written, IsValid-frame_of_row)

@@ -1,4 +1,5 @@
 -- A search that finds nothing.
+use Rattle.std.proofs.lemmas.Grind.{common_steps}
 use Rattle.std.proofs.Common.{◌≡◌, Bool, false, List, length, All, Some, None, refl, inl, inr, arith}
 use Rattle.std.specs.Prelude.{position}
 use Rattle.std.specs.List.{position_or_len}
@@ -8,12 +9,7 @@ use Rattle.std.proofs.lemmas.List.Sums.{position_or_len_is, fails_before_first}
 module _ {X : Type 0} (test : X → Bool) (xs : List X) where
   -- if no index is found, no element passes
   pub all_fail : position test xs ≡ None → All (λ x. test x ≡ false) xs
-  all_fail none k d within =
-      elim (cases_lt (position_or_len test xs) (length xs)) [
-        | inl found ↦ absurd (let some : position test xs ≡ Some (position_or_len test xs) =
-            rw (lt-ltb (position_or_len test xs) (length xs) found) refl in cc)
-        | inr past ↦ fails_before_first test xs k d (omega arith)
-      ]
+  all_fail none k d within = grind (arith, common_steps, cases_lt, fails_before_first, lt-ltb)
 
   -- if no element passes, no index is found
   pub position-none : X → All (λ x. test x ≡ false) xs → position test xs ≡ None

@@ -44,6 +44,7 @@ impl CheckedFrame {
     }
 
     /// A frame that is blank except for its row 2.
+    #[tactic(auto, using(crate::proofs::Rows::rows))]
     pub fn of_row(row: &[u8; ROW_LENGTH]) -> CheckedFrame
         requires { All IsCell row.now }
         ensures { result ≡ frame_of_row row.now }

@@ -9,6 +9,7 @@ use crate::kind::Kind;
 use crate::layout::{FIELDS, LAST_PRICE, MAIL_TEXTS};
 
 /// Whether all bytes are cells.
+#[tactic(auto, using(crate::proofs::Cells::are_cells_is))]
 fn are_cells(bytes: &[u8]) -> bool
     ensures { result ≡ list_all is_cell bytes.now }
 {

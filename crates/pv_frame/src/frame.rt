@@ -86,6 +86,7 @@ impl Frame {
     }
 
     /// Puts a field after the others. There must be fewer than [`FIELDS`].
+    #[tactic(auto, using(crate::proofs::Padding::adding))]
     pub fn add_field(&mut self, field: Field)
         requires { length self.old.fields < FIELDS }
         ensures added { self.new ≡ record self.old { fields = self.old.fields ++ field ∷ [] } }
@@ -161,6 +162,7 @@ impl Frame {
     /// 7. [`FrameCodecError::Trailing`] for bytes after the fields;
     /// 8. what [`Frame::check`] refuses.
     #[inline(never)]
+    #[tactic(auto, using(std::proofs::lemmas::Grind::common_steps, crate::proofs::RoundTrip::spelled))]
     pub fn decode(bytes: &[u8]) -> Result<Frame, FrameCodecError>
         // A frame is read exactly from its spelling.
         ensures found { IfOk result (λ frame.
@@ -176,7 +178,7 @@ impl Frame {
     }
 
     /// Appends the spelling, which fits.
-    #[tactic(auto, using(crate::proofs::Lengths::sizes))]
+    #[tactic(auto, using(crate::proofs::Lengths::sizes, crate::proofs::Padding::putting))]
     fn put(&self, out: &mut Out)
         requires valid { IsValid self.now }
         requires room { length (spelling_of self.now) ≤ room_of out.old }

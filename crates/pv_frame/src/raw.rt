@@ -136,6 +136,7 @@ impl<'a> RawFrame<'a> {
     }
 
     /// The fields of the frame, and after them [`Field::NONE`].
+    #[tactic(auto, using(crate::proofs::RoundTrip::places))]
     fn fields(&self) -> [Field; FIELDS]
         requires head { first_of (head_errors self.now) ≡ None }
         requires tail { first_of (tail_errors self.now) ≡ None }
@@ -164,6 +165,7 @@ impl<'a> RawFrame<'a> {
 
     /// The frame whose parts these are.
     #[inline(always)]
+    #[tactic(auto, using(crate::proofs::Padding::adding, crate::proofs::Inverses::pages_of))]
     pub(crate) fn frame(&self) -> Frame
         requires head { first_of (head_errors self.now) ≡ None }
         requires tail { first_of (tail_errors self.now) ≡ None }
@@ -219,6 +221,7 @@ fn routes_of(bytes: &[u8; ROUTES_SIZE]) -> [Option<PageNo>; ROUTES]
 }
 
 /// The fields that the bytes are, and after them [`Field::NONE`].
+#[tactic(auto, using(crate::proofs::Padding::adding))]
 fn fields_of(bytes: &[u8]) -> [Field; FIELDS]
     requires { length (fours bytes.now) ≤ FIELDS }
     ensures { result ≡ padded_list no_field FIELDS (map field_of (fours bytes.now)) }

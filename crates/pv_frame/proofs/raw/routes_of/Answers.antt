@@ -1,4 +1,5 @@
-use Rattle.std.proofs.Common.{◌≡◌, [], ap, arith, ◌∙◌, sym, length, map, None}
+use Rattle.std.proofs.Common.{[], length, map, None, arith, sym, ◌∙◌, ap}
+use Rattle.std.proofs.lemmas.Grind.{common_steps}
 use Rattle.std.proofs.lemmas.List.{same_lists, length-map, get_or_default}
 use Rattle.std.proofs.Math.ListN.{get_or-map}
 use Rattle.pv_frame.specs.Codes.{route_of}
@@ -9,11 +10,7 @@ pub returns : goal.returns
 returns c =
     let chunks = c.as_chunks.result.0.now in
     let routes = c.loop-digit.routes in
-    let len : length routes ≡ length chunks = omega (arith, c.loop-digit.invariant.all, c.as_chunks.ensures.front_len, c.told-bytes) in
-    let all = length-map chunks route_of in
-    let each = same_lists routes (map route_of chunks) (len ∙ sym all) (λ k d within.
+    same_lists routes (map route_of chunks) (grind (arith, common_steps, length-map chunks route_of)) (λ k d within.
     get_or_default routes k d None within
-    ∙ c.loop-digit.invariant.read k (omega (arith, c.loop-digit-test.false))
-    ∙ sym (get_or-map route_of chunks k [])
-    ∙ get_or_default (map route_of chunks) k (route_of []) d (omega arith)) in
-    each ∙ ap (map route_of) c.as_chunks.ensures.front
+    ∙ grind (arith, length-map chunks route_of, get_or-map route_of chunks k [], get_or_default (map route_of chunks) k (route_of []) d))
+    ∙ ap (map route_of) c.as_chunks.ensures.front
