@@ -1,4 +1,5 @@
 -- What every byte keeps: the cells are a grid, and the cursor is on it.
+use Rattle.std.proofs.lemmas.Grind.{common_steps}
 use Rattle.std.proofs.Common.{◌≡◌, ℕ, ◌+◌, ◌-◌, ◌≤◌, ◌<◌, Bool, true, false, ◌&&◌, eqb, leb, List, [], ◌∷◌, arith, rules, get_or, set, length}
 use Rattle.std.proofs.lemmas.List.{length-set}
 use Rattle.std.proofs.lemmas.List.Elements.{All-set, All-get_or}
@@ -14,17 +15,7 @@ at_most low high n test = leb-true n high (and_parts (leb low n) (leb n high) te
 -- a grid in which one place got another cell is a grid
 IsGrid-with_cell : (rows : List (List ℕ)) (row column cell : ℕ) → IsGrid rows → 1 ≤ row → row ≤ 24 → IsCell cell
     → IsGrid (with_cell rows row column cell)
-IsGrid-with_cell rows row column cell grid from to fits =
-    let within : row - 1 < length rows = omega (arith, grid.height) in
-    let at = All-get_or IsRow rows (row - 1) [] within grid.rows in
-    let changed : IsRow (set (get_or rows (row - 1) []) column cell) = record {
-      width = omega (arith, length-set (get_or rows (row - 1) []) column cell, at.width);
-      seven_bits = All-set IsCell (get_or rows (row - 1) []) column cell fits at.seven_bits;
-    } in
-    record {
-      height = omega (arith, length-set rows (row - 1) (set (get_or rows (row - 1) []) column cell), grid.height);
-      rows = All-set IsRow rows (row - 1) (set (get_or rows (row - 1) []) column cell) changed grid.rows;
-    }
+IsGrid-with_cell rows row column cell grid from to fits = grind (arith, common_steps, All-get_or, All-set, length-set)
 
 -- Where the cells are a grid and the cursor is on it, each move of the cursor keeps that.
 module _ (d : Display) (is : IsDisplay d) where
@@ -50,15 +41,11 @@ module _ (d : Display) (is : IsDisplay d) where
 
   -- one column on, or to the start of the row below
   IsDisplay-forward : IsDisplay (forward d)
-  IsDisplay-forward =
-      cond_both (eqb d.column 39) (row_start (down d)) (record d { column = d.column + 1 }) IsDisplay
-      (λ last. search (rules, nat_tests)) (λ before. search (rules, nat_tests))
+  IsDisplay-forward = grind (arith, common_steps, cond_both, down, row_start)
 
   -- one column back, or to the end of the row above
   IsDisplay-back : IsDisplay (back d)
-  IsDisplay-back =
-      cond_both (eqb d.column 0) (record (up d) { column = 39 }) (record d { column = d.column - 1 }) IsDisplay
-      (λ first. search (rules, nat_tests)) (λ behind. search (rules, nat_tests))
+  IsDisplay-back = grind (arith, common_steps, cond_both, up)
 
   -- a cleared screen is a grid, too
   IsDisplay-clear : IsDisplay (clear d)
@@ -66,10 +53,7 @@ module _ (d : Display) (is : IsDisplay d) where
 
 -- a cell that is written, and the move after it, keep the grid and the cursor on it
 IsDisplay-written : (d : Display) (cell : ℕ) → IsDisplay d → IsCell cell → IsDisplay (after_cell d cell)
-IsDisplay-written d cell is fits =
-    let cells = IsGrid-with_cell d.cells d.row d.column cell is.cells is.row_from is.row_to fits in
-    IsDisplay-forward (record d { cells = with_cell d.cells d.row d.column cell })
-    (record { cells = cells; row_from = is.row_from; row_to = is.row_to; column = is.column })
+IsDisplay-written d cell is fits = grind (arith, common_steps, IsDisplay-forward, IsGrid-with_cell, with_cell)
 
 -- so does every byte that does not follow an escape
 pub IsDisplay-first : (d : Display) (byte : ℕ) → IsDisplay d → IsDisplay (after_first d byte)
@@ -89,9 +73,7 @@ IsDisplay-first d byte is =
 
 -- and every byte that does
 IsDisplay-second : (d : Display) (byte : ℕ) → IsDisplay d → IsDisplay (after_second d byte)
-IsDisplay-second d byte is =
-    cond_both (leb 64 byte && leb byte 95) _ _ IsDisplay
-    (λ cell. IsDisplay-written d (byte - 64) is (omega (arith, at_most 64 95 byte cell))) (λ _. is)
+IsDisplay-second d byte is = grind (arith, common_steps, IsDisplay-written, at_most, cond_both)
 
 -- so does any byte at all
 IsDisplay-after_byte : (d : Display) (byte : ℕ) → IsDisplay d → IsDisplay (after_byte d byte)

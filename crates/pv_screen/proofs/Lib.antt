@@ -6,4 +6,5 @@ mod Placing
 mod Runs
 mod Shows
 mod Spaces
+mod Steps
 mod Vocabulary

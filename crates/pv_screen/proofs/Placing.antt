@@ -86,16 +86,6 @@ heading_is_row frame name ranges holds is =
 -- ---- where each cell stands
 
 module _ (frame : Content) (name : Name) (ranges : HasRanges frame) (holds : IsFrame frame) (row : IsRow (heading frame name)) where
-  -- the screen of a frame within its ranges is a grid
-  pub composed_is_grid : IsGrid (composed_grid frame name)
-  composed_is_grid = record {
-    height = refl;
-    rows =
-        All-cons IsRow (heading frame name) (body_rows frame.body ++ spaces 40 ∷ []) row
-        (All-append IsRow (body_rows frame.body) (spaces 40 ∷ []) (rows-first_chunks 22 frame.body (omega (arith, holds.body)) ranges.body)
-        (All-cons IsRow (spaces 40) [] IsRow-blank (All-nil IsRow)));
-  }
-
   -- the heading begins with the title
   pub title_stands : take 24 (heading frame name) ≡ frame.title
   title_stands =

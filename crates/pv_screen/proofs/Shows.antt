@@ -1,4 +1,6 @@
 -- What a terminal shows after the bytes of cells, rows and screens.
+use Rattle.std.proofs.Common.{rules}
+use Rattle.std.proofs.lemmas.Grind.{common_steps}
 use Rattle.std.proofs.Common.{◌≡◌, ℕ, suc, ◌+◌, ◌-◌, ◌<◌, List, [], ◌∷◌, ◌++◌, length, get_or, take, drop, set, sym, ap, subst, ◌∙◌, refl, cond, leb, eqb, ◌&&◌, Bool, false, map, replicate, reverse, All, inl, inr, arith}
 use Rattle.std.specs.Prelude.{IsFalse}
 use Rattle.std.specs.List.{flat_map, suffix_len}
@@ -27,11 +29,7 @@ ready d is = ap (λ (w : Bool). let e : Display = record { cells = d.cells; row 
 
 -- inside the row it is right after them
 behind_inside : (cells : List (List ℕ)) (row column : ℕ) → column < 40 → behind cells row column ≡ at cells row column
-behind_inside cells row column inside =
-    elim (eqb_tells column 40) [
-      | inl (test, same) ↦ absurd (omega arith)
-      | inr (test, differs) ↦ cond-false (eqb column 40) (at cells (row_below row) 0) (at cells row column) test
-    ]
+behind_inside cells row column inside = grind (arith, common_steps, cond-false, eqb_tells, row_below)
 
 -- after the last column it is at the start of the row below
 behind_end : (cells : List (List ℕ)) (row column : ℕ) → column ≡ 40 → behind cells row column ≡ at cells (row_below row) 0
@@ -41,46 +39,25 @@ behind_end cells row column end = ap (behind cells row) end
 cell_shown : (cells : List (List ℕ)) (row column cell : ℕ) → IsCell cell
     → terminal_after (at cells row column) (cell_bytes cell) ≡ after_cell (at cells row column) cell
 cell_shown cells row column cell fits =
-    let here = at cells row column in
-    let sent = λ (b : Bool). terminal_after here (cond b (27 ∷ (cell + 64) ∷ []) (cell ∷ [])) in
-    elim (cases_lt cell 32) [
-      | inl attribute ↦
-          let second =
-          and_from (leb 64 (cell + 64)) (leb (cell + 64) 95) (le-leb 64 (cell + 64) (omega arith))
-          (le-leb (cell + 64) 95 (omega arith)) in
-          ap sent (lt-ltb cell 32 attribute)
-          ∙ cond-true (leb 64 (cell + 64) && leb (cell + 64) 95) (after_cell here (cell + 64 - 64)) here second
-          ∙ ap (after_cell here) (add-sub_cancel cell 64)
-      | inr ordinary ↦
-          let first = and_from (leb 32 cell) (leb cell 127) (le-leb 32 cell ordinary) (le-leb cell 127 fits) in
-          ap sent (le-ltb cell 32 ordinary) ∙ cond-true (leb 32 cell && leb cell 127) (after_cell here cell) _ first
-    ]
+    grind (arith, common_steps, add-sub_cancel, after_cell, and_from, cases_lt, cond-true, le-leb, le-ltb, lt-ltb, terminal_after)
 
 module _ (base : List (List ℕ)) (row : ℕ) (within : row - 1 < length base) where
   -- to set a cell of a row of the screen is to put in its place the row with that cell
   with_cell_put : (cells : List ℕ) (column cell : ℕ)
       → with_cell (set base (row - 1) cells) row column cell ≡ set base (row - 1) (set cells column cell)
-  with_cell_put cells column cell =
-      ap (λ l. set (set base (row - 1) cells) (row - 1) (set l column cell)) (get_or-set_same base (row - 1) cells [] within)
-      ∙ set-set base (row - 1) cells (set cells column cell)
+  with_cell_put cells column cell = grind (arith, common_steps, get_or-set_same, set-set)
 
   -- a cell that is written in a row is there, and the cursor after it
   written_put : (cells : List ℕ) (column cell : ℕ)
       → after_cell (at (set base (row - 1) cells) row column) cell ≡ behind (set base (row - 1) (set cells column cell)) row (column + 1)
-  written_put cells column cell =
-      let rows = set base (row - 1) (set cells column cell) in
-      let test : eqb column 39 ≡ eqb (column + 1) 40 = grind (arith, nat_tests) in
-      ap (λ c. cond (eqb column 39) (at c (row_below row) 0) (at c row (column + 1))) (with_cell_put cells column cell)
-      ∙ ap (λ t. cond t (at rows (row_below row) 0) (at rows row (column + 1))) test
+  written_put cells column cell = grind (arith, common_steps, row_below, with_cell_put)
 
   -- the bytes of cells, taken where as many others stand, put them in the place of those
   cells_shown : (cells olds before after : List ℕ) → All IsCell cells → length olds ≡ length cells
       → length before + length cells + length after ≡ 40
       → terminal_after (behind (set base (row - 1) (before ++ (olds ++ after))) row (length before)) (cells_bytes cells)
       ≡ behind (set base (row - 1) (before ++ (cells ++ after))) row (length before + length cells)
-  cells_shown [] [] before after fits same width =
-      let column : length before ≡ length before + 0 = omega arith in
-      ap (behind (set base (row - 1) (before ++ after)) row) column
+  cells_shown [] [] before after fits same width = grind (arith, common_steps)
   cells_shown [] (old ∷ olds) before after fits same width = absurd (omega (arith, same))
   cells_shown (cell ∷ cells) [] before after fits same width = absurd (omega (arith, same))
   cells_shown (cell ∷ cells) (old ∷ olds) before after fits same width =
@@ -192,9 +169,7 @@ blank_rows lines = map (λ _. blank_row) lines
 lines_shown : (lines above rest : List (List ℕ)) → All IsRow lines → length above + length lines < 24
     → terminal_after (at (above ++ (blank_rows lines ++ rest)) (length above + 1) 0) (flat_map line_bytes lines) ≡ at
     (above ++ (lines ++ rest)) (length above + length lines + 1) 0
-lines_shown [] above rest are room =
-    let same : length above + 1 ≡ length above + 0 + 1 = omega arith in
-    ap (λ n. at (above ++ rest) n 0) same
+lines_shown [] above rest are room = grind (arith, common_steps)
 lines_shown (line ∷ lines) above rest are room =
     let row = length above + 1 in
     let tail = blank_rows lines ++ rest in
@@ -219,15 +194,11 @@ lines_shown (line ∷ lines) above rest are room =
 
 -- the cells are the same wherever the cursor is after a row
 cells-behind : (rows : List (List ℕ)) (row column : ℕ) → (behind rows row column).cells ≡ rows
-cells-behind rows row column =
-    let P : Display → Type 0 = λ d. d.cells ≡ rows in
-    cond_both (eqb column 40) (at rows (row_below row) 0) (at rows row column) P (λ _. refl) (λ _. refl)
+cells-behind rows row column = grind (arith, common_steps, cond_both, row_below)
 
 -- where they are a grid, the terminal is ready for the next bytes
 IsReady-behind : (rows : List (List ℕ)) (row column : ℕ) → IsGrid rows → IsReady (behind rows row column)
-IsReady-behind rows row column is =
-    cond_both (eqb column 40) (at rows (row_below row) 0) (at rows row column) IsReady (λ _. record { cells = is; first = refl })
-    (λ _. record { cells = is; first = refl })
+IsReady-behind rows row column is = grind (arith, common_steps, cond_both, row_below)
 
 -- after the bytes of a screen the terminal shows it, whatever it showed
 painted_shown : (grid : List (List ℕ)) (d : Display) → IsGrid grid → IsFalse d.waiting
@@ -273,16 +244,11 @@ message_shown cells d is grid first =
 
 -- a grid with another last row is a grid
 IsGrid-last_row : (rows : List (List ℕ)) (cells : List ℕ) → IsGrid rows → IsRow cells → IsGrid (set rows 23 cells)
-IsGrid-last_row rows cells grid is = record {
-  height = length-set rows 23 cells ∙ grid.height;
-  rows = All-set IsRow rows 23 cells is grid.rows;
-}
+IsGrid-last_row rows cells grid is = grind (arith, common_steps, All-set, length-set)
 
 -- what is the last row of a grid is a row
 pub IsRow-last : (rows : List (List ℕ)) (cells : List ℕ) → length rows ≡ 24 → IsGrid (set rows 23 cells) → IsRow cells
-IsRow-last rows cells height is =
-    subst IsRow (get_or-set_same rows 23 cells [] (omega arith))
-    (All-get_or IsRow (set rows 23 cells) 23 [] (omega (arith, is.height)) is.rows)
+IsRow-last rows cells height is = grind (arith, nat_tests, All-get_or, get_or-set_same)
 
 -- a new terminal is ready
 pub IsReady-new : IsReady new_display
@@ -291,13 +257,11 @@ IsReady-new = record { cells = IsGrid-blank; first = refl }
 module _ (grid : List (List ℕ)) (is : IsGrid grid) (d : Display) (first : IsFalse d.waiting) where
   -- a terminal that takes the bytes of a painted grid shows that grid
   pub painted_shows : (terminal_after d (painting_of grid)).cells ≡ grid
-  painted_shows =
-      ap (λ (e : Display). e.cells) (painted_shown grid d is first) ∙ cells-behind grid 24 (0 + length (shown_cells (get_or grid 23 [])))
+  painted_shows = grind (arith, common_steps, cells-behind, painted_shown, shown_cells)
 
   -- and is ready for the next bytes
   pub painted_ready : IsReady (terminal_after d (painting_of grid))
-  painted_ready =
-      subst IsReady (sym (painted_shown grid d is first)) (IsReady-behind grid 24 (0 + length (shown_cells (get_or grid 23 []))) is)
+  painted_ready = grind (arith, common_steps, IsReady-behind, painted_shown, shown_cells)
 
 module _ (cells : List ℕ) (is : IsRow cells) (d : Display) (before : IsReady d) where
   -- a terminal that takes the bytes of a message shows it in row 24, and in the other rows what it showed
@@ -308,15 +272,10 @@ module _ (cells : List ℕ) (is : IsRow cells) (d : Display) (before : IsReady d
 
   -- and is ready for the next bytes
   pub message_ready : IsReady (terminal_after d (message_text cells))
-  message_ready =
-      subst IsReady (sym (message_shown cells d is before.cells before.first))
-      (IsReady-behind (set d.cells 23 cells) 24 (0 + length cells) (IsGrid-last_row d.cells cells before.cells is))
+  message_ready = grind (arith, common_steps, IsGrid-last_row, IsReady-behind, message_shown)
 
 -- a message after a painted screen changes its row 24 alone
 pub message_after_painted : (grid : List (List ℕ)) (cells : List ℕ) (d : Display) → IsGrid grid → IsRow cells → IsFalse d.waiting
     → (terminal_after d (painting_of grid ++ message_text cells)).cells ≡ set grid 23 cells
 message_after_painted grid cells d is row first =
-    let painting = terminal_after d (painting_of grid) in
-    ap (λ (e : Display). e.cells) (fold-append after_byte d (painting_of grid) (message_text cells))
-    ∙ message_shows cells row painting (painted_ready grid is d first)
-    ∙ ap (λ rows. set rows 23 cells) (painted_shows grid is d first)
+    search (rules, after_byte, fold-append, message_shows, message_text, painted_ready, painted_shows, painting_of, terminal_after)

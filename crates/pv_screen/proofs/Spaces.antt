@@ -1,4 +1,5 @@
 -- Spaces at the end of a row, and cells that are their own bytes.
+use Rattle.std.proofs.lemmas.Grind.{common_steps}
 use Rattle.std.proofs.Common.{◌≡◌, ℕ, zero, suc, ◌+◌, ◌-◌, ◌<◌, ◌≤◌, cond, Bool, true, List, [], ◌∷◌, ◌++◌, length, get_or, take, drop, All, refl, sym, ap, ◌∙◌, arith}
 use Rattle.std.specs.List.{suffix_len, list_all}
 use Rattle.std.proofs.lemmas.Bool.{eq-eqb, leb-true, le-ltb}
@@ -12,8 +13,7 @@ use Rattle.pv_screen.specs.Painting.{is_ordinary, is_space, cell_bytes, cells_by
 -- spaces before an end count towards those at the end
 pub skip : (row : List ℕ) (n count : ℕ) → n ≤ count → count ≤ length row → ((k : ℕ) → count ≤ k + n → k < count → get_or row k 0 ≡ 32)
     → suffix_len is_space (take count row) ≡ n + suffix_len is_space (take (count - n) row)
-skip row zero count few within each = let same : count ≡ count - 0 = omega arith in
-    omega (arith, ap (λ k. suffix_len is_space (take k row)) same)
+skip row zero count few within each = grind (arith, common_steps)
 skip row (suc n) count few within each =
     let last = suffix_len-take_yes is_space row count 0 (omega arith) within
     (eq-eqb (get_or row (count - 1) 0) 32 (each (count - 1) (omega arith) (omega arith))) in

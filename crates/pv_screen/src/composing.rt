@@ -23,6 +23,7 @@ pub const PRICE_COLUMN: usize = 36;
 
 /// The screen of a frame: its title, its name and its price in row 1, its body in rows 2 to 23, and a blank row 24.
 /// The cells of the frame and its price must be in range.
+#[tactic(auto, using(crate::proofs::Steps::standing))]
 pub fn compose(frame: &Frame, name: FrameName) -> Grid
     requires { HasRanges frame.now }
     ensures value { result ≡ composed_grid frame.now name }
@@ -43,6 +44,7 @@ pub fn compose(frame: &Frame, name: FrameName) -> Grid
 }
 
 /// Row 1 of a frame's screen.
+#[tactic(auto, using(crate::proofs::Steps::grids))]
 fn heading(frame: &Frame, name: FrameName) -> [u8; COLUMNS]
     requires { HasRanges frame.now }
     ensures value { result ≡ heading frame.now name }
@@ -54,10 +56,11 @@ fn heading(frame: &Frame, name: FrameName) -> [u8; COLUMNS]
 }
 
 /// Writes row 1 of a frame's screen.
+#[tactic(auto, using(crate::proofs::Steps::row_one))]
 fn put_heading(frame: &Frame, name: FrameName, row: &mut [u8; COLUMNS])
     requires { HasRanges frame.now }
     ensures value { row.new ≡ heading frame.now name }
-    ensures row { IsRow row.new }
+    ensures row { IsRow (heading frame.now name) }
 {
     let mut out = Out::new(row);
     out.put_run(&frame.title);
@@ -79,6 +82,7 @@ fn put_name(name: FrameName, out: &mut Out)
 }
 
 /// Appends a price after spaces, so that it ends with the row.
+#[tactic(auto, using(crate::proofs::Steps::row_one))]
 fn put_price(price: u16, out: &mut Out)
     requires price { price ≤ LAST_PRICE }
     requires room { COLUMNS - PRICE_COLUMN ≤ room_of out.old }
@@ -96,6 +100,7 @@ fn put_price(price: u16, out: &mut Out)
 }
 
 /// Appends spaces.
+#[tactic(auto, using(crate::proofs::Steps::row_one))]
 fn put_spaces(count: usize, out: &mut Out)
     requires few { count ≤ COLUMNS }
     requires room { count ≤ room_of out.old }

@@ -36,6 +36,7 @@ impl Grid {
     ghost use Rattle.pv_screen.specs.Terminal.{with_cell};
 
     /// A screen with every cell a space.
+    #[tactic(auto, using(crate::proofs::Steps::grids))]
     pub fn blank() -> Self
         ensures value { result ≡ blank_grid }
         ensures cells { IsGrid result }
@@ -69,6 +70,7 @@ impl Grid {
     }
 
     /// A heading, the rows of a body, and a blank row.
+    #[tactic(auto, using(crate::proofs::Steps::grids))]
     pub(crate) fn of_parts(heading: &[u8; COLUMNS], body: &[u8; BODY_CELLS]) -> Self
         requires heading { IsRow heading.now }
         requires body { All IsCell body.now }

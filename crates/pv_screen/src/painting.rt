@@ -17,6 +17,7 @@ pub const BUFFER: usize = 2048;
 pub const LONGEST: usize = 1921;
 
 /// Writes the bytes that show `grid` to the beginning of `into`, and returns their number.
+#[tactic(auto, using(crate::proofs::Steps::showing))]
 pub fn paint(grid: &Grid, into: &mut [u8; BUFFER]) -> usize
     ensures value { take result into.new ≡ painting_of grid.now }
     ensures count { result ≡ length (painting_of grid.now) }
@@ -36,6 +37,7 @@ pub fn paint(grid: &Grid, into: &mut [u8; BUFFER]) -> usize
 }
 
 /// Writes the bytes that put `cells` in row 24 to the beginning of `into`, and returns their number.
+#[tactic(auto, using(crate::proofs::Steps::showing))]
 pub fn message(cells: &[u8; COLUMNS], into: &mut [u8; BUFFER]) -> usize
     ensures value { take result into.new ≡ message_text cells.now }
     ensures count { result ≡ length (message_text cells.now) }
@@ -61,6 +63,7 @@ pub fn message(cells: &[u8; COLUMNS], into: &mut [u8; BUFFER]) -> usize
 }
 
 /// Appends the bytes that show a screen.
+#[tactic(auto, using(crate::proofs::Steps::lines))]
 fn put_screen(grid: &Grid, out: &mut Out)
     requires { LONGEST ≤ room_of out.old }
     ensures bytes { Appends out.old out.new (painting_of grid.now) }
@@ -73,6 +76,7 @@ fn put_screen(grid: &Grid, out: &mut Out)
 }
 
 /// Appends rows and their ends.
+#[tactic(auto, using(crate::proofs::Steps::lines))]
 fn put_lines(rows: &[[u8; COLUMNS]], out: &mut Out)
     requires rows { All IsRow rows.now }
     requires room { 2 * COLUMNS * length rows.now ≤ room_of out.old }
@@ -84,6 +88,7 @@ fn put_lines(rows: &[[u8; COLUMNS]], out: &mut Out)
 }
 
 /// Appends a row and its end.
+#[tactic(auto, using(crate::proofs::Steps::cells))]
 fn put_line(row: &[u8; COLUMNS], out: &mut Out)
     requires { 2 * COLUMNS ≤ room_of out.old }
     ensures { Appends out.old out.new (line_bytes row.now) }
@@ -95,6 +100,7 @@ fn put_line(row: &[u8; COLUMNS], out: &mut Out)
 }
 
 /// Appends a row without the spaces at its end.
+#[tactic(auto, using(crate::proofs::Steps::cells))]
 fn put_row(row: &[u8; COLUMNS], out: &mut Out)
     requires { 2 * length (shown_cells row.now) ≤ room_of out.old }
     ensures { Appends out.old out.new (cells_bytes (shown_cells row.now)) }
@@ -133,6 +139,7 @@ fn are_spaces(cells: &[u8]) -> bool
 }
 
 /// Appends cells, eight at a time.
+#[tactic(auto, using(crate::proofs::Steps::cells))]
 fn put_cells(cells: &[u8], out: &mut Out)
     requires { 2 * length cells.now ≤ room_of out.old }
     ensures { Appends out.old out.new (cells_bytes cells.now) }
@@ -146,6 +153,7 @@ fn put_cells(cells: &[u8], out: &mut Out)
 }
 
 /// Appends cells: at once if none of them is an attribute, and else one by one.
+#[tactic(auto, using(crate::proofs::Steps::cells))]
 fn put_part(cells: &[u8], out: &mut Out)
     requires { 2 * length cells.now ≤ room_of out.old }
     ensures { Appends out.old out.new (cells_bytes cells.now) }
@@ -158,6 +166,7 @@ fn put_part(cells: &[u8], out: &mut Out)
 }
 
 /// Appends cells one by one.
+#[tactic(auto, using(crate::proofs::Steps::cells))]
 fn put_each(cells: &[u8], out: &mut Out)
     requires { 2 * length cells.now ≤ room_of out.old }
     ensures { Appends out.old out.new (cells_bytes cells.now) }

@@ -58,6 +58,7 @@ impl Terminal {
     }
 
     /// Takes a byte from the line.
+    #[tactic(auto, using(crate::proofs::Steps::taking))]
     pub fn take(&mut self, byte: u8)
         ensures step { self.new ≡ after_byte self.old byte }
 

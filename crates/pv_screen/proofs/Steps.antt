@@ -1,0 +1,72 @@
+-- What each kind of step in the code follows from.
+use Rattle.std.proofs.lemmas.Fmt.{length-decimal-le}
+use Rattle.std.proofs.lemmas.Grind.{common_steps}
+use Rattle.std.proofs.lemmas.List.{append-nil, drop_all, length-append, length-drop, length-replicate, length-take, length-take-le, take_all, take_at, take-replicate}
+use Rattle.std.proofs.lemmas.List.Elements.{All-get_or, All-take}
+use Rattle.std.proofs.lemmas.List.Sums.{AllPass-from_list_all}
+use Rattle.pv_fields.proofs.CallerLemmas.{appends_then, length-padded_list, slice_after}
+use Rattle.pv_page.proofs.CallerLemmas.{length-name_text}
+use Rattle.pv_screen.proofs.Bytes.{length-cells_bytes-le, length-lines-le, length-painting-le, length-shown-le, line_end_short}
+use Rattle.pv_screen.proofs.Displays.{IsDisplay-first, IsDisplay-terminal_after}
+use Rattle.pv_screen.proofs.Grids.{IsGrid-blank}
+use Rattle.pv_screen.proofs.Placing.{body_stands, heading_is_row, IsGrid-parts, name_stands, price_stands, price_text_of, title_stands}
+use Rattle.pv_screen.proofs.Shows.{message_after_painted, message_ready, message_shows, painted_ready, painted_shows}
+use Rattle.pv_screen.proofs.Spaces.{cells_bytes_more, plain_bytes}
+
+-- the terminal takes bytes
+pub ruleset taking = (common_steps, IsDisplay-first, IsDisplay-terminal_after)
+
+-- cells are appended
+pub ruleset cells = (
+  common_steps,
+  AllPass-from_list_all,
+  appends_then,
+  cells_bytes_more,
+  length-cells_bytes-le,
+  length-drop,
+  length-take,
+  line_end_short,
+  plain_bytes,
+  take_all,
+)
+
+-- lines are appended
+pub ruleset lines = (common_steps, All-get_or, All-take, appends_then, length-lines-le, length-shown-le, length-take-le)
+
+-- a screen is written, and shown by a terminal
+pub ruleset showing = (
+  common_steps,
+  appends_then,
+  length-cells_bytes-le,
+  length-painting-le,
+  message_after_painted,
+  message_ready,
+  message_shows,
+  painted_ready,
+  painted_shows,
+  slice_after,
+  take_at,
+)
+
+-- row 1 is put together
+pub ruleset row_one = (
+  common_steps,
+  append-nil,
+  appends_then,
+  drop_all,
+  heading_is_row,
+  length-append,
+  length-decimal-le,
+  length-name_text,
+  length-padded_list,
+  length-replicate,
+  price_text_of,
+  slice_after,
+  take-replicate,
+)
+
+-- a frame's parts stand on its screen
+pub ruleset standing = (common_steps, body_stands, name_stands, price_stands, title_stands)
+
+-- rows make a grid, and the heading is one of them
+pub ruleset grids = (common_steps, heading_is_row, IsGrid-blank, IsGrid-parts)
