@@ -1,12 +1,11 @@
 -- The canonical notation is read back, and can be printed.
 use Rattle.std.proofs.lemmas.{Grind.common_steps, Bool.{and_parts, lt-ltb, Decides.nat_tests}}
 use Rattle.std.proofs.lemmas.{List.Elements.{All-nil, All-cons, All-head, All-tail, All-append, All-weaker}, Str.digit_value-digit_char}
-use Rattle.std.proofs.Common.{◌≡◌, ℕ, ◌+◌, ◌*◌, ◌/◌, ◌%◌, ◌<◌, ◌≤◌, ◌==◌, not, Bool, true, false, cond, List, [], ◌∷◌, ◌++◌, length, Option, Some, None, Ok, refl, sym, ap, subst, ◌∙◌, arith}
+use Rattle.std.proofs.Common.{◌≡◌, ℕ, ◌/◌, ◌%◌, ◌<◌, ◌≤◌, ◌==◌, not, Bool, true, false, cond, List, [], ◌∷◌, ◌++◌, length, Option, Some, None, Ok, refl, sym, ap, subst, ◌∙◌, arith}
 use Rattle.std.specs.{Char.digit_char, List.{All, AllPass}}
 use Rattle.pv_fields.specs.Padded.{padded_list}
-use Rattle.pv_cells.specs.Notation.{IsByte, is_printable, is_plain, notation_of_byte, notation_of, notation_at, ReadsAs}
-use Rattle.pv_cells.specs.{Row.{IsCell, row_of_text}, declared.{reading.TheConstants.BLANK, writing.TheConstants.BACKSLASH}}
-use Rattle.pv_cells.proofs.Rows.{row_again}
+use Rattle.pv_cells.specs.{Notation.{IsByte, is_printable, is_plain, notation_of, notation_at, ReadsAs}, Row.{IsCell, row_of_text}}
+use Rattle.pv_cells.{specs.declared.{reading.TheConstants.BLANK, writing.TheConstants.BACKSLASH}, proofs.Rows.row_again}
 
 -- the notation of a byte, by whether it is written as itself
 abbrev written : ℕ → Bool → List ℕ

@@ -1,13 +1,13 @@
 -- What a text is read as, cell by cell.
 use Rattle.std.proofs.lemmas.{Grind.common_steps, Bool.{leb-true, le-leb, Decides.nat_tests}}
 use Rattle.std.proofs.lemmas.List.Elements.{All-nil, All-cons, All-head, All-tail, All-append, All-same, All-replicate}
-use Rattle.std.proofs.Common.{◌≡◌, ℕ, zero, suc, ◌-◌, ◌≤◌, Bool, ◌==◌, List, [], ◌∷◌, length, replicate, Option, Some, None, Result, Ok, leb, refl, sym, ap, ◌∙◌, subst, arith}
+use Rattle.std.proofs.Common.{◌≡◌, ℕ, zero, suc, ◌≤◌, Bool, List, [], ◌∷◌, length, Option, Some, None, Ok, refl, ap, arith}
 use Rattle.std.specs.{Prelude.{option_map, unwrap_or}, List.All}
-use Rattle.pv_fields.specs.{Padded.padded_list, Reading.many_at, Refusals.{first_of, unless}}
+use Rattle.pv_fields.specs.{Reading.many_at, Refusals.first_of}
 use Rattle.pv_fields.proofs.CallerLemmas.{some_if-some, unless_ok, IsPadded-set, take-set, padded_list-take, length-items}
 use Rattle.pv_fields.proofs.Readings.{many_more, many_ends, many_done}
 use Rattle.pv_cells.specs.{Notation.{notation_at, ReadsAs}, Row.{IsCell, cell_at, row_errors, row_of_text, SpellsCells}}
-use Rattle.pv_cells.specs.declared.{error.NotationError.NotationError, reading.TheConstants.{BLANK, LAST_CELL}}
+use Rattle.pv_cells.specs.declared.reading.TheConstants.{LAST_CELL}
 
 -- ---- cells
 

@@ -1,12 +1,7 @@
 -- The test that bytes are cells.
 use Rattle.std.proofs.Common.{◌≡◌, ℕ, ◌<◌, Bool, true, false, List, length, get_or, All, inl, inr, refl, sym, arith}
-use Rattle.std.specs.Bool.{MatchBool, Decides}
-use Rattle.std.specs.List.{list_all}
-use Rattle.std.specs.Str.{IsAscii, IsNotAscii}
-use Rattle.std.proofs.lemmas.Bool.{cases_lt, leb-true, le-leb, lt-leb}
-use Rattle.std.proofs.lemmas.Bool.Decides.{Decides-by_and}
-use Rattle.std.proofs.lemmas.List.{get_or_past, get_or_default}
-use Rattle.std.proofs.lemmas.List.Folds.{list_all_at}
+use Rattle.std.proofs.lemmas.{Bool.{cases_lt, leb-true, le-leb, lt-leb, Decides.Decides-by_and}, List.{get_or_past, get_or_default}}
+use Rattle.std.{proofs.lemmas.List.Folds.list_all_at, specs.{Bool.{MatchBool, Decides}, List.list_all, Str.{IsAscii, IsNotAscii}}}
 use Rattle.pv_frame.proofs.Vocabulary.{IsCell, is_cell}
 
 -- bytes are cells exactly if they pass

@@ -1,17 +1,11 @@
 -- Lists of values that take four bytes each, as bytes and back.
-use Rattle.std.proofs.Common.{rules}
-use Rattle.std.proofs.lemmas.Bool.Decides.{nat_tests}
-use Rattle.std.proofs.lemmas.Grind.{common_steps}
-use Rattle.std.proofs.Common.{◌≡◌, ℕ, zero, suc, ◌*◌, ◌/◌, Bool, true, false, not, List, [], ◌∷◌, ◌++◌, length, take, drop, map, All, None, refl, sym, ap, ◌∙◌, arith}
-use Rattle.std.specs.Prelude.{position, flat_map}
-use Rattle.std.specs.Simd.{first_chunks}
-use Rattle.std.proofs.lemmas.Bool.{not-false, not_from_true}
+use Rattle.std.proofs.Common.{rules, ◌≡◌, ℕ, zero, suc, ◌*◌, Bool, true, false, not, List, [], ◌∷◌, ◌++◌, length, take, drop, map, All, None, refl, sym, ap, ◌∙◌, arith}
+use Rattle.std.proofs.lemmas.{Bool.{not-false, not_from_true, Decides.nat_tests}, Grind.common_steps}
 use Rattle.std.proofs.lemmas.List.{take_at, drop_at, length-drop, length-take, take-append-drop, nil_from_length, length-map}
-use Rattle.std.proofs.lemmas.List.Concat.{flat_map-cons}
-use Rattle.std.proofs.lemmas.List.Elements.{All-nil, All-cons, All-head, All-tail}
+use Rattle.std.{proofs.lemmas.List.{Concat.flat_map-cons, Elements.{All-nil, All-cons, All-head, All-tail}}, specs.Prelude.flat_map}
+use Rattle.std.specs.Simd.{first_chunks}
 use Rattle.pv_fields.proofs.CallerLemmas.{length-pieces}
-use Rattle.pv_frame.proofs.Vocabulary.{fours, first_bad}
-use Rattle.pv_frame.proofs.Searching.{all_fail, position-none}
+use Rattle.pv_frame.proofs.{Vocabulary.{fours, first_bad}, Searching.{all_fail, position-none}}
 
 -- there are as many groups as asked for
 length-groups : (count : ℕ) (bytes : List ℕ) → length (first_chunks 4 count bytes) ≡ count

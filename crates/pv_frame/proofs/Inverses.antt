@@ -1,12 +1,9 @@
 -- Each code is read as what it spells, and spells what it is read as.
-use Rattle.std.proofs.lemmas.Grind.{common_steps}
-use Rattle.std.proofs.Common.{◌≡◌, ℕ, zero, suc, true, false, cond, List, [], ◌∷◌, length, map, All, Option, Some, None, refl, sym, ap, ◌∙◌, inl, inr, arith}
-use Rattle.std.specs.Prelude.{IfSome, is_some, is_none, unwrap_or, nat_le, ◌==◌}
-use Rattle.std.specs.Int.{w32, from_be_bytes, to_be_bytes}
-use Rattle.std.proofs.lemmas.Bool.{cases_Bool, leb-true, le-leb, eqb-true, or_left}
-use Rattle.std.proofs.lemmas.Nat.{be_bytes_4, from_be_bytes-to_be_bytes_4}
-use Rattle.std.proofs.lemmas.List.Elements.{All-nil, All-cons}
-use Rattle.pv_frame.proofs.Vocabulary.{IsBytes, IsPage, LAST_PAGE, Kind, Information, Response, Mail, Field, FieldKind, Digits, Words, NO_ROUTE, kind_code, kind_of, field_code, field_kind_of, route_bytes, is_route, page_of, spells_route, route_of, field_bytes, spells_field, field_of}
+use Rattle.std.proofs.lemmas.{Grind.common_steps, Bool.{cases_Bool, leb-true, le-leb, eqb-true, or_left}}
+use Rattle.std.proofs.lemmas.{Nat.{be_bytes_4, from_be_bytes-to_be_bytes_4}, List.Elements.{All-nil, All-cons}}
+use Rattle.std.proofs.Common.{◌≡◌, ℕ, zero, suc, true, false, List, [], ◌∷◌, length, map, All, Option, Some, None, refl, ap, arith}
+use Rattle.std.specs.Prelude.{IfSome, is_some, is_none, unwrap_or}
+use Rattle.pv_frame.proofs.Vocabulary.{IsBytes, IsPage, Kind, Information, Response, Mail, Field, FieldKind, Digits, Words, kind_code, kind_of, field_code, field_kind_of, route_bytes, is_route, page_of, spells_route, route_of, field_bytes, spells_field, field_of}
 
 -- the kind of a frame
 pub kind_again : (kind : Kind) → kind_of (kind_code kind) ≡ Some kind

@@ -1,9 +1,6 @@
 -- The length of the spelling of a frame.
-use Rattle.std.proofs.lemmas.Grind.{common_steps}
-use Rattle.std.proofs.Common.{◌≡◌, ℕ, ◌+◌, ◌*◌, List, [], ◌∷◌, ◌++◌, length, Option, Some, None, refl, arith}
-use Rattle.std.specs.Prelude.{flat_map}
-use Rattle.std.specs.Int.{w16, to_be_bytes}
-use Rattle.std.proofs.lemmas.List.{length-append}
+use Rattle.std.proofs.lemmas.{Grind.common_steps, List.length-append}
+use Rattle.std.{proofs.Common.{◌≡◌, ℕ, ◌+◌, ◌*◌, List, length, Option, Some, None, refl, arith}, specs.Prelude.flat_map}
 use Rattle.pv_fields.proofs.CallerLemmas.{length-pieces}
 use Rattle.pv_frame.proofs.Vocabulary.{Field, FIELDS_AT, FIELD_BYTES, route_bytes, field_bytes, kind_code, Content, IsFrame, spelling_of}
 

@@ -1,18 +1,12 @@
 -- The error of a frame is what it says, and a frame without error is well formed.
-use Rattle.std.proofs.lemmas.Grind.{common_steps}
-use Rattle.std.proofs.Common.{◌≡◌, ℕ, zero, suc, ◌+◌, ◌<◌, ◌≤◌, Bool, true, false, not, List, [], ◌∷◌, ◌++◌, length, get_or, All, Option, Some, None, refl, sym, subst, ◌∙◌, inl, inr, max, min, arith}
-use Rattle.std.specs.Prelude.{option_map, position, nat_lt, nat_le, ◌==◌, ◌&&◌, ◌↔◌, Any, AllPairs}
-use Rattle.std.specs.Int.{is_in_range, IsInRange}
-use Rattle.std.specs.List.{list_all}
-use Rattle.std.specs.Bool.{Decides}
-use Rattle.std.proofs.lemmas.Bool.{cases_Bool, leb-false, leb-true, le-leb, ltb-true, ltb-false, not-true, not-false}
+use Rattle.std.proofs.lemmas.{Grind.common_steps, Bool.{cases_Bool, leb-false, leb-true, le-leb, ltb-true, ltb-false, not-true, not-false}}
 use Rattle.std.proofs.lemmas.Bool.Decides.{Decides-and, Decides-eqb, Decides-ltb, Decides-like, Decides-by_and, not_from_Decides}
-use Rattle.std.proofs.lemmas.List.Elements.{All-append}
-use Rattle.std.proofs.lemmas.List.Folds.{list_all-append}
-use Rattle.std.proofs.lemmas.List.Quantifiers.{position-Some}
-use Rattle.pv_frame.proofs.Vocabulary.{LAST_CELL, ROW_LENGTH, IsCell, first_of, some_if, Kind, Information, Response, Mail, Field, FieldKind, Digits, Words, FrameError, Cell, Price, FieldRange, FieldsMeet, Shape, Code, LAST_PRICE, FIRST_ROW, LAST_ROW, ACCOUNT_DIGITS, MAIL_TEXTS, Content, is_cell, end_of, lies_in_body, meets, ShareCell, first_meeting, is_digits, takes_text, has_shape, price_error, meeting_error, shape_error, field_errors, error_of, IsValid, HasRanges, LiesInBody, HasShape, IsWellFormed, field_at, IsBefore, IsFirstMeeting, HasCause, no_field}
-use Rattle.pv_frame.proofs.Cells.{Decides-cells}
-use Rattle.pv_frame.proofs.Searching.{all_fail}
+use Rattle.std.proofs.lemmas.List.{Elements.All-append, Folds.list_all-append, Quantifiers.position-Some}
+use Rattle.std.proofs.Common.{◌≡◌, ℕ, zero, suc, ◌+◌, ◌<◌, ◌≤◌, Bool, true, false, not, List, [], ◌∷◌, ◌++◌, length, get_or, All, Option, Some, None, refl, sym, subst, ◌∙◌, inl, inr, max, min, arith}
+use Rattle.std.specs.{Prelude.{option_map, position, nat_lt, nat_le, ◌==◌, ◌&&◌, ◌↔◌, Any, AllPairs}, Int.{is_in_range, IsInRange}}
+use Rattle.std.specs.{List.list_all, Bool.Decides}
+use Rattle.pv_frame.proofs.Vocabulary.{LAST_CELL, IsCell, first_of, some_if, Kind, Information, Response, Mail, Field, FieldKind, Digits, Words, FrameError, Cell, Price, FieldRange, FieldsMeet, Shape, Code, LAST_PRICE, ACCOUNT_DIGITS, MAIL_TEXTS, Content, is_cell, end_of, lies_in_body, meets, ShareCell, first_meeting, is_digits, takes_text, has_shape, price_error, meeting_error, shape_error, field_errors, error_of, IsValid, HasRanges, LiesInBody, HasShape, IsWellFormed, field_at, IsBefore, IsFirstMeeting, HasCause, no_field}
+use Rattle.pv_frame.proofs.{Cells.Decides-cells, Searching.all_fail}
 
 -- ---- what each test decides
 

@@ -1,11 +1,8 @@
 -- Two spellings that begin the same bytes are of one frame.
 use Rattle.std.proofs.Common.{◌≡◌, ℕ, List, [], ◌∷◌, ◌++◌, length, take, drop, Option, Some, Result, Ok, refl, sym, ap, ◌∙◌, append_assoc, arith}
-use Rattle.std.specs.Prelude.{flat_map}
-use Rattle.std.proofs.lemmas.List.{append-nil, take_at, drop_at}
+use Rattle.std.{proofs.lemmas.List.{append-nil, take_at, drop_at}, specs.Prelude.flat_map}
 use Rattle.pv_frame.proofs.Vocabulary.{ReadsBack, FrameCodecError, field_bytes, Content, Raw, IsRaw, raw_bytes, raw_at, decode_of, raw_of, spelling_of, HasSpelling}
-use Rattle.pv_frame.proofs.Lengths.{length-fields}
-use Rattle.pv_frame.proofs.Parts.{Reads-raw}
-use Rattle.pv_frame.proofs.RoundTrip.{IsRaw-raw_of, decode_of-spelling}
+use Rattle.pv_frame.proofs.{Lengths.length-fields, Parts.Reads-raw, RoundTrip.{IsRaw-raw_of, decode_of-spelling}}
 
 -- the parts of a frame, with more bytes after its fields
 abbrev raw_with : Content → List ℕ → Raw

@@ -1,6 +1,5 @@
 -- What the code on fields in their places follows from.
-use Rattle.std.proofs.lemmas.Grind.{common_steps}
-use Rattle.std.proofs.lemmas.List.{append-nil, map-append, take_more}
+use Rattle.std.proofs.lemmas.{Grind.common_steps, List.{append-nil, map-append, take_more}}
 use Rattle.pv_fields.proofs.CallerLemmas.{IsPadded-set, appends_then, length-items, take-set}
 use Rattle.pv_frame.proofs.Meaning.{HasRanges-valid}
 

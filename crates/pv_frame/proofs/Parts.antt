@@ -1,8 +1,6 @@
 -- The parts of a frame are read as they are spelled.
-use Rattle.std.proofs.lemmas.Grind.{common_steps}
-use Rattle.std.proofs.Common.{◌≡◌, ℕ, ◌++◌, length, Some, refl, arith, length-append}
-use Rattle.std.proofs.lemmas.Bool.{le-ltb}
-use Rattle.std.proofs.lemmas.List.{append-nil, take_at, drop_at}
+use Rattle.std.proofs.lemmas.{Grind.common_steps, Bool.le-ltb, List.{append-nil, take_at, drop_at}}
+use Rattle.std.proofs.Common.{◌≡◌, ℕ, length, Some, refl, arith, length-append}
 use Rattle.pv_frame.proofs.Vocabulary.{Reads, ReadsLast, run_at, TITLE_CELLS, BODY_CELLS, ROUTES_SIZE, IsRaw, raw_bytes, raw_at, all_at}
 use Rattle.pv_fields.proofs.Readings.{Reads-byte, Reads-two, Reads-run, Reads-rest, Reads-map, ◌&◌}
 

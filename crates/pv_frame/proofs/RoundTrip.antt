@@ -1,18 +1,13 @@
 -- What is spelled is read again, and what is read is spelled so.
-use Rattle.std.proofs.lemmas.Grind.{common_steps}
+use Rattle.std.proofs.lemmas.{Grind.common_steps, Bool.{cases_Bool, le-ltb, ltb-false, eqb-true}, List.{append-nil, take_all}}
 use Rattle.std.proofs.Common.{◌≡◌, ℕ, zero, suc, ◌<◌, ◌≤◌, false, List, [], ◌∷◌, ◌++◌, length, take, map, Option, Some, None, Result, Ok, Err, refl, sym, ap, subst, ◌∙◌, inl, inr, arith}
-use Rattle.std.specs.Prelude.{flat_map, is_none, unwrap_or, ◌==◌}
-use Rattle.std.specs.Int.{w32, to_be_bytes}
-use Rattle.std.proofs.lemmas.Bool.{cases_Bool, le-ltb, ltb-false, eqb-true}
-use Rattle.std.proofs.lemmas.List.{append-nil, take_all}
-use Rattle.pv_frame.proofs.Vocabulary.{IsPadded, padded_list, first_of, whole, IsBytes, Kind, Information, Response, Mail, FrameCodecError, Short, Version, Invalid, Trailing, FIELDS, VERSION, NO_ROUTE, Content, IsFrame, kind_code, kind_of, route_bytes, route_of, spells_route, field_bytes, field_of, spells_field, fours, error_of, no_field, Field, Raw, IsRaw, raw_bytes, raw_at, frame_of, field_size, first_bad, head_errors, tail_errors, kind_error, route_error, count_error, short_error, field_error, trailing_error, frame_error, raw_error, frame_read, decode_of, raw_of, spelling_of, HasSpelling}
-use Rattle.pv_fields.proofs.Readings.{all_found}
-use Rattle.pv_fields.proofs.CallerLemmas.{first_of-none, none_of, none_of_both, some_if-false, some_if-none, option_map-none, option_map-none_back, unless_ok, IsPadded-padded_list, take-padded_list, IsBytes-drop, IsBytes-take}
+use Rattle.std.specs.{Prelude.{flat_map, is_none, unwrap_or, ◌==◌}, Int.{w32, to_be_bytes}}
+use Rattle.pv_frame.proofs.Vocabulary.{IsPadded, padded_list, first_of, whole, IsBytes, Kind, Information, Response, Mail, FrameCodecError, Short, Version, Invalid, Trailing, FIELDS, VERSION, Content, IsFrame, kind_code, kind_of, route_bytes, route_of, spells_route, field_bytes, field_of, spells_field, fours, error_of, no_field, Field, Raw, IsRaw, raw_bytes, raw_at, frame_of, field_size, first_bad, head_errors, tail_errors, kind_error, route_error, count_error, short_error, field_error, trailing_error, frame_error, raw_error, frame_read, decode_of, raw_of, spelling_of, HasSpelling}
 use Rattle.pv_frame.proofs.Fours.{fours_again, fours_found, length-fours, length-read}
 use Rattle.pv_frame.proofs.Inverses.{kind_again, kind_found, route_again, route_found, pages_of, field_again, field_found}
-use Rattle.pv_frame.proofs.Lengths.{length-route, length-routes, length-fields}
-use Rattle.pv_frame.proofs.Parts.{Reads-raw}
-use Rattle.pv_frame.proofs.Meaning.{HasRanges-valid}
+use Rattle.pv_frame.proofs.{Lengths.{length-route, length-routes, length-fields}, Parts.Reads-raw, Meaning.HasRanges-valid}
+use Rattle.pv_fields.proofs.Readings.{all_found}
+use Rattle.pv_fields.proofs.CallerLemmas.{first_of-none, none_of, none_of_both, some_if-false, some_if-none, option_map-none, option_map-none_back, unless_ok, IsPadded-padded_list, take-padded_list, IsBytes-drop, IsBytes-take}
 
 -- ---- what is spelled
 

@@ -1,11 +1,7 @@
 -- A frame that is blank except for a row is valid.
-use Rattle.std.proofs.lemmas.Grind.{common_steps}
-use Rattle.std.proofs.Common.{◌≡◌, ℕ, ◌-◌, true, List, ◌++◌, length, drop, replicate, All, refl, ap, ◌∙◌, arith}
-use Rattle.std.specs.List.{list_all}
-use Rattle.std.proofs.lemmas.List.{drop-replicate}
-use Rattle.std.proofs.lemmas.List.Elements.{All-append, All-replicate}
-use Rattle.pv_frame.proofs.Vocabulary.{IsCell, blank_frame, frame_of_row, is_cell, IsValid}
-use Rattle.pv_frame.proofs.Cells.{Decides-cells}
+use Rattle.std.proofs.lemmas.{Grind.common_steps, List.{drop-replicate, Elements.{All-append, All-replicate}}}
+use Rattle.std.{proofs.Common.{◌≡◌, ℕ, ◌-◌, true, List, ◌++◌, length, drop, replicate, All, refl, arith}, specs.List.list_all}
+use Rattle.pv_frame.proofs.{Vocabulary.{IsCell, blank_frame, frame_of_row, is_cell, IsValid}, Cells.Decides-cells}
 
 -- the row in place of the first 40 blank cells
 pub row_written : (row : List ℕ) → length row ≡ 40 → record blank_frame { body = row ++ drop 40 blank_frame.body } ≡ frame_of_row row

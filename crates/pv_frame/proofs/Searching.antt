@@ -1,10 +1,6 @@
 -- A search that finds nothing.
-use Rattle.std.proofs.lemmas.Grind.{common_steps}
-use Rattle.std.proofs.Common.{◌≡◌, Bool, false, List, length, All, Some, None, refl, inl, inr, arith}
-use Rattle.std.specs.Prelude.{position}
-use Rattle.std.specs.List.{position_or_len}
-use Rattle.std.proofs.lemmas.Bool.{cases_lt, le-ltb, lt-ltb}
-use Rattle.std.proofs.lemmas.List.Sums.{position_or_len_is, fails_before_first}
+use Rattle.std.proofs.lemmas.{Grind.common_steps, Bool.{cases_lt, le-ltb, lt-ltb}, List.Sums.{position_or_len_is, fails_before_first}}
+use Rattle.std.{proofs.Common.{◌≡◌, Bool, false, List, length, All, None, refl, arith}, specs.{Prelude.position, List.position_or_len}}
 
 module _ {X : Type 0} (test : X → Bool) (xs : List X) where
   -- if no index is found, no element passes

@@ -1,5 +1,4 @@
-use Rattle.std.proofs.Common.{refl, arith}
-use Rattle.std.proofs.lemmas.Grind.{common_steps}
+use Rattle.std.proofs.{Common.{refl, arith}, lemmas.Grind.common_steps}
 use Rattle.pv_fields.proofs.CallerLemmas.{room_for_one}
 use Rattle.pv_frame.specs.Codes.{field_bytes}
 use Rattle.pv_frame.proofs.frame.put_fields.Goals as goal

@@ -1,8 +1,6 @@
-use Rattle.std.proofs.Common.{arith}
-use Rattle.std.proofs.lemmas.Grind.{common_steps}
+use Rattle.std.proofs.{Common.arith, lemmas.Grind.common_steps}
 use Rattle.pv_fields.proofs.CallerLemmas.{room_for_one}
-use Rattle.pv_frame.specs.Codes.{route_bytes}
-use Rattle.pv_frame.proofs.Lengths.{length-route}
+use Rattle.pv_frame.{specs.Codes.route_bytes, proofs.Lengths.length-route}
 use Rattle.pv_frame.proofs.frame.put_routes.Goals as goal
 
 pub put_run-requires : goal.put_run-requires

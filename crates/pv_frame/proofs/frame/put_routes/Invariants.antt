@@ -1,5 +1,4 @@
-use Rattle.std.proofs.Common.{take}
-use Rattle.std.specs.Prelude.{flat_map}
+use Rattle.std.{proofs.Common.take, specs.Prelude.flat_map}
 use Rattle.pv_frame.proofs.Vocabulary.{Appends, route_bytes}
 use Rattle.pv_frame.proofs.frame.put_routes.Given as goal
 

@@ -1,6 +1,4 @@
-use Rattle.std.proofs.Common.{[], length, map, None, arith, sym, ◌∙◌, ap}
-use Rattle.std.proofs.lemmas.Grind.{common_steps}
-use Rattle.std.proofs.lemmas.List.{same_lists, length-map, get_or_default}
+use Rattle.std.proofs.{Common.{[], map, None, arith, ◌∙◌, ap}, lemmas.{Grind.common_steps, List.{same_lists, length-map, get_or_default}}}
 use Rattle.std.proofs.Math.ListN.{get_or-map}
 use Rattle.pv_frame.specs.Codes.{route_of}
 use Rattle.pv_frame.proofs.raw.routes_of.Goals as goal

@@ -1,8 +1,6 @@
-use Rattle.std.proofs.Common.{◌≡◌, [], ◌∷◌, ◌++◌, length, take, arith}
-use Rattle.std.specs.Prelude.{flat_map}
-use Rattle.pv_frame.proofs.Vocabulary.{Appends, kind_code, field_bytes}
+use Rattle.std.{proofs.Common.{[], ◌∷◌, ◌++◌, length, take, arith}, specs.Prelude.flat_map}
+use Rattle.pv_frame.proofs.{Vocabulary.{Appends, kind_code, field_bytes}, Padding.putting}
 use Rattle.pv_fields.proofs.CallerLemmas.{appends_then}
-use Rattle.pv_frame.proofs.Padding.{putting}
 use Rattle.pv_frame.proofs.frame.Frame.put.Goals as goal
 
 -- the parts, one after another
