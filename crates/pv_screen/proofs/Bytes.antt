@@ -1,9 +1,7 @@
 -- Lemmas on the bytes of cells, rows and screens, and on bytes written one after another.
 use Rattle.std.proofs.Common.{◌≡◌, ℕ, ◌+◌, ◌*◌, ◌<◌, ◌≤◌, List, [], ◌∷◌, length, get_or, take, ap, cond, ltb, Bool, true, false, All, inl, inr, arith}
-use Rattle.std.specs.List.{flat_map}
-use Rattle.std.proofs.lemmas.Bool.{cases_lt, lt-ltb, le-ltb}
-use Rattle.std.proofs.lemmas.List.{length-append, length-take, length-take-le}
-use Rattle.std.proofs.lemmas.List.Elements.{All-head, All-tail, All-take, All-get_or}
+use Rattle.std.proofs.lemmas.{Bool.{cases_lt, lt-ltb, le-ltb}, List.{length-append, length-take, length-take-le}}
+use Rattle.std.{proofs.lemmas.List.Elements.{All-head, All-tail, All-take, All-get_or}, specs.List.flat_map}
 use Rattle.pv_screen.proofs.Vocabulary.{IsRow, IsGrid, cell_bytes, cells_bytes, shown_cells, row_bytes, line_end, line_bytes, painting_of}
 
 -- a cell is sent as at most two bytes

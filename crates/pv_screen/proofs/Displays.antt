@@ -1,11 +1,8 @@
 -- What every byte keeps: the cells are a grid, and the cursor is on it.
-use Rattle.std.proofs.lemmas.Grind.{common_steps}
-use Rattle.std.proofs.Common.{◌≡◌, ℕ, ◌+◌, ◌-◌, ◌≤◌, ◌<◌, Bool, true, false, ◌&&◌, eqb, leb, List, [], ◌∷◌, arith, rules, get_or, set, length}
-use Rattle.std.proofs.lemmas.List.{length-set}
-use Rattle.std.proofs.lemmas.List.Elements.{All-set, All-get_or}
-use Rattle.std.proofs.lemmas.Bool.Decides.{nat_tests}
+use Rattle.std.proofs.lemmas.{Grind.common_steps, List.{length-set, Elements.{All-set, All-get_or}}, Bool.Decides.nat_tests}
 use Rattle.std.proofs.lemmas.Bool.{leb-true, and_parts, cond_both}
-use Rattle.pv_screen.proofs.Vocabulary.{IsCell, IsGrid, IsRow, Display, IsDisplay, down, up, row_start, home, forward, back, clear, with_cell, after_cell, after_first, after_second, after_byte, terminal_after}
+use Rattle.std.proofs.Common.{◌≡◌, ℕ, ◌≤◌, Bool, true, false, ◌&&◌, eqb, leb, List, [], ◌∷◌, arith, rules}
+use Rattle.pv_screen.proofs.Vocabulary.{IsCell, IsGrid, Display, IsDisplay, down, up, row_start, home, forward, back, clear, with_cell, after_cell, after_first, after_second, after_byte, terminal_after}
 use Rattle.pv_screen.proofs.Grids.{IsGrid-blank}
 
 -- a number that passes the test of a range is at most its end

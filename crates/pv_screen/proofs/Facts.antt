@@ -1,9 +1,7 @@
 -- Worked rows, screens and cursors, computed from the definitions.
-use Rattle.std.proofs.Common.{◌≡◌, [], ◌∷◌, ◌++◌, List, ℕ, zero, suc, replicate, refl}
-use Rattle.std.specs.Prelude.{codes}
-use Rattle.std.specs.Fmt.{digits}
-use Rattle.pv_frame.specs.Content as frames
+use Rattle.std.{proofs.Common.{◌≡◌, [], ◌∷◌, ◌++◌, List, ℕ, zero, suc, replicate, refl}, specs.{Prelude.codes, Fmt.digits}}
 use Rattle.pv_screen.proofs.Vocabulary.{CURSOR_ON, CURSOR_OFF, ALPHA_RED, ALPHA_GREEN, ALPHA_YELLOW, ALPHA_BLUE, ALPHA_MAGENTA, ALPHA_CYAN, ALPHA_WHITE, MOSAIC_RED, MOSAIC_GREEN, MOSAIC_YELLOW, MOSAIC_BLUE, MOSAIC_MAGENTA, MOSAIC_CYAN, MOSAIC_WHITE, FLASH, STEADY, NORMAL_HEIGHT, DOUBLE_HEIGHT, CONCEAL, CONTIGUOUS, SEPARATED, BLACK_BACKGROUND, NEW_BACKGROUND, HOLD, RELEASE, heading, composed_grid, new_display, terminal_after, line_bytes, painting_of, message_text}
+use Rattle.pv_frame.specs.Content as frames
 
 -- n line ends
 abbrev line_ends : ℕ → List ℕ

@@ -1,6 +1,5 @@
 -- The blank grid is a grid.
-use Rattle.std.proofs.Common.{refl, lit≤, replicate}
-use Rattle.std.proofs.lemmas.List.Elements.{All-replicate}
+use Rattle.std.proofs.{Common.{refl, lit≤, replicate}, lemmas.List.Elements.All-replicate}
 use Rattle.pv_screen.proofs.Vocabulary.{IsCell, IsGrid, IsRow, blank_grid}
 
 -- forty spaces are a row

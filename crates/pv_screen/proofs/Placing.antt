@@ -1,14 +1,12 @@
 -- Lemmas on rows that are put together from texts and spaces, and on bodies cut into rows.
 use Rattle.std.proofs.Common.{◌≡◌, ℕ, zero, suc, ◌+◌, ◌*◌, ◌-◌, ◌<◌, ◌≤◌, Bool, true, false, cond, eqb, ne_eqb, inl, inr, lit≤, lit<, decimal, List, [], ◌∷◌, ◌++◌, length, take, drop, All, refl, sym, ap, subst, ◌∙◌, append_assoc, arith}
-use Rattle.std.specs.List.{concat}
-use Rattle.std.specs.Simd.{first_chunks}
 use Rattle.std.proofs.Math.Seq.{take-append_seam}
 use Rattle.std.proofs.lemmas.List.{nil_from_length, get_or_default, take_at, drop_at, length-append, length-drop, length-take-le, take-append-drop, length-replicate}
 use Rattle.std.proofs.lemmas.List.Elements.{All-nil, All-cons, All-take, All-drop, All-append, All-replicate}
-use Rattle.std.proofs.lemmas.Fmt.{length-decimal-le, IsAscii-decimal}
+use Rattle.std.{proofs.lemmas.Fmt.{length-decimal-le, IsAscii-decimal}, specs.{List.concat, Simd.first_chunks}}
 use Rattle.pv_screen.proofs.Vocabulary.{Name, IsName, name_text, IsCell, Content, IsFrame, HasRanges, spaces, at_left, at_right, price_text, heading, body_rows, composed_grid, IsRow, IsGrid}
-use Rattle.pv_page.proofs.CallerLemmas.{length-name_text, bytes_of_name}
 use Rattle.pv_screen.proofs.Grids.{IsRow-blank}
+use Rattle.pv_page.proofs.CallerLemmas.{length-name_text, bytes_of_name}
 
 -- ---- bodies
 

@@ -1,8 +1,6 @@
 -- What a terminal shows after several screens.
-use Rattle.std.proofs.Common.{◌≡◌, List, [], ◌∷◌, All, fold, ap, ◌∙◌, refl}
+use Rattle.std.proofs.{Common.{◌≡◌, List, [], ◌∷◌, All, fold, ap, ◌∙◌, refl}, lemmas.List.{Sums.fold-append, Elements.{All-head, All-tail}}}
 use Rattle.std.specs.List.{flat_map}
-use Rattle.std.proofs.lemmas.List.Sums.{fold-append}
-use Rattle.std.proofs.lemmas.List.Elements.{All-head, All-tail}
 use Rattle.pv_screen.proofs.Vocabulary.{screen_bytes, IsShowable, shown_after, Display, IsReady, after_byte, terminal_after, Screen, Whole, Row}
 use Rattle.pv_screen.proofs.Shows.{painted_shows, painted_ready, message_shows, message_ready}
 

@@ -1,19 +1,14 @@
 -- What a terminal shows after the bytes of cells, rows and screens.
-use Rattle.std.proofs.Common.{rules}
+use Rattle.std.proofs.Common.{rules, ◌≡◌, ℕ, suc, ◌+◌, ◌-◌, ◌<◌, List, [], ◌∷◌, ◌++◌, length, get_or, take, drop, set, sym, ap, ◌∙◌, refl, cond, eqb, Bool, false, map, replicate, reverse, All, inl, inr, arith}
 use Rattle.std.proofs.lemmas.Grind.{common_steps}
-use Rattle.std.proofs.Common.{◌≡◌, ℕ, suc, ◌+◌, ◌-◌, ◌<◌, List, [], ◌∷◌, ◌++◌, length, get_or, take, drop, set, sym, ap, subst, ◌∙◌, refl, cond, leb, eqb, ◌&&◌, Bool, false, map, replicate, reverse, All, inl, inr, arith}
-use Rattle.std.specs.Prelude.{IsFalse}
-use Rattle.std.specs.List.{flat_map, suffix_len}
-use Rattle.std.proofs.Math.Nat.{add-sub_cancel}
 use Rattle.std.proofs.lemmas.Bool.{cases_lt, eqb-true, lt-ltb, le-ltb, le-leb, and_from, cond-true, cond-false, cond_both}
 use Rattle.std.proofs.lemmas.Bool.Decides.{eqb_tells, nat_tests}
 use Rattle.std.proofs.lemmas.List.{append-nil, append_assoc, length-append, take-append-drop, take_more, take_all, length-take-le, length-set, get_or-set_same, set-set, set-get_or, set_at, get_or-drop, get_or-reverse, get_or-replicate, length-drop, length-replicate, same_lists, replicate-append-replicate}
-use Rattle.std.proofs.lemmas.Simd.{splat_is_map}
-use Rattle.std.proofs.lemmas.List.Sums.{fold-append, suffix_len-le-length, prefix_len_passes}
-use Rattle.std.proofs.lemmas.List.Elements.{All-head, All-tail, All-take, All-get_or, All-set}
+use Rattle.std.proofs.lemmas.{Simd.splat_is_map, List.Sums.{fold-append, suffix_len-le-length, prefix_len_passes}}
+use Rattle.std.proofs.{lemmas.List.Elements.{All-head, All-tail, All-take, All-get_or, All-set}, Math.Nat.add-sub_cancel}
+use Rattle.std.specs.{Prelude.IsFalse, List.{flat_map, suffix_len}}
 use Rattle.pv_screen.proofs.Vocabulary.{IsCell, IsGrid, IsRow, cell_bytes, cells_bytes, shown_cells, row_bytes, line_end, line_bytes, painting_of, message_text, Display, IsReady, new_display, row_below, with_cell, after_cell, after_byte, terminal_after}
-use Rattle.pv_screen.proofs.Grids.{IsGrid-blank}
-use Rattle.pv_screen.proofs.Bytes.{line_end_short, line_end_full, length-shown-le}
+use Rattle.pv_screen.proofs.{Grids.IsGrid-blank, Bytes.{line_end_short, line_end_full, length-shown-le}}
 
 -- a display that waits for no second byte
 abbrev at : List (List ℕ) → ℕ → ℕ → Display

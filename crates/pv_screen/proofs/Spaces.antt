@@ -1,13 +1,10 @@
 -- Spaces at the end of a row, and cells that are their own bytes.
-use Rattle.std.proofs.lemmas.Grind.{common_steps}
-use Rattle.std.proofs.Common.{◌≡◌, ℕ, zero, suc, ◌+◌, ◌-◌, ◌<◌, ◌≤◌, cond, Bool, true, List, [], ◌∷◌, ◌++◌, length, get_or, take, drop, All, refl, sym, ap, ◌∙◌, arith}
-use Rattle.std.specs.List.{suffix_len, list_all}
-use Rattle.std.proofs.lemmas.Bool.{eq-eqb, leb-true, le-ltb}
+use Rattle.std.proofs.lemmas.{Grind.common_steps, Bool.{eq-eqb, leb-true, le-ltb}}
 use Rattle.std.proofs.lemmas.List.{get_or-take, get_or-drop, length-take, length-drop, take-append-drop}
-use Rattle.std.proofs.Math.Seq.{take-append-add}
-use Rattle.std.proofs.lemmas.List.Concat.{flat_map-cons, flat_map-append}
-use Rattle.std.proofs.lemmas.List.Elements.{All-head, All-tail}
+use Rattle.std.proofs.lemmas.List.{Concat.{flat_map-cons, flat_map-append}, Elements.{All-head, All-tail}}
 use Rattle.std.proofs.lemmas.List.Sums.{suffix_len-take_yes, AllPass-from_list_all}
+use Rattle.std.proofs.Common.{◌≡◌, ℕ, zero, suc, ◌+◌, ◌-◌, ◌<◌, ◌≤◌, cond, Bool, true, List, [], ◌∷◌, ◌++◌, length, get_or, take, drop, All, refl, sym, ap, ◌∙◌, arith}
+use Rattle.std.{proofs.Math.Seq.take-append-add, specs.List.{suffix_len, list_all}}
 use Rattle.pv_screen.specs.Painting.{is_ordinary, is_space, cell_bytes, cells_bytes}
 
 -- spaces before an end count towards those at the end

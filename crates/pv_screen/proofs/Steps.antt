@@ -1,14 +1,11 @@
 -- What each kind of step in the code follows from.
-use Rattle.std.proofs.lemmas.Fmt.{length-decimal-le}
-use Rattle.std.proofs.lemmas.Grind.{common_steps}
+use Rattle.std.proofs.lemmas.{Fmt.length-decimal-le, Grind.common_steps}
 use Rattle.std.proofs.lemmas.List.{append-nil, drop_all, length-append, length-drop, length-replicate, length-take, length-take-le, take_all, take_at, take-replicate}
-use Rattle.std.proofs.lemmas.List.Elements.{All-get_or, All-take}
-use Rattle.std.proofs.lemmas.List.Sums.{AllPass-from_list_all}
+use Rattle.std.proofs.lemmas.List.{Elements.{All-get_or, All-take}, Sums.AllPass-from_list_all}
 use Rattle.pv_fields.proofs.CallerLemmas.{appends_then, length-padded_list, slice_after}
 use Rattle.pv_page.proofs.CallerLemmas.{length-name_text}
 use Rattle.pv_screen.proofs.Bytes.{length-cells_bytes-le, length-lines-le, length-painting-le, length-shown-le, line_end_short}
-use Rattle.pv_screen.proofs.Displays.{IsDisplay-first, IsDisplay-terminal_after}
-use Rattle.pv_screen.proofs.Grids.{IsGrid-blank}
+use Rattle.pv_screen.proofs.{Displays.{IsDisplay-first, IsDisplay-terminal_after}, Grids.IsGrid-blank}
 use Rattle.pv_screen.proofs.Placing.{body_stands, heading_is_row, IsGrid-parts, name_stands, price_stands, price_text_of, title_stands}
 use Rattle.pv_screen.proofs.Shows.{message_after_painted, message_ready, message_shows, painted_ready, painted_shows}
 use Rattle.pv_screen.proofs.Spaces.{cells_bytes_more, plain_bytes}

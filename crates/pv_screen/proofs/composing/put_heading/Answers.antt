@@ -1,6 +1,5 @@
 use Rattle.std.proofs.Common.{subst}
-use Rattle.pv_screen.proofs.Vocabulary.{IsFrame}
-use Rattle.pv_screen.proofs.Placing.{heading_is_row}
+use Rattle.pv_screen.proofs.{Vocabulary.IsFrame, Placing.heading_is_row}
 use Rattle.pv_screen.proofs.composing.put_heading.Goals as goal
 
 pub returns-clause-row : goal.returns-clause-row

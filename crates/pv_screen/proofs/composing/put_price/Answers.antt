@@ -1,6 +1,4 @@
-use Rattle.std.proofs.Common.{◌-◌, length, arith}
-use Rattle.std.proofs.lemmas.Fmt.{length-decimal-le}
-use Rattle.std.proofs.lemmas.Grind.{common_steps}
+use Rattle.std.proofs.{Common.arith, lemmas.{Fmt.length-decimal-le, Grind.common_steps}}
 use Rattle.pv_screen.proofs.Steps.{row_one}
 use Rattle.pv_screen.proofs.composing.put_price.Goals as goal
 

@@ -1,5 +1,4 @@
-use Rattle.std.proofs.Common.{subst}
-use Rattle.std.proofs.lemmas.List.{take-replicate}
+use Rattle.std.proofs.{Common.subst, lemmas.List.take-replicate}
 use Rattle.pv_fields.specs.Out.{Appends}
 use Rattle.pv_screen.proofs.composing.put_spaces.Goals as goal
 

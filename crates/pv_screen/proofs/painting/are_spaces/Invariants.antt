@@ -1,5 +1,4 @@
-use Rattle.std.proofs.Common.{◌≡◌, take}
-use Rattle.std.specs.List.{list_all}
+use Rattle.std.{proofs.Common.{◌≡◌, take}, specs.List.list_all}
 use Rattle.pv_screen.specs.Painting.{is_space}
 use Rattle.pv_screen.proofs.painting.are_spaces.Given as goal
 

@@ -1,9 +1,6 @@
-use Rattle.std.proofs.Common.{◌≡◌, take, arith}
-use Rattle.std.proofs.lemmas.Grind.{common_steps}
-use Rattle.std.proofs.lemmas.List.{take_at}
+use Rattle.std.proofs.{Common.{◌≡◌, take, arith}, lemmas.{Grind.common_steps, List.take_at}}
 use Rattle.pv_fields.proofs.CallerLemmas.{appends_then, slice_after}
-use Rattle.pv_screen.proofs.Vocabulary.{message_text}
-use Rattle.pv_screen.proofs.Shows.{message_ready}
+use Rattle.pv_screen.proofs.{Vocabulary.message_text, Shows.message_ready}
 use Rattle.pv_screen.proofs.painting.message.Goals as goal
 
 pub returns-clause-ready : goal.returns-clause-ready

@@ -1,6 +1,4 @@
-use Rattle.std.proofs.Common.{◌+◌, length, arith}
-use Rattle.std.proofs.lemmas.Grind.{common_steps}
-use Rattle.std.proofs.lemmas.List.{take_all}
+use Rattle.std.proofs.{Common.{◌+◌, arith}, lemmas.{Grind.common_steps, List.take_all}}
 use Rattle.pv_fields.proofs.CallerLemmas.{appends_then}
 use Rattle.pv_screen.proofs.Spaces.{cells_bytes_more}
 use Rattle.pv_screen.proofs.painting.put_cells.Goals as goal

@@ -1,5 +1,4 @@
-use Rattle.std.proofs.Common.{take}
-use Rattle.std.specs.List.{flat_map}
+use Rattle.std.{proofs.Common.take, specs.List.flat_map}
 use Rattle.pv_screen.proofs.Vocabulary.{Appends, line_bytes}
 use Rattle.pv_screen.proofs.painting.put_lines.Given as goal
 

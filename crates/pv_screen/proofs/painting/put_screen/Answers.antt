@@ -1,10 +1,6 @@
-use Rattle.std.proofs.Common.{[], ◌∷◌, length, take, ap, subst, arith}
-use Rattle.std.specs.List.{flat_map}
-use Rattle.std.proofs.lemmas.List.{length-take-le}
-use Rattle.std.proofs.lemmas.List.Elements.{All-take, All-get_or}
-use Rattle.pv_screen.proofs.Vocabulary.{Appends, IsRow, line_bytes, painting_of, row_bytes, shown_cells}
+use Rattle.std.proofs.{Common.{[], take, arith}, lemmas.List.{length-take-le, Elements.{All-take, All-get_or}}}
+use Rattle.pv_screen.proofs.{Vocabulary.IsRow, Bytes.{length-lines-le, length-shown-le}}
 use Rattle.pv_fields.proofs.CallerLemmas.{appends_then}
-use Rattle.pv_screen.proofs.Bytes.{length-lines-le, length-shown-le}
 use Rattle.pv_screen.proofs.painting.put_screen.Goals as goal
 
 pub put_row-requires : goal.put_row-requires

@@ -1,9 +1,5 @@
-use Rattle.std.proofs.Common.{◌+◌, ◌-◌, ap, lit≤, sym, arith, ◌∙◌}
-use Rattle.std.specs.List.{suffix_len}
-use Rattle.std.proofs.lemmas.Bool.{eqb-true}
-use Rattle.std.proofs.lemmas.List.{take_all}
-use Rattle.pv_screen.specs.Painting.{is_space}
-use Rattle.pv_screen.proofs.Spaces.{part_passes, skip}
+use Rattle.std.{proofs.{Common.{◌+◌, ◌-◌, ap, lit≤, sym, arith, ◌∙◌}, lemmas.{Bool.eqb-true, List.take_all}}, specs.List.suffix_len}
+use Rattle.pv_screen.{specs.Painting.is_space, proofs.Spaces.{part_passes, skip}}
 use Rattle.pv_screen.proofs.painting.shown_cells.Goals as goal
 
 pub loop-count-init : goal.loop-count-init

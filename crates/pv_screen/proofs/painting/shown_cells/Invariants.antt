@@ -1,5 +1,4 @@
-use Rattle.std.proofs.Common.{◌≡◌, ◌+◌, ◌≤◌, take}
-use Rattle.std.specs.List.{suffix_len}
+use Rattle.std.{proofs.Common.{◌≡◌, ◌+◌, ◌≤◌, take}, specs.List.suffix_len}
 use Rattle.pv_screen.specs.Painting.{is_space}
 use Rattle.pv_screen.proofs.painting.shown_cells.Given as goal
 

@@ -1,6 +1,5 @@
 use Rattle.std.proofs.Common.{refl, subst, sym}
-use Rattle.pv_screen.proofs.Vocabulary.{IsGrid, blank_grid, HasCells, IsShowable, new_display}
-use Rattle.pv_screen.proofs.Shows.{IsReady-new, IsRow-last}
+use Rattle.pv_screen.proofs.{Vocabulary.{IsGrid, blank_grid, HasCells, IsShowable, new_display}, Shows.{IsReady-new, IsRow-last}}
 use Rattle.pv_screen.proofs.screen.Screen.bytes.Goals as goal
 
 -- a terminal that shows the screen has a grid
