@@ -31,11 +31,13 @@ pub ruleset cells = (
 pub ruleset lines = (common_steps, All-get_or, All-take, appends_then, length-lines-le, length-shown-le, length-take-le)
 
 -- a screen is written, and shown by a terminal
-pub ruleset showing = (
+pub ruleset screen = (common_steps, length-painting-le, painted_ready, painted_shows, slice_after, take_at)
+
+-- a message is written, and shown by a terminal
+pub ruleset text = (
   common_steps,
   appends_then,
   length-cells_bytes-le,
-  length-painting-le,
   message_after_painted,
   message_ready,
   message_shows,
@@ -46,21 +48,10 @@ pub ruleset showing = (
 )
 
 -- row 1 is put together
-pub ruleset row_one = (
-  common_steps,
-  append-nil,
-  appends_then,
-  drop_all,
-  heading_is_row,
-  length-append,
-  length-decimal-le,
-  length-name_text,
-  length-padded_list,
-  length-replicate,
-  price_text_of,
-  slice_after,
-  take-replicate,
-)
+pub ruleset row_one = (common_steps, append-nil, appends_then, drop_all, heading_is_row, length-name_text, length-padded_list, slice_after)
+
+-- a price is put at the end of row 1
+pub ruleset price = (common_steps, appends_then, length-append, length-decimal-le, length-replicate, price_text_of)
 
 -- a frame's parts stand on its screen
 pub ruleset standing = (common_steps, body_stands, name_stands, price_stands, title_stands)

@@ -82,7 +82,7 @@ fn put_name(name: FrameName, out: &mut Out)
 }
 
 /// Appends a price after spaces, so that it ends with the row.
-#[tactic(auto, using(crate::proofs::Steps::row_one))]
+#[tactic(auto, using(crate::proofs::Steps::price))]
 fn put_price(price: u16, out: &mut Out)
     requires price { price ≤ LAST_PRICE }
     requires room { COLUMNS - PRICE_COLUMN ≤ room_of out.old }
@@ -100,7 +100,6 @@ fn put_price(price: u16, out: &mut Out)
 }
 
 /// Appends spaces.
-#[tactic(auto, using(crate::proofs::Steps::row_one))]
 fn put_spaces(count: usize, out: &mut Out)
     requires few { count ≤ COLUMNS }
     requires room { count ≤ room_of out.old }

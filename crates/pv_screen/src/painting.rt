@@ -17,7 +17,7 @@ pub const BUFFER: usize = 2048;
 pub const LONGEST: usize = 1921;
 
 /// Writes the bytes that show `grid` to the beginning of `into`, and returns their number.
-#[tactic(auto, using(crate::proofs::Steps::showing))]
+#[tactic(auto, using(crate::proofs::Steps::screen))]
 pub fn paint(grid: &Grid, into: &mut [u8; BUFFER]) -> usize
     ensures value { take result into.new ≡ painting_of grid.now }
     ensures count { result ≡ length (painting_of grid.now) }
@@ -37,7 +37,7 @@ pub fn paint(grid: &Grid, into: &mut [u8; BUFFER]) -> usize
 }
 
 /// Writes the bytes that put `cells` in row 24 to the beginning of `into`, and returns their number.
-#[tactic(auto, using(crate::proofs::Steps::showing))]
+#[tactic(auto, using(crate::proofs::Steps::text))]
 pub fn message(cells: &[u8; COLUMNS], into: &mut [u8; BUFFER]) -> usize
     ensures value { take result into.new ≡ message_text cells.now }
     ensures count { result ≡ length (message_text cells.now) }

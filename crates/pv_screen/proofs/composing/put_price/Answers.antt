@@ -1,5 +1,5 @@
 use Rattle.std.proofs.{Common.arith, lemmas.{Fmt.length-decimal-le, Grind.common_steps}}
-use Rattle.pv_screen.proofs.Steps.{row_one}
+use Rattle.pv_screen.proofs.Steps.{price}
 use Rattle.pv_screen.proofs.composing.put_price.Goals as goal
 
 -- a price has at most two digits
@@ -7,4 +7,4 @@ pub overflow_sub-digits-2 : goal.overflow_sub-digits-2
 overflow_sub-digits-2 c = grind (arith, common_steps, length-decimal-le 2 c.args.price)
 
 pub put_u8-requires : goal.put_u8-requires
-put_u8-requires c = grind (arith, row_one, length-decimal-le 2 c.args.price)
+put_u8-requires c = grind (arith, price, length-decimal-le 2 c.args.price)
