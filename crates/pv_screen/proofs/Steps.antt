@@ -1,9 +1,8 @@
 -- What each kind of step in the code follows from.
 use Rattle.std.proofs.lemmas.{Fmt.length-decimal-le, Grind.common_steps}
-use Rattle.std.proofs.lemmas.List.{append-nil, drop_all, length-append, length-drop, length-replicate, length-take, length-take-le, take_all, take_at, take-replicate}
+use Rattle.std.proofs.lemmas.List.{length-append, length-drop, length-replicate, length-take, length-take-le, take_all, take_at}
 use Rattle.std.proofs.lemmas.List.{Elements.{All-get_or, All-take}, Sums.AllPass-from_list_all}
-use Rattle.pv_fields.proofs.CallerLemmas.{appends_then, length-padded_list, slice_after}
-use Rattle.pv_page.proofs.CallerLemmas.{length-name_text}
+use Rattle.pv_fields.proofs.CallerLemmas.{appends_then, slice_after}
 use Rattle.pv_screen.proofs.Bytes.{length-cells_bytes-le, length-lines-le, length-painting-le, length-shown-le, line_end_short}
 use Rattle.pv_screen.proofs.{Displays.{IsDisplay-first, IsDisplay-terminal_after}, Grids.IsGrid-blank}
 use Rattle.pv_screen.proofs.Placing.{body_stands, heading_is_row, IsGrid-parts, name_stands, price_stands, price_text_of, title_stands}
@@ -46,9 +45,6 @@ pub ruleset text = (
   slice_after,
   take_at,
 )
-
--- row 1 is put together
-pub ruleset row_one = (common_steps, append-nil, appends_then, drop_all, heading_is_row, length-name_text, length-padded_list, slice_after)
 
 -- a price is put at the end of row 1
 pub ruleset price = (common_steps, appends_then, length-append, length-decimal-le, length-replicate, price_text_of)

@@ -56,7 +56,6 @@ fn heading(frame: &Frame, name: FrameName) -> [u8; COLUMNS]
 }
 
 /// Writes row 1 of a frame's screen.
-#[tactic(auto, using(crate::proofs::Steps::row_one))]
 fn put_heading(frame: &Frame, name: FrameName, row: &mut [u8; COLUMNS])
     requires { HasRanges frame.now }
     ensures value { row.new ≡ heading frame.now name }
