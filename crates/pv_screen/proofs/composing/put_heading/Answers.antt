@@ -15,8 +15,8 @@ returns-clause-row c =
 -- the parts fill the row
 pub returns-clause-value : goal.returns-clause-value
 returns-clause-value c =
-    let all =
-    appends_then (appends_then (appends_then c.put_run.ensures.appends c.put_u8.ensures.appends) c.put_name.ensures.bytes) c.put_price.ensures in
+    let name = appends_then (appends_then c.put_run.ensures.appends c.put_u8.ensures.appends) c.put_name.ensures.bytes in
+    let all = appends_then name c.put_price.ensures in
     let holds = slice_after c.new-out.result c.put_price.new.out _ c.new-out.ensures.empty all in
     let row = returns-clause-row c in
     grind (arith, append-nil, drop_all, holds, row)
