@@ -1,5 +1,5 @@
 -- What each image of a disk spells, over each call of the disk that an append makes, and what both writes make of its text.
-use Rattle.std.proofs.Common.{◌≡◌, ℕ, ◌+◌, ◌<◌, List, [], ◌∷◌, ◌++◌, length, take, drop, Option, Some, None, IfSome, refl, sym, ◌∙◌, ap, subst, arith, append_assoc}
+use Rattle.std.proofs.Common.{◌≡◌, ℕ, ◌+◌, ◌<◌, List, [], ◌∷◌, ◌++◌, length, Option, Some, None, IfSome, refl, ap, append_assoc, rules}
 use Rattle.std.proofs.lemmas.List.{length-take-le, take-append-le, take-take, drop_at}
 use Rattle.std.specs.Option.{option_map}
 use Rattle.pv_outside.specs.Disk.{text_after_write}
@@ -15,36 +15,18 @@ module _ {D : Type 0} (g : reports.Ghosts D) (left : (d : D) → IfSome (g.reads
   pub behind_text : (bytes : List ℕ) → bytes ≡ bytes_after_gate body
       → g.reads new ≡ option_map (text_after_write (gate + 1) bytes) (g.reads old)
       → EachImage g old (λ image. Spells image bodies) → IfSome (g.reads new) (IsStaged bodies body)
-  behind_text bytes same written each =
-      if_map (text_after_write (gate + 1) bytes) (λ text. Spells text bodies) (IsStaged bodies body) (g.reads old) (g.reads new)
-      (λ text spells. subst (λ (l : List ℕ). IsStaged bodies body (text_after_write (gate + 1) l text)) (sym same) (staged bodies (gate + 1) body text (ap (λ (k : ℕ). k + 1) is) spells))
-      written (text_of_each g old (λ image. Spells image bodies) (left old) each)
+  behind_text bytes same written each = search (rules, if_map, staged, text_of_each)
 
   module _ (sized : IsBody body) where
     -- once the write at the gate has succeeded, the disk reads as the longer list
     pub gate_text : g.reads new ≡ option_map (text_after_write gate (1 ∷ [])) (g.reads old) → EachImage g old (IsStaged bodies body)
         → IfSome (g.reads new) (λ text. Spells text (bodies ++ body ∷ []))
-    gate_text written each =
-        if_map (text_after_write gate (1 ∷ [])) (IsStaged bodies body) (λ text. Spells text (bodies ++ body ∷ [])) (g.reads old) (g.reads new)
-        (λ text staged. stored bodies gate body text is sized staged)
-        written (text_of_each g old (IsStaged bodies body) (left old) each)
+    gate_text written each = search (rules, if_map, staged, stored, text_of_each)
 
 -- both writes of an append put the body's block and a closed gate over the gate that was closed, and no other byte
 both_writes : (gate : ℕ) (body bytes text : List ℕ) → bytes ≡ bytes_after_gate body → gate < length text
     → text_after_write gate (1 ∷ []) (text_after_write (gate + 1) bytes text) ≡ text_after_write gate (block body ++ 0 ∷ []) text
-both_writes gate body bytes text same within =
-    let before = take (gate + 1) text in
-    let after = drop (gate + 1 + length bytes) text in
-    let long : length before ≡ gate + 1 = length-take-le (gate + 1) text (omega arith) in
-    let kept : take gate (before ++ bytes ++ after) ≡ take gate text =
-    ap (λ (l : List ℕ). take gate l) (append_assoc before bytes after) ∙ take-append-le gate before (bytes ++ after) (omega (arith, long)) ∙ take-take gate (gate + 1) text (omega arith) in
-    let rest : drop (gate + 1) (before ++ bytes ++ after) ≡ bytes ++ after =
-    ap (λ (l : List ℕ). drop (gate + 1) l) (append_assoc before bytes after) ∙ drop_at before (bytes ++ after) (gate + 1) long in
-    (λ i. kept i ++ (1 ∷ []) ++ rest i)
-    ∙ append_assoc (take gate text) (1 ∷ []) (bytes ++ after)
-    ∙ ap (λ (n : ℕ). take gate text ++ 1 ∷ (bytes ++ drop n text)) (let e : gate + 1 + length bytes ≡ gate + length (1 ∷ bytes) = omega arith in e)
-    ∙ sym (append_assoc (take gate text) (1 ∷ bytes) (drop (gate + length (1 ∷ bytes)) text))
-    ∙ ap (λ (l : List ℕ). text_after_write gate (1 ∷ l) text) same
+both_writes gate body bytes text same within = search (rules, length-take-le, append_assoc, take-append-le, take-take, drop_at)
 
 -- the same of a text that may not be reported
 pub both_written : (old : Option (List ℕ)) (gate : ℕ) (body bytes : List ℕ) → bytes ≡ bytes_after_gate body

@@ -1,5 +1,5 @@
 -- What crates above may cite: a disk that was not called, or that was called in two stretches.
-use Rattle.std.proofs.Common.{◌⊎◌, ⊎_elim, ℕ, ◌+◌, ◌<◌, ◌≤◌, Result, Ok, Err, IsOk, IsErr, ◌∙◌, refl, arith}
+use Rattle.std.proofs.Common.{◌⊎◌, ⊎_elim, ℕ, ◌+◌, ◌<◌, ◌≤◌, refl, arith, rules}
 use Rattle.pv_outside.specs.declared.reports.Reports as reports
 use Rattle.pv_journal.specs.Journal.{HasLeft, Remains, Spends, ReadsOnly, HasMade}
 use Rattle.pv_journal.specs.Log.{count_with_hand}
@@ -14,34 +14,16 @@ module _ {D : Type 0} (g : reports.Ghosts D) where
 
   -- a disk on which nothing was written in either of two stretches remains over both
   pub remains_then : {first second third : D} → Remains g first second → Remains g second third → Remains g first third
-  remains_then a b = record {
-    reads = b.reads ∙ a.reads;
-    images = λ image left. a.images image (b.images image left);
-    time = time_then g a.time (time_weaker g (λ told image left. a.images image left) b.time);
-  }
+  remains_then a b = search (rules, time_then, time_weaker)
 
   -- calls of which fewer succeed, or which fail in more cases, are such calls
   pub spends_most : {n most : ℕ} {F Fails : Type 0} {old new : D} → n ≤ most → (Fails → F) → Spends g n F old new
       → Spends g most Fails old new
-  spends_most le fails a = record {
-    calls = omega (arith, le, a.calls);
-    endless = a.endless;
-    has_room = a.has_room;
-    paid = a.paid;
-    counted = a.counted;
-    failed = λ f. a.failed (fails f);
-  }
+  spends_most le fails a = search rules
 
   -- if no call was made, none was taken
   pub spends_none : {most : ℕ} {Fails : Type 0} (d : D) → (Fails → ⊥) → Spends g most Fails d d
-  spends_none d never = record {
-    calls = omega arith;
-    endless = λ room endless. endless;
-    has_room = λ room has. has;
-    paid = λ n has. (n, has, omega arith);
-    counted = omega arith;
-    failed = λ fails. absurd (never fails);
-  }
+  spends_none d never = search rules
 
   -- two stretches of calls take what both take
   pub spends_then : {n most : ℕ} {F Fails : Type 0} {first second third : D}

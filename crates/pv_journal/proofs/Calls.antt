@@ -1,5 +1,5 @@
 -- What a disk reports of its room and of the calls that are left, over one call of it.
-use Rattle.std.proofs.Common.{◌≡◌, ℕ, zero, suc, ◌+◌, ◌-◌, ◌≤◌, Option, Some, None, IfSome, Result, Ok, Err, IsOk, IsErr, sym, ◌∙◌, ap, subst, arith}
+use Rattle.std.proofs.Common.{◌≡◌, ℕ, zero, suc, ◌+◌, ◌-◌, ◌≤◌, Option, Some, None, IfSome, Result, Ok, Err, IsOk, IsErr, sym, ◌∙◌, ap, subst, arith, rules}
 use Rattle.std.proofs.lemmas.Bool.{false≢true}
 use Rattle.std.specs.Option.{option_map}
 use Rattle.pv_outside.specs.Disk.{Budget, clock_after, budget_after, IsLaterBy, HasCalls, IsEndless, IsSpent, CanCall}
@@ -89,10 +89,7 @@ module _ {D : Type 0} (g : reports.Ghosts D) {T E : Type 0} {pay : Budget → Bu
 
   -- a call that succeeds was made
   pub made_call : {size : ℕ} {Can : Option Budget → Type 0} → IsCall g size pay Can old new r → IsOk r → HasMade g 1 old new
-  made_call call ok = record {
-    clock = passed_after r (g.clock old) (g.clock new) call.clock ok;
-    left = left_after r pay pays (g.budget old) (g.budget new) call.budget call.spent ok;
-  }
+  made_call call ok = search (rules, passed_after, left_after)
 
   -- a call that writes nothing, whatever it returns
   pub reads_once : WritesNothing g pay old new r → ReadsOnly g 1 (IsErr r) old new

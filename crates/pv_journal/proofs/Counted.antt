@@ -1,5 +1,5 @@
 -- What a journal has counted, and the byte at its gate.
-use Rattle.std.proofs.Common.{◌≡◌, ◌≢◌, inl, inr, ℕ, ◌+◌, List, [], ◌∷◌, ◌++◌, length, get_or, drop, refl, sym, ◌∙◌, ap, arith, append_assoc, length-append}
+use Rattle.std.proofs.Common.{◌≡◌, ◌≢◌, inl, inr, ℕ, ◌+◌, List, [], ◌∷◌, ◌++◌, length, get_or, drop, sym, ◌∙◌, ap, arith, append_assoc, length-append, rules}
 use Rattle.std.proofs.lemmas.List.{get_or_at, drop_at, flat_map_more, length_push}
 use Rattle.std.proofs.lemmas.List.Elements.{All-push}
 use Rattle.std.specs.Int.{w16, to_be_bytes}
@@ -26,17 +26,12 @@ length-text_of-push bodies body =
 -- at the place after the blocks of the bodies that a text spells stands its closed gate
 pub gate_byte : (bodies : List (List ℕ)) (text : List ℕ) (spells : Spells text bodies)
     → get_or text (length (text_of bodies)) 0 ≡ spells.gate
-gate_byte bodies text spells =
-    ap (λ (l : List ℕ). get_or l (length (text_of bodies)) 0) spells.text
-    ∙ get_or_at (text_of bodies) spells.gate spells.rest 0 (length (text_of bodies)) refl
+gate_byte bodies text spells = search (rules, get_or_at)
 
 -- if a text spells a further body, the gate before that body is open
 pub open_byte : (bodies : List (List ℕ)) (body text : List ℕ) → Spells text (bodies ++ body ∷ [])
     → get_or text (length (text_of bodies)) 0 ≡ 1
-open_byte bodies body text spells =
-    ap (λ (l : List ℕ). get_or l (length (text_of bodies)) 0)
-    (spells.text ∙ ap (λ (l : List ℕ). l ++ spells.gate ∷ spells.rest) (text_of-push bodies body) ∙ append_assoc (text_of bodies) (block body) (spells.gate ∷ spells.rest))
-    ∙ get_or_at (text_of bodies) 1 (to_be_bytes w16 (length body) ++ body ++ spells.gate ∷ spells.rest) 0 (length (text_of bodies)) refl
+open_byte bodies body text spells = search (rules, text_of-push, append_assoc, get_or_at)
 
 -- of the list without a body and the one with it, a text whose gate is open spells the one with it
 pub is_stored : (bodies : List (List ℕ)) (body text : List ℕ) → get_or text (length (text_of bodies)) 0 ≡ 1

@@ -1,5 +1,5 @@
 -- What a crash may leave in each of the two writes of an append.
-use Rattle.std.proofs.Common.{◌≡◌, ◌≢◌, inl, inr, ℕ, suc, ◌+◌, ◌<◌, ◌≤◌, List, [], ◌∷◌, ◌++◌, length, get_or, take, drop, refl, sym, ◌∙◌, ap, subst, arith, All, append_assoc, length-append}
+use Rattle.std.proofs.Common.{◌≡◌, ◌≢◌, inl, inr, ℕ, suc, ◌+◌, ◌<◌, ◌≤◌, List, [], ◌∷◌, ◌++◌, length, get_or, take, drop, refl, sym, ◌∙◌, ap, subst, arith, All, append_assoc, length-append, rules}
 use Rattle.std.proofs.lemmas.List.{take_at, drop_at, drop_more, flat_map_more, get_or_append_left, get_or-append-add, length-drop, get_or-drop}
 use Rattle.std.proofs.lemmas.List.Elements.{All-push}
 use Rattle.std.proofs.lemmas.Bool.{cases_eq}
@@ -20,9 +20,7 @@ begins_with (x ∷ xs) (y ∷ ys) le same =
 
 -- what lies before the range of a torn write stands
 keeps_front : (xs ys c : List ℕ) (at n : ℕ) → length xs ≤ at → Torn at n (xs ++ ys) c → c ≡ xs ++ drop (length xs) c
-keeps_front xs ys c at n before torn =
-    begins_with xs c (omega (arith, torn.no_shorter, length-append xs ys)) (λ i h.
-    torn.outside i (omega (arith, length-append xs ys)) (inl (omega arith)) ∙ get_or_append_left xs ys 0 i h)
+keeps_front xs ys c at n before torn = search (rules, begins_with, length-append, get_or_append_left)
 
 -- a torn write of one byte leaves all other bytes up to the old end, whatever is at that place and past the end
 keeps_back : (xs ys c : List ℕ) (g : ℕ) → Torn (length xs) 1 (xs ++ g ∷ ys) c

@@ -1,7 +1,6 @@
 -- Which bytes are at the gates of a disk over the writes of an append.
-use Rattle.std.proofs.Common.{◌≡◌, inl, inr, ℕ, ◌+◌, ◌-◌, ◌≤◌, List, [], ◌∷◌, ◌++◌, length, get_or, sym, ◌∙◌, ap, arith, length-append}
+use Rattle.std.proofs.Common.{◌≡◌, inl, inr, ℕ, ◌+◌, ◌≤◌, List, [], ◌∷◌, length, get_or, sym, ◌∙◌, ap, arith, length-append, rules}
 use Rattle.std.proofs.lemmas.List.{get_or-append_right}
-use Rattle.std.specs.Int.{w16, to_be_bytes}
 use Rattle.pv_outside.specs.Disk.{Torn, text_after_write}
 use Rattle.pv_outside.proofs.CallerLemmas.{length-text_after_write, stands, inside}
 use Rattle.pv_journal.specs.Text.{bytes_after_gate, HasClosedGate, MayHaveBody}
@@ -14,9 +13,7 @@ pub record IsBehind (gate size : ℕ) (text : List ℕ) : Type 0 where
 
 -- the last byte that is written after a gate to append a body is a closed gate
 last_is_closed : (body : List ℕ) → get_or (bytes_after_gate body) (length body + 2) 0 ≡ 0
-last_is_closed body =
-    get_or-append_right (to_be_bytes w16 (length body) ++ body) (0 ∷ []) (length body + 2) (length body + 2) 0 (omega (arith, length-append (to_be_bytes w16 (length body)) body)) (omega arith)
-    ∙ ap (λ (n : ℕ). get_or (0 ∷ []) n 0) (let e : length body + 2 - (length body + 2) ≡ 0 = omega arith in e)
+last_is_closed body = search (rules, get_or-append_right, length-append)
 
 -- the first write of an append, if it succeeds, leaves the gate closed and a closed one after the body
 pub behind_written : (gate : ℕ) (body bytes text : List ℕ) → bytes ≡ bytes_after_gate body → HasClosedGate gate text
@@ -37,10 +34,7 @@ behind_written gate body bytes text is closed =
 
 -- a write at the gate, if it fails, leaves a gate after which the body may be in hand
 pub behind_torn : (gate size : ℕ) (old new : List ℕ) → IsBehind gate size old → Torn gate 1 old new → MayHaveBody gate size new
-behind_torn gate size old new behind torn = (
-  omega (arith, behind.here.0, torn.no_shorter),
-  λ e. (omega (arith, behind.next.0, torn.no_shorter), λ f. behind.next.1 (sym (torn.outside (gate + size + 3) behind.next.0 (inr (omega arith))) ∙ f)),
-)
+behind_torn gate size old new behind torn = grind arith
 
 -- once the gate was opened, the one after the body is still closed
 pub behind_opened : (gate size : ℕ) (text : List ℕ) → IsBehind gate size text

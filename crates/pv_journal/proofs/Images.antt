@@ -1,5 +1,5 @@
 -- How what each image of a disk has goes on over one call of the disk.
-use Rattle.std.proofs.Common.{◌≡◌, ℕ, List, length, Option, Some, None, IsSome, IfSome, Result, Ok, Err, IsOk, OnOk, OnErr, sym, subst, refl}
+use Rattle.std.proofs.Common.{◌≡◌, ℕ, List, length, Option, Some, None, IsSome, IfSome, Result, Ok, Err, OnOk, OnErr, sym, subst, refl}
 use Rattle.std.specs.Option.{option_map, ForSome}
 use Rattle.pv_outside.specs.Disk.{Torn, text_after_write, NoMore, Turns}
 use Rattle.pv_outside.specs.Calls.{WritesAt}

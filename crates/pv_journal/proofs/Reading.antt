@@ -1,5 +1,5 @@
 -- What the bytes at a gate stand for.
-use Rattle.std.proofs.Common.{◌≡◌, inl, inr, min, replicate, ℕ, zero, suc, ◌+◌, ◌-◌, ◌*◌, ◌<◌, ◌≤◌, List, [], ◌∷◌, ◌++◌, length, get_or, take, drop, refl, sym, ◌∙◌, ap, arith, take-append-drop, append_assoc, ◌⊎◌, ⊎_elim, subst}
+use Rattle.std.proofs.Common.{◌≡◌, inl, inr, min, replicate, ℕ, zero, suc, ◌+◌, ◌-◌, ◌*◌, ◌<◌, ◌≤◌, List, [], ◌∷◌, ◌++◌, length, get_or, take, drop, refl, sym, ◌∙◌, ap, arith, take-append-drop, append_assoc, ◌⊎◌, ⊎_elim, subst, rules}
 use Rattle.std.proofs.lemmas.List.{length-take-le, length-take, length-drop, take_min, take_at, take-append-le, take_all, take-replicate, drop-replicate, append-nil, get_or-take, get_or-append_right, get_or-replicate}
 use Rattle.std.proofs.Math.Seq.{take-append-add}
 use Rattle.std.proofs.lemmas.Nat.{be_bytes_2}
@@ -40,15 +40,7 @@ has_block (gate ∷ b ∷ c ∷ rest) size long open_gate is high low some most 
 
 -- a disk that begins with the mark, filled up or not, begins with it
 pub marked : (text : List ℕ) → first_eight text ≡ MARK → text ≡ MARK ++ drop 8 text
-marked text same = elim (cases_lt (length text) 8) [
-  | inl short ↦
-      let last : get_or (first_eight text) 7 0 ≡ 0 =
-      get_or-take 8 (text ++ replicate 8 0) 7 0 (omega arith)
-      ∙ get_or-append_right text (replicate 8 0) (length text) 7 0 refl (omega arith)
-      ∙ get_or-replicate 8 (7 - length text) 0 0 (omega arith) in
-      absurd (omega (arith, last, ap (λ (l : List ℕ). get_or l 7 0) same))
-  | inr long ↦ sym (take-append-drop 8 text) ∙ ap (λ (l : List ℕ). l ++ drop 8 text) (sym (take-append-le 8 text (replicate 8 0) long) ∙ same)
-]
+marked text same = search (rules, cases_lt, get_or-take, get_or-append_right, get_or-replicate, take-append-drop, take-append-le)
 
 -- what a read puts over eight zeros are the first eight bytes
 pub first_read : (text into : List ℕ) (held : ℕ) → held ≡ min (length text) 8 → into ≡ take held text
@@ -128,6 +120,4 @@ block_at bytes rest body size is same has =
 -- what was copied out of a block is its body
 pub copied : (into rest bytes : List ℕ) (size : ℕ) → into ≡ slice_range bytes 3 (3 + size) → length (take size (drop 3 bytes)) ≡ size
     → take size (into ++ rest) ≡ take size (drop 3 bytes)
-copied into rest bytes size copy whole =
-    let same : into ≡ take size (drop 3 bytes) = copy ∙ ap (λ (k : ℕ). take k (drop 3 bytes)) (let e : 3 + size - 3 ≡ size = omega arith in e) in
-    take_at into rest size (ap length same ∙ whole) ∙ same
+copied into rest bytes size copy whole = search (rules, take_at)

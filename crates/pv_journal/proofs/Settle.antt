@@ -1,5 +1,5 @@
 -- What a sync and a look at the gate report of the body in hand.
-use Rattle.std.proofs.Common.{◌≡◌, ◌≢◌, ℕ, ◌+◌, ◌-◌, List, [], ◌∷◌, ◌++◌, length, get_or, drop, IfSome, sym, ◌∙◌, ap, arith}
+use Rattle.std.proofs.Common.{◌≡◌, ◌≢◌, ℕ, ◌+◌, List, [], ◌∷◌, ◌++◌, length, get_or, IfSome, sym, ◌∙◌, ap, rules}
 use Rattle.std.specs.List.{slice_range}
 use Rattle.std.proofs.lemmas.List.{get_or-take, get_or-drop}
 use Rattle.pv_outside.specs.Disk.{NoMore}
@@ -11,9 +11,7 @@ use Rattle.pv_journal.proofs.Images.{if_both, text_of_each, each_kept, each_sync
 
 -- a read of one byte gives the byte at that place
 byte_read : (text into : List ℕ) (at : ℕ) → into ≡ slice_range text at (at + 1) → get_or into 0 0 ≡ get_or text at 0
-byte_read text into at read =
-    ap (λ (l : List ℕ). get_or l 0 0) read ∙ get_or-take (at + 1 - at) (drop at text) 0 0 (omega arith) ∙ get_or-drop at text 0 0
-    ∙ ap (λ (n : ℕ). get_or text n 0) (let e : at + 0 ≡ at = omega arith in e)
+byte_read text into at read = search (rules, get_or-take, get_or-drop)
 
 module _ {D : Type 0} (g : reports.Ghosts D) (left : (d : D) → IfSome (g.reads d) (g.may_leave d)) (old synced now : D) (gate : ℕ)
     (into : List ℕ) (bodies : List (List ℕ)) (body : List ℕ) (is : gate ≡ length (text_of bodies))
@@ -21,9 +19,7 @@ module _ {D : Type 0} (g : reports.Ghosts D) (left : (d : D) → IfSome (g.reads
     (read : IfSome (g.reads synced) (λ text. into ≡ slice_range text gate (gate + 1))) (same_now : g.reads now ≡ g.reads synced) (no_more_now : NoMore (g.may_leave synced) (g.may_leave now)) where
   -- after the sync the disk reads as the list without the body in hand or with it
   either : IfSome (g.reads synced) (SpellsEither bodies (body ∷ []))
-  either =
-      text_of_each g synced (SpellsEither bodies (body ∷ [])) (left synced)
-      (each_kept g old synced (SpellsEither bodies (body ∷ [])) same no_more each)
+  either = search (rules, text_of_each, each_kept)
 
   -- the byte that was read is the one at the gate
   byte : (text : List ℕ) → into ≡ slice_range text gate (gate + 1) → get_or text (length (text_of bodies)) 0 ≡ get_or into 0 0
@@ -31,14 +27,8 @@ module _ {D : Type 0} (g : reports.Ghosts D) (left : (d : D) → IfSome (g.reads
 
   -- if the gate that was read is open, each image of the disk spells the list with the body in hand
   pub found_stored : get_or into 0 0 ≡ 1 → EachImage g now (λ image. Spells image (bodies ++ body ∷ []))
-  found_stored is_open =
-      each_kept g synced now (λ image. Spells image (bodies ++ body ∷ [])) same_now no_more_now
-      (each_synced g synced (λ image. Spells image (bodies ++ body ∷ [])) durable
-      (if_both (g.reads synced) _ _ (λ text. Spells text (bodies ++ body ∷ [])) (λ text spells here. is_stored bodies body text (byte text here ∙ is_open) spells) either read))
+  found_stored is_open = search (rules, each_kept, each_synced, if_both, is_stored, byte, either)
 
   -- if it is not, each image spells the list without it
   pub found_dropped : get_or into 0 0 ≢ 1 → EachImage g now (λ image. Spells image bodies)
-  found_dropped shut =
-      each_kept g synced now (λ image. Spells image bodies) same_now no_more_now
-      (each_synced g synced (λ image. Spells image bodies) durable
-      (if_both (g.reads synced) _ _ (λ text. Spells text bodies) (λ text spells here. is_dropped bodies body text (λ e. shut (sym (byte text here) ∙ e)) spells) either read))
+  found_dropped shut = search (rules, each_kept, each_synced, if_both, is_dropped, byte, either)

@@ -1,5 +1,5 @@
 -- What a disk in memory reports of its past, over one call.
-use Rattle.std.proofs.Common.{◌≡◌, ◌⊎◌, inl, inr, ⊎_elim, ℕ, suc, ◌+◌, ◌-◌, ◌<◌, ◌≤◌, min, Bool, List, [], ◌∷◌, length, take, sym, ◌∙◌, ap, subst, arith, if◌then◌else◌}
+use Rattle.std.proofs.Common.{◌≡◌, ◌⊎◌, inl, inr, ⊎_elim, ℕ, suc, ◌+◌, ◌-◌, ◌<◌, ◌≤◌, min, Bool, List, [], ◌∷◌, length, take, sym, ◌∙◌, ap, subst, arith, if◌then◌else◌, rules}
 use Rattle.std.proofs.lemmas.Bool.{cases_lt, lt-ltb, le-ltb}
 use Rattle.std.proofs.lemmas.List.{length-take, take-take}
 use Rattle.pv_outside.specs.declared.failed.TheConstants.{COUNT_END}
@@ -9,13 +9,7 @@ use Rattle.pv_memory.specs.Medium.{Medium, Moment, moment_of, IsImage, LeftIn, I
 
 -- a time is forgotten, or the clock counts and all moments since then are known
 is_known : (m : Medium) (t : ℕ) → IsTooFarBack m t ⊎ ((m.clock < COUNT_END) × (m.clock ≤ t + length m.past))
-is_known m t = elim (cases_lt m.clock COUNT_END) [
-  | inl counts ↦ elim (cases_lt (t + length m.past) m.clock) [
-    | inl far ↦ inl (inr far)
-    | inr near ↦ inr (counts, near)
-  ]
-  | inr ended ↦ inl (inl ended)
-]
+is_known m t = grind arith
 
 -- A call that succeeded, and wrote `size` bytes.
 module _ (size : ℕ) (old new : Medium) (clock : new.clock ≡ min (old.clock + 1) COUNT_END) (past : new.past ≡ past_after size old) where
@@ -35,10 +29,7 @@ module _ (size : ℕ) (old new : Medium) (clock : new.clock ≡ min (old.clock +
   module _ (t : ℕ) (le : t ≤ old.clock) (counts : new.clock < COUNT_END) (near : new.clock ≤ t + length new.past) where
     -- the call wrote little
     small : size ≤ KEPT_BYTES
-    small = elim (cases_lt KEPT_BYTES size) [
-      | inl large ↦ absurd (omega (arith, length_large large))
-      | inr little ↦ little
-    ]
+    small = grind arith
 
     -- the moments since then are that before this call, and those that were known before it
     known : take (new.clock - t) new.past ≡ moment_of old ∷ take (old.clock - t) old.past
@@ -72,10 +63,7 @@ module _ (size : ℕ) (old new : Medium) (clock : new.clock ≡ min (old.clock +
 
   -- what a crash might have left before this call still counts afterwards
   keeps : (t : ℕ) (image : List ℕ) → t ≤ old.clock → LeftSince old t image → LeftSince new t image
-  keeps t image le left = elim (is_known new t) [
-    | inl forgotten ↦ inl forgotten
-    | inr known ↦ still_left t le known.0 known.1 image left
-  ]
+  keeps t image le left = search (rules, is_known, known, still_left)
 
   -- a call forgets a time only if more than eight calls have succeeded since, or if the call wrote much
   forgets : (t : ℕ) → t ≤ old.clock → IsTooFarBack new t → IsTooFarBack old t ⊎ (IsLaterBy (KEPT_CALLS + 1) t new.clock ⊎ (KEPT_BYTES < size))

@@ -1,5 +1,5 @@
 -- The changes of the last calls, and the moments before them.
-use Rattle.std.proofs.Common.{◌≡◌, inl, inr, ℕ, zero, suc, Bool, true, false, nat_lt, if◌then◌else◌, ◌+◌, ◌≤◌, min, List, [], ◌∷◌, ◌++◌, length, take, drop, set, refl, sym, ◌∙◌, ap, arith}
+use Rattle.std.proofs.Common.{◌≡◌, ℕ, zero, suc, Bool, true, false, nat_lt, if◌then◌else◌, ◌+◌, ◌≤◌, min, List, [], ◌∷◌, ◌++◌, length, take, drop, set, refl, ◌∙◌, ap, arith, rules}
 use Rattle.std.proofs.lemmas.List.{take-take, take_all, length-take, length-drop}
 use Rattle.std.proofs.lemmas.Bool.{cases_lt}
 use Rattle.pv_outside.specs.declared.disk.TheConstants.{KEPT_BYTES, KEPT_CALLS}
@@ -20,25 +20,13 @@ over_last x xs n size = over_one x (drop n xs) (take n xs) (omega (arith, length
 -- the limit
 known_more : {X : Type 0} (x : X) (xs : List X) (known n : ℕ) → known ≤ n + 1
     → take (min (known + 1) (n + 1)) (x ∷ take n xs) ≡ take (n + 1) (x ∷ take known xs)
-known_more x xs known n le =
-    let more : min (known + 1) (n + 1) ≡ suc (min known n) = omega arith in
-    let limit : n + 1 ≡ suc n = omega arith in
-    let left : take (min known n) (take n xs) ≡ take (min known n) xs = take-take (min known n) n xs (omega arith) in
-    let right : take n (take known xs) ≡ take (min known n) xs = elim (cases_lt known n) [
-      | inl few ↦ take_all n (take known xs) (omega (arith, length-take known xs)) ∙ ap (λ (k : ℕ). take k xs) (let e : known ≡ min known n = omega arith in e)
-      | inr many ↦ take-take n known xs many ∙ ap (λ (k : ℕ). take k xs) (let e : n ≡ min known n = omega arith in e)
-    ] in
-    ap (λ (k : ℕ). take k (x ∷ take n xs)) more ∙ ap (λ (l : List _). x ∷ l) (left ∙ sym right) ∙ ap (λ (k : ℕ). take k (x ∷ take known xs)) (sym limit)
+known_more x xs known n le = search (rules, take-take, cases_lt, take_all, length-take)
 
 -- the ring of changes keeps, of those that were known, as many as the limit leaves, after the one of this call
 pub kept : {X : Type 0} (x : X) (xs rotated : List X) (known known_now n : ℕ) → length xs ≡ n + 1 → known ≤ n + 1
     → known_now ≡ min (known + 1) (n + 1) → rotated ≡ drop n xs ++ take n xs
     → take known_now (set rotated 0 x) ≡ take (n + 1) (x ∷ take known xs)
-kept x xs rotated known known_now n size le now is =
-    ap (λ (k : ℕ). take k (set rotated 0 x)) now
-    ∙ ap (λ (l : List _). take (min (known + 1) (n + 1)) (set l 0 x)) is
-    ∙ ap (λ (l : List _). take (min (known + 1) (n + 1)) l) (over_last x xs n size)
-    ∙ known_more x xs known n le
+kept x xs rotated known known_now n size le now is = search (rules, over_last, known_more)
 
 -- the moments before the first of some changes are the first moments before them
 moments_take : (text : List ℕ) (n : ℕ) (changes : List Change) → moments_before text (take n changes) ≡ take n (moments_before text changes)

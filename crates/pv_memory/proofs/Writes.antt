@@ -1,11 +1,11 @@
 -- What a write does to the bytes of a disk, and to the images that a crash may leave.
-use Rattle.std.proofs.Common.{◌≡◌, ◌⊎◌, inl, inr, ℕ, ◌+◌, ◌-◌, ◌<◌, ◌≤◌, Bool, true, false, ◌&&◌, ◌||◌, List, [], ◌∷◌, ◌++◌, length, get_or, take, drop, map, refl, sym, ◌∙◌, ap, subst, arith, nat_le, nat_lt, if◌then◌else◌, length-append, append_assoc, take-append-drop}
+use Rattle.std.proofs.Common.{◌≡◌, ◌⊎◌, inl, inr, ℕ, ◌+◌, ◌-◌, ◌<◌, ◌≤◌, Bool, true, false, ◌&&◌, ◌||◌, List, [], ◌∷◌, ◌++◌, length, get_or, take, drop, map, refl, sym, ◌∙◌, ap, subst, arith, nat_le, nat_lt, if◌then◌else◌, length-append, append_assoc, take-append-drop, rules}
 use Rattle.std.specs.List.{range_with_len}
 use Rattle.std.proofs.lemmas.List.{take_at, drop_at, drop-drop, nil_from_length}
 use Rattle.std.proofs.lemmas.List.FromFn.{length-map-range_with_len, get_or-map-range_with_len}
 use Rattle.std.proofs.lemmas.List.Folds.{list_any-append}
 use Rattle.std.proofs.lemmas.List.Elements.{All-push}
-use Rattle.std.proofs.lemmas.Bool.{cases_lt, lt-leb, le-leb, le-ltb, lt-ltb, true≢false, or_parts, or_from}
+use Rattle.std.proofs.lemmas.Bool.{cases_lt, lt-leb, le-ltb, or_parts, or_from}
 use Rattle.std.proofs.Math.Bool.{and-false}
 use Rattle.pv_outside.specs.Disk.{Torn, text_after_write, Follows}
 use Rattle.pv_outside.specs.declared.disk.TheConstants.{MAX_UNSYNCED}
@@ -28,13 +28,7 @@ module _ (at : ℕ) (bytes text : List ℕ) (within : at ≤ length text) where
 
 -- a place that is not within a range lies before it or after it
 outside : (range : Range) (k : ℕ) → is_within range k ≡ false → (k < range.at) ⊎ (range.at + range.size ≤ k)
-outside range k out = elim (cases_lt k range.at) [
-  | inl before ↦ inl before
-  | inr from ↦ elim (cases_lt k (range.at + range.size)) [
-    | inl inside ↦ absurd (true≢false (sym (ap (λ (b : Bool). b && nat_lt k (range.at + range.size)) (le-leb range.at k from) ∙ lt-ltb k (range.at + range.size) inside) ∙ out))
-    | inr behind ↦ inr behind
-  ]
-]
+outside range k out = grind arith
 
 -- a place that lies before a range or after it is not within it
 is_outside : (range : Range) (k : ℕ) → (k < range.at) ⊎ (range.at + range.size ≤ k) → is_within range k ≡ false
@@ -49,9 +43,7 @@ pending_push pending range k = list_any-append (λ r. is_within r k) pending (ra
 -- a place that is not pending after a write was not pending before, and does not lie in its range
 not_in_push : (pending : List Range) (range : Range) (k : ℕ) → is_pending (pending ++ range ∷ []) k ≡ false
     → (is_pending pending k ≡ false) × (is_within range k ≡ false)
-not_in_push pending range k out =
-    let parts = or_parts (is_pending pending k) (is_within range k || false) (sym (pending_push pending range k) ∙ out) in
-    (parts.0, (or_parts (is_within range k) false parts.1).0)
+not_in_push pending range k out = search (rules, or_parts, pending_push)
 
 -- a place that was not pending, and does not lie in the range of a write, is not pending after it
 in_neither : (pending : List Range) (range : Range) (k : ℕ) → is_pending pending k ≡ false → is_within range k ≡ false

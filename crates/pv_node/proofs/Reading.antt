@@ -1,5 +1,5 @@
 -- Records that are read from a journal into a state.
-use Rattle.std.proofs.Common.{◌≡◌, ℕ, ◌+◌, ◌<◌, ◌≤◌, List, [], ◌∷◌, ◌++◌, length, map, drop, All, Err, refl, sym, ◌∙◌, ap, subst, arith, append_assoc}
+use Rattle.std.proofs.Common.{◌≡◌, ℕ, ◌+◌, ◌<◌, ◌≤◌, List, [], ◌∷◌, ◌++◌, length, map, drop, Err, refl, sym, ◌∙◌, ap, subst, arith, append_assoc, rules}
 use Rattle.std.proofs.lemmas.List.{map_push, map-append, append-nil, length-append, length-map}
 use Rattle.std.proofs.lemmas.List.Elements.{All-push}
 use Rattle.pv_outside.specs.declared.reports.Reports as reports
@@ -59,20 +59,13 @@ module _ {S State Request Rec Reply D : Type 0} (r : rules.Ghosts S State Reques
       (disk : D) (records more : List Rec) (rec : Rec) (body : List ℕ) (others : List (List ℕ)) → DiskStands r d disk (records ++ more)
       → map r.spelling more ≡ body ∷ others
       → r.is_record rec → r.spelling rec ≡ body → (rest : List Rec) × (more ≡ rec ∷ rest)
-  next_is one_meaning disk records more rec body others stands e is spelled =
-      let f = first_of r.spelling more body others e in
-      let all : All r.is_record (records ++ f.0 ∷ f.1) = subst (λ (l : List Rec). All r.is_record (records ++ l)) f.2 stands.2.each in
-      let same : f.0 ≡ rec = one_meaning f.0 rec (all_at r.is_record records f.0 f.1 all) is (f.3 ∙ sym spelled) in
-      (f.1, f.2 ∙ ap (λ (x : Rec). x ∷ f.1) same)
+  next_is one_meaning disk records more rec body others stands e is spelled = search (rules, first_of, all_at)
 
   -- if a disk stands for those that were read and for more, the next body is the spelling of a record that has room
   pub next_fits : (disk : D) (state : State) (records more : List Rec) (body : List ℕ) (others : List (List ℕ)) → r.stands state records
       → DiskStands r d disk (records ++ more) → EachHasRoom r (r.limits_of state) (records ++ more) → map r.spelling more ≡ body ∷ others
       → (rec : Rec) × r.is_record rec × (r.spelling rec ≡ body) × r.fits state rec
-  next_fits disk state records more body others stood stands room e =
-      let f = first_of r.spelling more body others e in
-      let all : All r.is_record (records ++ f.0 ∷ f.1) = subst (λ (l : List Rec). All r.is_record (records ++ l)) f.2 stands.2.each in
-      (f.0, all_at r.is_record records f.0 f.1 all, f.3, room records f.1 f.0 state (ap (λ (l : List Rec). records ++ l) f.2) stood refl)
+  next_fits disk state records more body others stood stands room e = search (rules, first_of, all_at)
 
   -- on a disk that stands for records within the limit, a fault of the journal's reading is a failure of the disk
   pub only_outside : {F : Type 0} (old : Log D) (state : State) (records more : List Rec) (into : List ℕ) (fault : OpenFault D F)

@@ -1,5 +1,5 @@
 -- That each record of a list has room, once one more is there.
-use Rattle.std.proofs.Common.{◌≡◌, ◌⊎◌, inl, inr, ◌<◌, List, [], ◌∷◌, ◌++◌, length, get_or, drop, refl, sym, ◌∙◌, ap, subst, arith, length-append}
+use Rattle.std.proofs.Common.{◌≡◌, ◌⊎◌, inl, inr, ◌<◌, List, [], ◌∷◌, ◌++◌, length, get_or, drop, refl, sym, ◌∙◌, ap, arith, length-append, rules}
 use Rattle.std.proofs.lemmas.List.{length_push}
 use Rattle.pv_outside.specs.declared.limits.Limits.{Limits}
 use Rattle.pv_node.specs.declared.rules.Rules as rules
@@ -32,19 +32,8 @@ module _ {S State Request Rec Reply : Type 0} (r : rules.Ghosts S State Request 
       (limits : Limits) (state : State) (records : List Rec) (rec : Rec) → Meets r limits records → r.stands state records
       → r.limits_of state ≡ limits → r.fits state rec → length records < limits.records
       → Meets r limits (records ++ rec ∷ [])
-  meets_more same_room limits state records rec meets stands is_limit fits below = record {
-    count = omega (arith, below, length_push records rec);
-    room = λ before behind x other e other_stands other_limit. elim (of_push records rec before x behind e) [
-      | inl last ↦
-          let stood : r.stands other records = subst (λ (l : List Rec). r.stands other l) last.0 other_stands in
-          subst (λ (y : Rec). r.fits other y) (sym last.1) (same_room state other records rec stands stood (is_limit ∙ sym other_limit) fits)
-      | inr there ↦ meets.room before there.0 x other there.1 other_stands other_limit
-    ];
-  }
+  meets_more same_room limits state records rec meets stands is_limit fits below = search (rules, length_push, of_push)
 
   -- no records meet any limits
   pub meets_none : (limits : Limits) → Meets r limits []
-  meets_none limits = record {
-    count = omega arith;
-    room = λ before behind x state e. absurd (not_empty before x behind e);
-  }
+  meets_none limits = search (rules, not_empty)

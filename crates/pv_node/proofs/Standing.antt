@@ -1,16 +1,16 @@
 -- Which records a node stands for, once it has stored one more.
-use Rattle.std.proofs.Common.{◌≡◌, ℕ, ◌<◌, List, [], ◌∷◌, ◌++◌, length, map, All, Option, None, Some, refl, sym, ◌∙◌, ap, subst, arith, ◌⊎◌, inl, inr}
+use Rattle.std.proofs.Common.{◌≡◌, ℕ, ◌<◌, List, [], ◌∷◌, ◌++◌, length, map, All, Option, None, Some, refl, sym, ◌∙◌, ap, subst, arith, ◌⊎◌, inl, inr, rules}
 use Rattle.std.proofs.lemmas.List.{map_push, length-map}
 use Rattle.std.proofs.lemmas.Option.{none-some}
 use Rattle.std.proofs.lemmas.List.Elements.{All-push}
 use Rattle.pv_outside.specs.declared.reports.Reports as reports
 use Rattle.pv_journal.specs.Log.{Log}
-use Rattle.pv_journal.specs.Journal.{EachImage, LeavesOnly, Holds, HoldsInHand}
+use Rattle.pv_journal.specs.Journal.{LeavesOnly, Holds, HoldsInHand}
 use Rattle.pv_journal.proofs.Moments.{only_weaker}
 use Rattle.pv_journal.specs.Text.{Spells, SpellsEither}
 use Rattle.pv_node.specs.declared.rules.Rules as rules
 use Rattle.pv_node.specs.Parts.{Parts}
-use Rattle.pv_node.specs.Standing.{Stands, StandsEither, Meets, MeetsBoth, Keeps, StandsFor}
+use Rattle.pv_node.specs.Standing.{Stands, Meets, MeetsBoth, Keeps, StandsFor}
 use Rattle.pv_node.proofs.Rooms.{meets_more}
 use Rattle.pv_outside.specs.declared.limits.Limits.{Limits}
 use Rattle.pv_node.specs.Asking.{IsSettled}
@@ -20,14 +20,7 @@ module _ {S State Request Rec Reply D : Type 0} (r : rules.Ghosts S State Reques
   pub stands_at_rest : (log : Log D) (state : State) (records : List Rec) → Holds d log (map r.spelling records) → All r.is_record records
       → Meets r (r.limits_of state) records → r.stands state records
       → StandsFor r d (record { journal = log; state = state; hand = None }) records
-  stands_at_rest log state records holds each meets stood = record {
-    state = stood;
-    count = holds.counted.count ∙ length-map records r.spelling;
-    each = each;
-    meets = meets;
-    journal = holds;
-    images = λ told image left. record { text = holds.images told image left; each = each };
-  }
+  stands_at_rest log state records holds each meets stood = search (rules, length-map)
 
   -- whatever is in hand, the records meet the limits
   pub meets_alone : (limits : Limits) (records : List Rec) (hand : Option Rec) → MeetsBoth r limits records hand → Meets r limits records
@@ -87,15 +80,7 @@ module _ {S State Request Rec Reply D : Type 0} (r : rules.Ghosts S State Reques
       → log.count ≡ old.journal.count
       → HoldsInHand d log (map r.spelling records) (r.spelling rec ∷ []) → r.is_record rec
       → StandsFor r d (record old { journal = log }) records
-  still old log rec records some stands same holds spelled = record {
-    state = stands.state;
-    count = same ∙ stands.count;
-    each = stands.each;
-    meets = stands.meets;
-    journal = subst (λ (h : Option Rec). Keeps r d log records h) (sym some) holds;
-    images = subst (λ (h : Option Rec). EachImage d log.disk (StandsEither r records h)) (sym some)
-        (λ told image left. either records rec stands.each spelled image (holds.images told image left));
-  }
+  still old log rec records some stands same holds spelled = search (rules, either)
 
   -- the journal of a node with nothing in hand holds the spellings of its records
   pub holds_at_rest : (node : Parts D State Rec) (records : List Rec) → StandsFor r d node records → node.hand ≡ None

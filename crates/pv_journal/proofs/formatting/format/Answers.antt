@@ -1,9 +1,9 @@
-use Rattle.std.proofs.Common.{refl, IsErr, arith, rules}
+use Rattle.std.proofs.Common.{refl, IsErr}
 use Rattle.pv_outside.proofs.CallerLemmas.{torn_none}
 use Rattle.pv_journal.specs.Journal.{Spends}
 use Rattle.pv_journal.proofs.Moments.{only_none, only_look, only_then, only_weaker}
 use Rattle.pv_journal.proofs.Calls.{spends_call}
-use Rattle.pv_journal.proofs.CallerLemmas.{spends_most, spends_then}
+use Rattle.pv_journal.proofs.CallerLemmas.{spends_then}
 use Rattle.pv_journal.proofs.formatting.format.Given.{Over}
 use Rattle.pv_journal.proofs.formatting.format.Goals as goal
 use Rattle.pv_journal.proofs.formatting.format.Goals.{After-sync}
@@ -18,10 +18,6 @@ returns-clause-moments g c =
     only_then g.D.Reports
     (only_look g.D.Reports (only_none g.D.Reports g.met.D.Disk.only_now g.met.D.Disk.now_is_known _ _ (λ told image left. (image, left, torn_none _ _ image))) c.sync.ensures.keeps)
     put.time put.now
-
-pub returns-in_err-sync-clause-spends : goal.returns-in_err-sync-clause-spends
-returns-in_err-sync-clause-spends g c =
-    spends_most g.D.Reports (omega arith) (search rules) (spends_sync g (goal.at.returns-in_err-sync-clause-spends g c).After-sync)
 
 pub returns-clause-spends : goal.returns-clause-spends
 returns-clause-spends g c = spends_then g.D.Reports (spends_sync g (goal.at.returns-clause-spends g c).After-sync) c.put.ensures.spends

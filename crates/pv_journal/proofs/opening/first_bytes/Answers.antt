@@ -1,5 +1,4 @@
-use Rattle.std.proofs.Common.{refl, rules, IsErr, ◌≡◌, ℕ, List, arith, IfSome, subst, Option, length, take, ◌∙◌}
-use Rattle.std.proofs.lemmas.Option.{IfSome_then}
+use Rattle.std.proofs.Common.{refl, rules, IsErr, arith}
 use Rattle.std.proofs.lemmas.Grind.{common_steps}
 use Rattle.pv_journal.specs.Journal.{ReadsOnly}
 use Rattle.pv_journal.proofs.Calls.{reads_once, made_call}
@@ -34,12 +33,4 @@ returns-clause-made g c =
     (made_call g.D.Reports (λ b. (refl, refl)) _ _ _ c.read.ensures.keeps.call (search rules))
 
 pub returns-clause-bytes : goal.returns-clause-bytes
-returns-clause-bytes g c =
-    let size : IfSome (g.D.Reports.reads c.args.disk.now) (λ text. c.in_ok-end.end ≡ length text) = search rules in
-    let read : IfSome (g.D.Reports.reads c.args.disk.now) (λ text. c.read.new.into ≡ take c.min-held.result text) =
-    subst (λ (o : Option (List ℕ)). IfSome o (λ text. c.read.new.into ≡ take c.min-held.result text)) (c.len.ensures.keeps.reads ∙ c.sync.ensures.keeps.reads)
-    (IfSome_then _ c.in_ok-read.ensures.bytes (λ text r. let t : c.read.new.into ≡ take c.min-held.result text = grind (
-      arith,
-      common_steps,
-    ) in t)) in
-    if_both _ _ _ _ (λ text size read. first_read text c.read.new.into c.min-held.result (omega (arith, c.min-held.ensures)) read) size read
+returns-clause-bytes g c = search (rules, common_steps, if_both, first_read)

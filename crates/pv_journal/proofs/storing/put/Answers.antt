@@ -1,5 +1,4 @@
-use Rattle.std.proofs.Common.{refl, ◌∙◌, length, arith, rules, ◌≤◌}
-use Rattle.pv_outside.specs.Disk.{Torn, text_after_write}
+use Rattle.std.proofs.Common.{refl, length, arith, rules}
 use Rattle.pv_outside.proofs.CallerLemmas.{torn_none, torn_written}
 use Rattle.pv_journal.specs.Journal.{IsTornOf, LeavesOnly}
 use Rattle.pv_journal.proofs.Calls.{spends_call}
@@ -24,10 +23,7 @@ pub returns-clause-moments : goal.returns-clause-moments
 returns-clause-moments g c = only_look g.D.Reports (leaves g (goal.at.returns-clause-moments g c).After-write) c.sync.ensures.keeps
 
 pub returns-clause-torn : goal.returns-clause-torn
-returns-clause-torn g c =
-    on_err c.sync.result (turns_map (Torn c.args.at (length c.args.bytes.now)) (text_after_write c.args.at c.args.bytes.now) (λ text. c.args.at ≤ length text) _ _
-    (λ text within. torn_written c.args.at c.args.bytes.now text within)
-    (c.sync.ensures.keeps.reads ∙ c.in_ok-write.ensures.writes.written) (if_told _ _ c.requires.within))
+returns-clause-torn g c = search (rules, on_err, turns_map, torn_written, if_told)
 
 pub returns-in_err-write-clause-spends : goal.returns-in_err-write-clause-spends
 returns-in_err-write-clause-spends g c =

@@ -1,7 +1,5 @@
-use Rattle.std.proofs.Common.{inl, inr, ◌≡◌, ℕ, ◌+◌, List, [], ◌∷◌, ◌++◌, length, ◌∙◌, ap, IfSome}
+use Rattle.std.proofs.Common.{inl, inr, ◌≡◌, ℕ, ◌+◌, List, [], ◌∷◌, ◌++◌, length, ap, IfSome, rules}
 use Rattle.std.proofs.lemmas.Result.{on_ok_weaker, on_err_weaker}
-use Rattle.std.specs.Option.{option_map}
-use Rattle.pv_outside.specs.Disk.{text_after_write}
 use Rattle.pv_journal.specs.Text.{text_of, Spells, SpellsEither, HasClosedGate, MayHaveBody}
 use Rattle.pv_journal.specs.Journal.{EachImage, LeavesOnly}
 use Rattle.pv_journal.proofs.CallerLemmas.{spends_then, made_then, made_any}
@@ -58,15 +56,11 @@ returns-clause-stored g c = on_ok_both c.put-2.result (λ written durable bodies
     c.put-2.ensures.written c.put-2.ensures.durable
 
 pub returns-clause-written : goal.returns-clause-written
-returns-clause-written g c = on_ok_weaker c.put-2.result (λ written.
-    written ∙ ap (option_map (text_after_write c.args.gate (1 ∷ []))) c.in_ok-put.ensures.written
-    ∙ both_written (g.D.Reports.reads c.args.disk.now) c.args.gate c.args.body.now _ c.spell-length.ensures.bytes (if_told _ _ c.requires.closed)) c.put-2.ensures.written
+returns-clause-written g c = search (rules, on_ok_weaker, both_written, if_told)
 
 -- once the body is on the disk, a closed gate is after it, and the gate before it is as it was
 behind_closed : (g : Over) (c : In_ok-put g) → IfSome (g.D.Reports.reads c.put.new.disk) (IsBehind c.args.gate (length c.args.body.now))
-behind_closed g c =
-    if_map _ (HasClosedGate c.args.gate) (IsBehind c.args.gate (length c.args.body.now)) _ _
-    (λ text closed. behind_written c.args.gate c.args.body.now _ text c.spell-length.ensures.bytes closed) c.in_ok-put.ensures.written (if_told _ _ c.requires.closed)
+behind_closed g c = search (rules, if_map, behind_written, if_told)
 
 pub returns-clause-same_gate : goal.returns-clause-same_gate
 returns-clause-same_gate g c = on_err_weaker c.put-2.result (λ turns.

@@ -1,6 +1,6 @@
-use Rattle.std.proofs.Common.{◌≡◌, ℕ, Option, IfSome, List, [], true, false, Ok, refl, sym, ◌∙◌, ap, subst, arith, rules}
+use Rattle.std.proofs.Common.{◌≡◌, List, [], true, false, Ok, refl, sym, ◌∙◌, ap, subst, arith, rules}
 use Rattle.pv_node.specs.Standing.{DiskStands, Meets}
-use Rattle.pv_node.specs.Opening.{HasAll, IsOutside, FaultShows}
+use Rattle.pv_node.specs.Opening.{HasAll, IsOutside}
 use Rattle.pv_journal.proofs.CallerLemmas.{reads_none, reads_most, reads_then, made_none}
 use Rattle.pv_node.proofs.Reading.{goes_on, made_all, all_of, fails_outside, fault_shows}
 use Rattle.pv_journal.proofs.Images.{if_both}
@@ -31,15 +31,7 @@ returns-in_err-take_next-clause-opens g c =
     search rules
 
 pub returns-in_err-take_next-clause-shown : goal.returns-in_err-take_next-clause-shown
-returns-in_err-take_next-clause-shown g c =
-    let so_far = c.loop.invariant in
-    let limits = g.R.Rules.limits_of c.args.state.now in
-    let shown : IfSome (g.D.Reports.reads c.args.journal.now.disk) (λ text. FaultShows g.R.Rules limits text c.in_err-take_next.field-0.0) =
-    subst (λ (o : Option (List ℕ)). IfSome o (λ text. FaultShows g.R.Rules limits text c.in_err-take_next.field-0.0)) so_far.reads.same.reads
-    (if_both _ _ _ (λ text. FaultShows g.R.Rules limits text c.in_err-take_next.field-0.0)
-    (λ text begins shows. fault_shows g.R.Rules g.D.Reports _ limits _ so_far.records text c.in_err-take_next.field-0.0 so_far.read so_far.limits begins shows)
-    so_far.read.journal.text (c.in_err-take_next.ensures.shown so_far.records so_far.read)) in
-    search rules
+returns-in_err-take_next-clause-shown g c = search (rules, if_both, fault_shows)
 
 pub loop-preserved : goal.loop-preserved
 loop-preserved g c =

@@ -1,10 +1,8 @@
-use Rattle.std.proofs.Common.{◌≡◌, ℕ, ◌<◌, ◌≤◌, List, ◌++◌, length, map, take, drop, refl, sym, ◌∙◌, ap, subst, arith}
+use Rattle.std.proofs.Common.{◌<◌, ◌≤◌, ◌++◌, length, map, take, refl, sym, ◌∙◌, ap, subst, arith, rules}
 use Rattle.std.proofs.lemmas.Option.{IfSome_then}
-use Rattle.pv_journal.specs.Text.{HasBlock}
-use Rattle.pv_journal.proofs.CallerLemmas.{reads_most}
-use Rattle.pv_node.specs.Opening.{gate_after, StopShows, IsOutside, IsUnreadable, IsOpenDiskFault}
+use Rattle.pv_node.specs.Opening.{StopShows, IsOutside}
 use Rattle.pv_node.proofs.Records.{none_of}
-use Rattle.pv_node.proofs.Reading.{read_count, disk_spells, read_more, next_is, next_fits, only_outside, disk_fault, stop_shows}
+use Rattle.pv_node.proofs.Reading.{read_count, disk_spells, read_more, next_is, next_fits, only_outside, stop_shows}
 use Rattle.pv_node.proofs.replay.take_next.Goals as goal
 
 pub returns-then-absorb_spelled-clause-took : goal.returns-then-absorb_spelled-clause-took
@@ -28,12 +26,7 @@ returns-else-absorb_spelled-clause-opens g c = λ records more read stands meets
     c.absorb_spelled.ensures.refused c.if-absorb_spelled.false f.0 f.1 f.2 f.3
 
 pub returns-else-absorb_spelled-clause-shown : goal.returns-else-absorb_spelled-clause-shown
-returns-else-absorb_spelled-clause-shown g c = λ records read.
-    let at = rw c.in-Ok-Some.field-0-is at c.in-Ok-Some.ensures in
-    let number : length records ≡ c.count-number.result = sym (read_count g.R.Rules g.D.Reports _ _ records read) ∙ sym c.count-number.ensures.count in
-    IfSome_then _ (at.shown (map g.R.Rules.spelling records) read.journal) (λ text has.
-    let r : (body : List ℕ) × HasBlock (drop (gate_after g.R.Rules records) text) body × (length records ≡ c.count-number.result) × IsUnreadable g.R.Rules c.args.state.now body =
-    (take c.in-Ok-Some.size c.next.new.into, has, number, c.absorb_spelled.ensures.refused c.if-absorb_spelled.false) in r)
+returns-else-absorb_spelled-clause-shown g c = search (rules, read_count)
 
 pub returns-in-Ok-None-clause-ended : goal.returns-in-Ok-None-clause-ended
 returns-in-Ok-None-clause-ended g c = λ same records read.
@@ -54,22 +47,9 @@ returns-in-Err-clause-opens g c = λ records more read stands meets.
     (only_outside g.R.Rules g.D.Reports _ _ records more c.next.new.into c.in-Err.fault read within c.in-Err.ensures.answer
     (c.in-Err.ensures.spelled (map g.R.Rules.spelling records) (map g.R.Rules.spelling more) read.journal (disk_spells g.R.Rules g.D.Reports _ records more stands)))
 
-pub returns-in-Err-clause-reads_only : goal.returns-in-Err-clause-reads_only
-returns-in-Err-clause-reads_only g c =
-    reads_most g.D.Reports (omega arith) (λ is. disk_fault g.R.Rules g.D.Reports c.in-Err.fault (subst IsOpenDiskFault c.of_node.ensures.value is)) c.in-Err.ensures.reads_only
-
 pub returns-in-Err-clause-shown : goal.returns-in-Err-clause-shown
 returns-in-Err-clause-shown g c = λ records read.
     IfSome_then _ (c.in-Err.ensures.shown (map g.R.Rules.spelling records) read.journal) (λ text shows.
     let r : StopShows g.R.Rules (g.R.Rules.limits_of c.args.state.now) text records c.args.state.now c.of_node.result =
     subst (λ fault. StopShows g.R.Rules (g.R.Rules.limits_of c.args.state.now) text records c.args.state.now fault) (sym c.of_node.ensures.value)
     (stop_shows g.R.Rules g.D.Reports c.args.journal.now (g.R.Rules.limits_of c.args.state.now) c.args.state.now records text c.next.new.into c.in-Err.fault read c.requires.limit c.in-Err.ensures.answer shows) in r)
-
--- a journal that is being read makes its call
-pub returns-then-absorb_spelled-clause-made : goal.returns-then-absorb_spelled-clause-made
-returns-then-absorb_spelled-clause-made g c =
-    let at = rw c.in-Ok-Some.field-0-is at c.in-Ok-Some.ensures in at.made c.requires.so_far.1.journal.phase
-
-pub returns-in-Ok-None-clause-made : goal.returns-in-Ok-None-clause-made
-returns-in-Ok-None-clause-made g c =
-    let at = rw c.in-Ok-None.field-0-is at c.in-Ok-None.ensures in at.made c.requires.so_far.1.journal.phase

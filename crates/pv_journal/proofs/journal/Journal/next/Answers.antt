@@ -1,6 +1,6 @@
 use Rattle.std.proofs.Common.{◌≡◌, ℕ, ◌+◌, List, [], ◌∷◌, ◌++◌, length, take, drop, Option, IfSome, IsErr, rules, refl, sym, ◌∙◌, ap, subst, arith}
 use Rattle.std.proofs.lemmas.Option.{IfSome_then, MatchOption-at_some}
-use Rattle.pv_journal.specs.Text.{IsBody, text_of, Spells, HasNoOpenGate, HasBrokenBlock, HasBlock}
+use Rattle.pv_journal.specs.Text.{IsBody, text_of, HasNoOpenGate, HasBrokenBlock, HasBlock}
 use Rattle.pv_journal.specs.Journal.{IsReading, DiskSpells, ReadsOnly}
 use Rattle.pv_journal.proofs.CallerLemmas.{reads_none, reads_most}
 use Rattle.pv_journal.proofs.Counted.{counted_more, next_front}
@@ -50,18 +50,7 @@ returns-in-Whole-2-clause-reads_only g c =
     reads_here g (goal.at.returns-in-Whole-2-clause-reads_only g c).After-read_block (λ fails. absurd fails)
 
 pub returns-in-Closed-clause-ended : goal.returns-in-Closed-clause-ended
-returns-in-Closed-clause-ended g c = λ _ bodies reading_now.
-    let reading = subst (λ v. IsReading g.D.Reports v bodies) (sym c.self.view_is) reading_now in
-    let spelled : IfSome (g.D.Reports.reads c.self.inside.disk) (λ text. Spells text bodies) =
-    if_both (g.D.Reports.reads c.self.inside.disk) (λ text. text ≡ text_of bodies ++ drop c.self.inside.gate text) (λ text. HasNoOpenGate (drop c.self.inside.gate text)) (λ text. Spells text bodies)
-    (λ text begins shut. spells_front bodies text (drop c.self.inside.gate text) begins shut reading.counted.sizes) reading.text (closed_here g (goal.at.returns-in-Closed-clause-ended g c).In-Closed) in
-    record {
-      phase = refl;
-      counted = record { count = reading.counted.count; gate = reading.counted.gate; sizes = reading.counted.sizes };
-      images = each_synced g.D.Reports c.read_block.new.disk (λ image. Spells image bodies) (c.in-Ok.ensures.durable reading.durable)
-          (subst (λ (o : Option (List ℕ)). IfSome o (λ text. Spells text bodies)) (sym c.read_block.ensures.reads_only.same.reads) spelled);
-      synced = c.in-Ok.ensures.synced reading.synced;
-    }
+returns-in-Closed-clause-ended g c = search (rules, if_both, spells_front, closed_here, each_synced)
 
 pub returns-in-Closed-clause-spelled : goal.returns-in-Closed-clause-spelled
 returns-in-Closed-clause-spelled g c = λ bodies more reading_now spelled_now.

@@ -84,11 +84,4 @@ returns-then-gate-ne1-clause-reads_dropped g c = λ same bodies body held.
     text_of_each g.D.Reports _ (λ image. Spells image bodies) (g.met.D.Disk.reads_is_left _) (each_dropped g (goal.at.returns-then-gate-ne1-clause-reads_dropped g c).Then-gate-ne1 bodies body held)
 
 pub returns-then-gate-ne1-clause-dropped : goal.returns-then-gate-ne1-clause-dropped
-returns-then-gate-ne1-clause-dropped g c = λ same bodies body held_now.
-    let held = subst (λ v. HoldsInHand g.D.Reports v bodies (body ∷ [])) (sym c.self.view_is) held_now in
-    record {
-      phase = refl;
-      counted = record { count = held.counted.count; gate = held.counted.gate; sizes = held.counted.sizes };
-      images = each_dropped g (goal.at.returns-then-gate-ne1-clause-dropped g c).Then-gate-ne1 bodies body held_now;
-      synced = search rules;
-    }
+returns-then-gate-ne1-clause-dropped g c = search (rules, each_dropped)

@@ -3,7 +3,6 @@ use Rattle.pv_journal.specs.Journal.{HasMade, ReadsOnly}
 use Rattle.pv_node.specs.Opening.{IsOpenDiskFault, ReadingFails}
 use Rattle.pv_node.proofs.Rooms.{meets_none}
 use Rattle.pv_journal.proofs.CallerLemmas.{reads_none, reads_most, reads_then, made_then}
-use Rattle.pv_journal.proofs.Moments.{only_none, only_remains}
 use Rattle.pv_node.proofs.Reading.{disk_fault}
 use Rattle.pv_node.proofs.node.Node.open.Given.{Over}
 use Rattle.pv_node.proofs.node.Node.open.Goals.{After-replay}
@@ -31,17 +30,6 @@ returns-in-Err-replay-clause-handed_back g c =
     let both = reads_most g.D.Reports {most = c.args.limits.records + 4} {Fails = IsOpenDiskFault c.in-Err-replay.fault} (omega (arith, c.replay.ensures.within, c.replay.ensures.limit, c.in-Ok-start.ensures.limit)) (search rules) (reads_both g (goal.at.returns-in-Err-replay-clause-handed_back g c).After-replay) in
     subst (λ disk. ReadsOnly g.D.Reports (c.args.limits.records + 4) (IsOpenDiskFault c.in-Err-replay.fault) c.args.disk disk) (sym c.into_disk.ensures) both
 
-pub returns-in_default-clause-moments_refused : goal.returns-in_default-clause-moments_refused
-returns-in_default-clause-moments_refused g c =
-    only_none g.D.Reports g.met.D.Disk.only_now g.met.D.Disk.now_is_known _ _ (λ told image left. left)
-
-pub returns-in-Err-clause-moments_refused : goal.returns-in-Err-clause-moments_refused
-returns-in-Err-clause-moments_refused g c = c.in-Err.ensures.moments_refused
-
-pub returns-in-Err-replay-clause-moments_refused : goal.returns-in-Err-replay-clause-moments_refused
-returns-in-Err-replay-clause-moments_refused g c =
-    only_remains g.D.Reports (only_none g.D.Reports g.met.D.Disk.only_now g.met.D.Disk.now_is_known _ _ (λ told image left. left)) (returns-in-Err-replay-clause-handed_back g c).same
-
 pub returns-clause-reads_only : goal.returns-clause-reads_only
 returns-clause-reads_only g c =
     reads_most g.D.Reports (omega arith) (λ never. absurd never) (reads_both g (goal.at.returns-clause-reads_only g c).After-replay)
@@ -53,8 +41,3 @@ returns-clause-made g c =
 
 pub returns-in_default-clause-handed_back : goal.returns-in_default-clause-handed_back
 returns-in_default-clause-handed_back g c = reads_none g.D.Reports _ (λ fails. fails)
-
-pub returns-clause-moments : goal.returns-clause-moments
-returns-clause-moments g c =
-    only_remains g.D.Reports (only_none g.D.Reports g.met.D.Disk.only_now g.met.D.Disk.now_is_known _ _ (λ told image left. left))
-    (returns-clause-reads_only g c).same

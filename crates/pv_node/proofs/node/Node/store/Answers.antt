@@ -65,9 +65,6 @@ moments g c records stands_now =
 pub returns-in-Ok-clause-moments : goal.returns-in-Ok-clause-moments
 returns-in-Ok-clause-moments g c = moments g (goal.at.returns-in-Ok-clause-moments g c).After-append
 
-pub returns-in-Err-Full-clause-moments : goal.returns-in-Err-Full-clause-moments
-returns-in-Err-Full-clause-moments g c = moments g (goal.at.returns-in-Err-Full-clause-moments g c).After-append
-
 pub returns-in-Err-Disk-clause-moments : goal.returns-in-Err-Disk-clause-moments
 returns-in-Err-Disk-clause-moments g c = moments g (goal.at.returns-in-Err-Disk-clause-moments g c).After-append
 
