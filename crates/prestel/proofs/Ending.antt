@@ -1,6 +1,5 @@
 -- How a play ended that did not run its whole text.
-use Rattle.std.proofs.Common.{◌≡◌, ℕ, Bool, List, [], length, Option, None, refl, ap, arith}
-use Rattle.pv_outside.specs.declared.status.Status.{Status}
+use Rattle.std.proofs.Common.{ℕ, Bool, List, length, Option, None, ap, arith}
 use Rattle.pv_network.specs.World.{World}
 use Rattle.prestel.specs.declared.ends.ReadEnd.{ReadEnd}
 use Rattle.prestel.specs.declared.ends.ReadEnd.TheVariants as reads

@@ -11,7 +11,7 @@ use Rattle.pv_words.specs.Lines.{lines_of}
 use Rattle.pv_network.specs.Standing.{State}
 use Rattle.pv_network.specs.World.{World}
 use Rattle.prestel.specs.declared.streams.StandardOutput.{StandardOutput}
-use Rattle.prestel.specs.Output.{written_bytes, flushed_bytes, buffered_bytes}
+use Rattle.prestel.specs.Output.{written_bytes, buffered_bytes}
 use Rattle.prestel.specs.Play.{IsTranscript, StopsAtBadLine, StopsInAnswers, StopsAfterLine, IsPlayOf}
 use Rattle.prestel.specs.Program.{IsRunOf}
 use Rattle.prestel.specs.Transcript.{answers}

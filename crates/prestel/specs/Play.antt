@@ -1,11 +1,12 @@
 -- How a play may end, and what then was read and written.
-use Rattle.std.specs.Prelude.{◌≡◌, ℕ, ◌+◌, ◌≤◌, Bool, IsTrue, List, [], ◌∷◌, ◌++◌, length, take, Option, Some, None, IsSomeAnd, codes}
+use Rattle.std.specs.Prelude.{◌≡◌, ℕ, ◌+◌, ◌≤◌, Bool, IsTrue, List, [], ◌∷◌, ◌++◌, length, take, Option, Some, None, IsSomeAnd, codes, decimal}
 use Rattle.std.specs.Io.KnownBytes.{Appends, Consumes}
 use Rattle.std.proofs.Common.{lit<, lit≤}
 use Rattle.pv_outside.specs.declared.limits.Limits.{Limits}
 use Rattle.pv_outside.specs.declared.status.Status.{Status}
 use Rattle.pv_outside.specs.declared.status.Status.TheVariants.{Done, Usage, BadLine, ReadFault, WriteFault, Memory, TooLong}
 use Rattle.pv_words.specs.Lines.{lines_of}
+use Rattle.pv_network.specs.declared.event.TheConstants.{MAX_CENTRES}
 use Rattle.pv_network.specs.OneList.{OneList}
 use Rattle.pv_network.specs.Standing.{State, StandsFor}
 use Rattle.pv_network.specs.World.{World, start}
@@ -14,17 +15,23 @@ use Rattle.prestel.specs.declared.grammar.Command.{Command}
 use Rattle.prestel.specs.Grammar.{AreRead, HasNoForm}
 use Rattle.prestel.specs.Transcript.{answers, world_after_all}
 
--- the words that ask for a play of one centre
-abbrev pub play_words : List (List ℕ)
-play_words = codes "play" ∷ codes "1" ∷ []
+-- the words ask for a play of this many centres, which are one to four
+pub record AskToPlay (words : List (List ℕ)) (centres : ℕ) : Type 0 where
+  pub some : 1 ≤ centres
+  pub few : centres ≤ MAX_CENTRES
+  pub asked : words ≡ codes "play" ∷ decimal centres ∷ []
+
+-- the words ask for no play
+abbrev pub AskNoPlay : List (List ℕ) → Type 0
+AskNoPlay words = (centres : ℕ) → AskToPlay words centres → ⊥
 
 -- the limits of a play: 2,000 frames and 10,000 records
 abbrev pub play_limits : Limits
 play_limits = record { frames = 2000; records = 10000; frames_in_range = (lit< tt, lit≤ tt); records_in_range = (lit< tt, lit≤ tt) }
 
--- the world in which a play begins: one centre, within these limits
-abbrev pub first_world : World
-first_world = start 1 play_limits
+-- the world in which a play of this many centres begins, within these limits
+abbrev pub first_world : ℕ → World
+first_world centres = start centres play_limits
 
 -- how many bytes a script may have
 abbrev pub longest_script : ℕ
@@ -99,7 +106,7 @@ pub record IsReadWhole (text : List ℕ) (left : Option (List ℕ)) (ended : Boo
 abbrev pub IsPlayOf : ℕ → World → List ℕ → Option State → Option (List ℕ) → Bool → Option (List ℕ) → Option (List ℕ) → Status → Type 0
 IsPlayOf centres first text network left ended before now Done =
     IsReadWhole text left ended × IsSomeAnd network (λ n. IsPlayed centres first text n before now)
-IsPlayOf centres first text network left ended before now Usage = text ≡ []
+IsPlayOf centres first text network left ended before now Usage = ⊥
 IsPlayOf centres first text network left ended before now (BadLine number) =
     IsReadWhole text left ended × StopsAtBadLine centres first text number before now
 IsPlayOf centres first text network left ended before now ReadFault = length text ≤ longest_script

@@ -1,5 +1,5 @@
 -- How a run of the whole program may end, and what then has gone to the writer after its buffer.
-use Rattle.std.specs.Prelude.{◌≡◌, ℕ, ◌+◌, ◌≤◌, ◌⊎◌, Bool, List, [], drop, length, take, Option}
+use Rattle.std.specs.Prelude.{◌≡◌, ℕ, ◌+◌, ◌≤◌, ◌⊎◌, Bool, List, [], length, take, Option}
 use Rattle.std.specs.Io.KnownBytes.{Appends}
 use Rattle.pv_outside.specs.Counts.{Rose}
 use Rattle.pv_outside.specs.declared.status.Status.{Status}
@@ -24,7 +24,7 @@ WritesText contents text before now _ = ⊥
 abbrev pub IsRunOf : {W : Type 0} → (W → Option (List ℕ)) → ℕ → World → List ℕ → Option (List ℕ) → Bool → StandardOutput W → StandardOutput W → Status → Type 0
 IsRunOf contents centres first text left ended before now Done = IsReadWhole text left ended
     × IsTranscript centres first (lines_of text) (written_bytes contents before) (flushed_bytes contents now) × (buffered_bytes now ≡ [])
-IsRunOf contents centres first text left ended before now Usage = text ≡ []
+IsRunOf contents centres first text left ended before now Usage = ⊥
 IsRunOf contents centres first text left ended before now (BadLine number) = IsReadWhole text left ended
     × StopsAtBadLine centres first text number (written_bytes contents before) (flushed_bytes contents now) × (buffered_bytes now ≡ [])
 IsRunOf contents centres first text left ended before now ReadFault = length text ≤ longest_script

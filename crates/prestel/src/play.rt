@@ -1,21 +1,19 @@
-ghost use Rattle.std.specs.Prelude.{◌≡◌, ◌≢◌, ℕ, ◌+◌, ◌<◌, ◌≤◌, ◌↔◌, List, map, length, None, IfOk, IfErr, OnOk, IsSome, IsTrue, string_bytes};
+ghost use Rattle.std.specs.Prelude.{◌≡◌, ℕ, ◌+◌, ◌<◌, ◌≤◌, ◌↔◌, List, [], ◌∷◌, map, length, Some, None, IfOk, IfErr, IfSome, OnOk, IsSome, string_bytes};
 ghost use Rattle.pv_outside.specs.Counts.{Rose};
+ghost use Rattle.pv_network.specs.declared.event.TheConstants.{MAX_CENTRES};
 ghost use Rattle.pv_network.specs.Standing.{StandsFor, IsPossible};
 ghost use Rattle.prestel.specs.declared.grammar.Command.TheVariants.{Do};
 ghost use Rattle.prestel.specs.Ends.{GivesAnswer, HasRun, IsAnswerEnd, IsLineEnd, IsRunEnd};
-ghost use Rattle.prestel.specs.Play.{play_words, HasRead, IsPlayOf, IsPlayed, IsNotRun, first_world};
+ghost use Rattle.prestel.specs.Play.{AskToPlay, AskNoPlay, HasRead, IsPlayOf, IsPlayed, IsNotRun, first_world};
 
 use crate::answer::push_answer;
 use crate::ends::{AnswerEnd, RunEnd};
 use crate::grammar::{Command, parse};
 use crate::script::{LONGEST_SCRIPT, read_script};
-use pv_network::{Event, Network};
+use pv_network::{Event, MAX_CENTRES, Network};
 use pv_outside::{Limits, Sink, Source, Status};
-use pv_words::first_line;
+use pv_words::{first_line, number_of};
 use std::alloc::Global;
-
-/// How many retrieval centres a play has.
-pub const CENTRES: u8 = 1;
 
 /// How many frames a node of a play may have.
 pub const FRAMES: u32 = 2_000;
@@ -32,21 +30,21 @@ pub struct Played {
     pub network: Option<Network>,
 }
 
-/// Reads a whole script, runs it on a network of one centre on which nothing has happened, and writes
-/// the transcript.
+/// Reads a whole script, runs it on a network of as many centres as the words ask for, on which nothing
+/// has happened, and writes the transcript.
 pub fn play<S: Source, K: Sink>(
     alloc: Global,
     words: &[String],
     script: &mut S,
     out: &mut K,
 ) -> Played
-    // What was read is a text, and what was made of it is the play of that text.
-    ensures plays { (text : List ℕ)
+    // If the words ask for a play, what was read is a text, and what was made of it is the play of that text.
+    ensures plays { (centres : ℕ) → AskToPlay (map string_bytes words.now) centres → (text : List ℕ)
         × HasRead (S.taken script.old) (S.taken script.new) (S.left script.old) (S.left script.new) text
-        × IsPlayOf CENTRES first_world text result.network (S.left script.old) (S.ended script.new) (K.written out.old) (K.written out.new) result.status }
+        × IsPlayOf centres (first_world centres) text result.network (S.left script.old) (S.ended script.new) (K.written out.old) (K.written out.new) result.status }
 
-    // The words are refused exactly when they are others than `play 1`, and then nothing is read.
-    ensures usage { (result.status ≡ Status.Usage) ↔ (map string_bytes words.now ≢ play_words) }
+    // The words are refused exactly when they ask for no play, and then nothing is read.
+    ensures usage { (result.status ≡ Status.Usage) ↔ AskNoPlay (map string_bytes words.now) }
     ensures unread { result.status ≡ Status.Usage → script.new ≡ script.old }
 
     // Nothing is run, and nothing written, if the words, the reading or the length is at fault.
@@ -63,14 +61,14 @@ pub fn play<S: Source, K: Sink>(
     // The network is there exactly when all was done.
     ensures network { IsSome result.network ↔ (result.status ≡ Status.Done) }
 {
-    if !are_play_words(words) {
+    let Some(centres) = centres_asked(words) else {
         return ended(Status::Usage);
-    }
+    };
     let text = match read_script(alloc, script) {
         Ok(text) => text,
         Err(end) => return ended(end.status()),
     };
-    match run(alloc, &text, out) {
+    match run(alloc, centres, &text, out) {
         Ok(network) => Played {
             status: Status::Done,
             network: Some(network),
@@ -90,22 +88,39 @@ fn ended(status: Status) -> Played
     }
 }
 
-/// Whether the words ask for a play of one centre.
-fn are_play_words(words: &[String]) -> bool
-    ensures { IsTrue result ↔ (map string_bytes words.now ≡ play_words) }
+/// How many centres the words ask for a play of. `None` exactly when they ask for no play.
+fn centres_asked(words: &[String]) -> Option<u8>
+    ensures found { IfSome result (AskToPlay (map string_bytes words.now)) }
+    ensures only { (centres : ℕ) → AskToPlay (map string_bytes words.now) centres → result ≡ Some centres }
 {
     match words {
-        [first, second] => first.as_str() == "play" && second.as_str() == "1",
-        _ => false,
+        [first, second] => centres_of(first.as_bytes(), second.as_bytes()),
+        _ => None,
+    }
+}
+
+/// How many centres these two words ask for a play of. `None` exactly when they ask for no play.
+fn centres_of(first: &[u8], second: &[u8]) -> Option<u8>
+    ensures found { IfSome result (AskToPlay (first.now ∷ second.now ∷ [])) }
+    ensures only { (centres : ℕ) → AskToPlay (first.now ∷ second.now ∷ []) centres → result ≡ Some centres }
+{
+    if first != b"play".as_slice() {
+        return None;
+    }
+    match number_of(second) {
+        Some(centres) if 1 <= centres && centres <= MAX_CENTRES as u64 => Some(centres as u8),
+        _ => None,
     }
 }
 
 /// Runs a script's text on a new network.
-fn run<K: Sink>(alloc: Global, text: &[u8], out: &mut K) -> Result<Network, RunEnd>
-    requires { length text.now ≤ LONGEST_SCRIPT }
-    ensures ok { IfOk result (λ network. IsPlayed CENTRES first_world text.now network (K.written out.old)
+fn run<K: Sink>(alloc: Global, centres: u8, text: &[u8], out: &mut K) -> Result<Network, RunEnd>
+    requires short { length text.now ≤ LONGEST_SCRIPT }
+    requires some { 1 ≤ centres }
+    requires few { centres ≤ MAX_CENTRES }
+    ensures ok { IfOk result (λ network. IsPlayed centres (first_world centres) text.now network (K.written out.old)
         (K.written out.new)) }
-    ensures err { IfErr result (IsRunEnd CENTRES first_world text.now
+    ensures err { IfErr result (IsRunEnd centres (first_world centres) text.now
         (K.written out.old) (K.written out.new) (K.write_faults out.old) (K.write_faults out.new)) }
     ensures counted { K.write_faults out.old ≤ K.write_faults out.new }
 {
@@ -113,26 +128,27 @@ fn run<K: Sink>(alloc: Global, text: &[u8], out: &mut K) -> Result<Network, RunE
         frames: FRAMES,
         records: RECORDS,
     };
-    let Ok(mut network) = Network::open(alloc, CENTRES, limits) else {
+    let Ok(mut network) = Network::open(alloc, centres, limits) else {
         return Err(RunEnd::Unanswered(AnswerEnd::Memory));
     };
-    run_lines(alloc, text, &mut network, out)?;
+    run_lines(alloc, centres, text, &mut network, out)?;
     Ok(network)
 }
 
 /// Runs the lines of a text, one after another.
 fn run_lines<K: Sink>(
     alloc: Global,
+    centres: u8,
     text: &[u8],
     network: &mut Network,
     out: &mut K,
 ) -> Result<(), RunEnd>
     requires short { length text.now ≤ LONGEST_SCRIPT }
-    requires centres { length network.old.centres ≡ CENTRES }
-    requires new { StandsFor network.old first_world }
-    ensures ok { OnOk result (IsPlayed CENTRES first_world text.now network.new (K.written out.old)
+    requires centres { length network.old.centres ≡ centres }
+    requires new { StandsFor network.old (first_world centres) }
+    ensures ok { OnOk result (IsPlayed centres (first_world centres) text.now network.new (K.written out.old)
         (K.written out.new)) }
-    ensures err { IfErr result (IsRunEnd CENTRES first_world text.now
+    ensures err { IfErr result (IsRunEnd centres (first_world centres) text.now
         (K.written out.old) (K.written out.new) (K.write_faults out.old) (K.write_faults out.new)) }
     ensures counted { K.write_faults out.old ≤ K.write_faults out.new }
 {
@@ -142,29 +158,30 @@ fn run_lines<K: Sink>(
     while !rest.is_empty() {
         let (line, later) = first_line(rest);
         number += 1;
-        run_line(line, number, network, &mut answer, out)?;
+        run_line(line, number, centres, network, &mut answer, out)?;
         rest = later;
     }
     Ok(())
 }
 
-/// Runs one line, of this number.
+/// Runs one line, of this number, in a play of this many centres.
 fn run_line<K: Sink>(
     line: &[u8],
     number: u32,
+    centres: u8,
     network: &mut Network,
     answer: &mut Vec<u8>,
     out: &mut K,
 ) -> Result<(), RunEnd>
-    requires { length network.old.centres ≡ CENTRES }
-    ensures ok { OnOk result (HasRun CENTRES line.now network.old network.new (K.written out.old)
+    requires { length network.old.centres ≡ centres }
+    ensures ok { OnOk result (HasRun centres line.now network.old network.new (K.written out.old)
         (K.written out.new)) }
-    ensures err { IfErr result (IsLineEnd CENTRES line.now number network.old
+    ensures err { IfErr result (IsLineEnd centres line.now number network.old
         (K.written out.old) (K.written out.new) (K.write_faults out.old) (K.write_faults out.new)) }
     ensures counted { K.write_faults out.old ≤ K.write_faults out.new }
     ensures centres { length network.new.centres ≡ length network.old.centres }
 {
-    match parse(line, CENTRES) {
+    match parse(line, centres) {
         None => Err(RunEnd::BadLine { line: number }),
         Some(Command::Nothing) => Ok(()),
         Some(Command::Do(event)) => match run_event(&event, network, answer, out) {

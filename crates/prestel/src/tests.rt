@@ -321,8 +321,8 @@ fn other_words_are_refused(rt: HostRuntime) -> Result<(), Fail> {
         &[],
         &["play"],
         &["1"],
+        &["play", "0"],
         &["play", "5"],
-        &["play", "2"],
         &["play", "01"],
         &["play", ""],
         &["plays", "1"],
@@ -458,7 +458,7 @@ fn a_run_flushes_its_answers(rt: HostRuntime) -> Result<(), Fail> {
 fn a_run_writes_the_help_and_the_version(rt: HostRuntime) -> Result<(), Fail> {
     let alloc = rt.alloc();
     let cases: [(&str, &str); 2] = [
-        ("--help", "usage: prestel play 1 < SCRIPT\n"),
+        ("--help", "usage: prestel play N < SCRIPT\n"),
         ("--version", "prestel 0.1.0\n"),
     ];
     for (word, begins) in cases {

@@ -4,6 +4,9 @@ use pv_words::Part;
 /// How many editors' ports there are.
 pub const EDITORS: u8 = 4;
 
+/// How many retrieval centres a network has at most.
+pub const MAX_CENTRES: u8 = 4;
+
 /// What can happen to a network. Centres, ports and packets are counted from 0. An event borrows the line of an editor.
 #[derive(Debug, Drop)]
 pub enum Event<'a> {

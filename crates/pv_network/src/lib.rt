@@ -30,7 +30,7 @@ mod outcome;
 mod packet;
 mod verdict;
 
-pub use event::{EDITORS, Event};
+pub use event::{EDITORS, Event, MAX_CENTRES};
 pub use laws::every_reachable_world_is_sound;
 pub use network::Network;
 pub use outcome::{Outcome, Turn, Why};

@@ -3,6 +3,7 @@ ghost use Rattle.pv_words.specs.Parts.{Exactly};
 ghost use Rattle.pv_editor.specs.Lines.{IsLine};
 ghost use Rattle.pv_editor.specs.declared.line.EditLine.{EditLine};
 ghost use Rattle.pv_editor.specs.declared.step.EditStep.TheVariants as steps;
+ghost use Rattle.pv_network.specs.declared.event.TheConstants.{MAX_CENTRES};
 ghost use Rattle.pv_network.specs.World.{start};
 ghost use Rattle.pv_network.specs.Standing.{StandsFor, Performs, IsPossible};
 ghost use Rattle.pv_network.specs.Step.{Choice, IsChoice, happens, step_of_request, step_of_seeding, step_of_line, step_of_said, step_of_edit, step_of_send, step_of_deliver, step_of_back, step_of_view, step_of_at, step_of_list, step_of_acknowledging};
@@ -62,7 +63,7 @@ impl Network {
     /// its nodes. It reserves all room; the only error is that memory ran out.
     pub fn open(alloc: Global, centres: u8, limits: Limits) -> Result<Network, AllocError>
         requires some { 1 ≤ centres }
-        requires few { centres ≤ 4 }
+        requires few { centres ≤ MAX_CENTRES }
         ensures ok { IfOk result (λ network. StandsFor network (start centres limits)) }
         ensures centres { IfOk result (λ network. length network.centres ≡ centres) }
         ensures memory { IfOk result (λ network. network.is_out ≡ false) }

@@ -18,5 +18,5 @@ same_limits frames records f g r s =
 
 pub run_lines-requires-clause-new : goal.run_lines-requires-clause-new
 run_lines-requires-clause-new g c =
-    subst (λ (l : Limits). StandsFor c.in-Ok.network (start 1 l))
+    subst (λ (l : Limits). StandsFor c.in-Ok.network (start c.args.centres l))
     (same_limits 2000 10000 _ play_limits.frames_in_range _ play_limits.records_in_range) c.in-Ok.ensures.ok

@@ -1,13 +1,12 @@
 use Rattle.std.proofs.Common.{rules, ◌≡◌, ◌∙◌, length, arith}
 use Rattle.std.proofs.lemmas.Result.{err_from_is_err_and}
-use Rattle.prestel.specs.declared.play.TheConstants.{CENTRES}
 use Rattle.prestel.specs.Play.{first_world}
 use Rattle.prestel.proofs.Running.{begins, goes_on, stops, all_played}
 use Rattle.prestel.proofs.play.run_lines.Goals as goal
 
 pub loop-rest-init : goal.loop-rest-init
 loop-rest-init g c = record {
-  progress = begins CENTRES first_world c.args.text.now (g.K.Sink.written c.args.out.now) c.args.network.now c.requires.new;
+  progress = begins c.args.centres (first_world c.args.centres) c.args.text.now (g.K.Sink.written c.args.out.now) c.args.network.now c.requires.new;
   number = omega arith;
   centres = c.requires.centres;
   counted = omega arith;
@@ -15,7 +14,7 @@ loop-rest-init g c = record {
 
 pub loop-rest-preserved : goal.loop-rest-preserved
 loop-rest-preserved g c = record {
-  progress = goes_on CENTRES first_world c.args.text.now (g.K.Sink.written c.args.out.now) c.loop-rest.rest.now _ _ c.loop-rest.number _ _ _
+  progress = goes_on c.args.centres (first_world c.args.centres) c.args.text.now (g.K.Sink.written c.args.out.now) c.loop-rest.rest.now _ _ c.loop-rest.number _ _ _
       c.loop-rest.invariant.progress c.first_line.ensures.line _ c.in_ok-run_line.ensures.ok;
   number = omega (arith, c.loop-rest.invariant.number, c.first_line.ensures.shorter);
   centres = c.run_line.ensures.centres ∙ c.loop-rest.invariant.centres;
@@ -26,7 +25,7 @@ loop-rest-preserved g c = record {
 pub returns-in_err-run_line-clause-err : goal.returns-in_err-run_line-clause-err
 returns-in_err-run_line-clause-err g c =
     let end = err_from_is_err_and c.from_residual.result c.from_residual.ensures.1 in
-    rw (end.1, end.2) (stops CENTRES first_world c.args.text.now (g.K.Sink.written c.args.out.now)
+    rw (end.1, end.2) (stops c.args.centres (first_world c.args.centres) c.args.text.now (g.K.Sink.written c.args.out.now)
     c.loop-rest.rest.now c.first_line.result.0.now c.first_line.result.1.now c.loop-rest.number c.loop-rest.network (g.K.Sink.written c.loop-rest.out) (g.K.Sink.written c.run_line.new.out)
     c.loop-rest.invariant.progress c.first_line.ensures.line
     (g.K.Sink.write_faults c.args.out.now) (g.K.Sink.write_faults c.loop-rest.out) (g.K.Sink.write_faults c.run_line.new.out)
@@ -36,4 +35,4 @@ returns-in_err-run_line-clause-err g c =
 pub returns-clause-ok : goal.returns-clause-ok
 returns-clause-ok g c =
     let none : length c.loop-rest.rest.now ≡ 0 = search rules in
-    all_played CENTRES first_world c.args.text.now _ c.loop-rest.rest.now c.loop-rest.number c.loop-rest.network _ c.loop-rest.invariant.progress none
+    all_played c.args.centres (first_world c.args.centres) c.args.text.now _ c.loop-rest.rest.now c.loop-rest.number c.loop-rest.network _ c.loop-rest.invariant.progress none

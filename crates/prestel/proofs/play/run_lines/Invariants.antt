@@ -1,5 +1,4 @@
 use Rattle.std.proofs.Common.{◌≡◌, ◌+◌, ◌≤◌, length}
-use Rattle.prestel.specs.declared.play.TheConstants.{CENTRES}
 use Rattle.prestel.specs.Play.{first_world}
 use Rattle.prestel.proofs.Running.{Progress}
 use Rattle.prestel.proofs.play.run_lines.Given as goal
@@ -7,9 +6,9 @@ use Rattle.prestel.proofs.play.run_lines.Given as goal
 -- the lines so far were run, and their answers written
 abbrev pub invariant-loop-rest : goal.invariant-loop-rest
 invariant-loop-rest g l = record {
-  progress : Progress CENTRES first_world l.text (g.K.Sink.written l.fn.out) l.rest l.number l.network (g.K.Sink.written l.out);
+  progress : Progress l.centres (first_world l.centres) l.text (g.K.Sink.written l.fn.out) l.rest l.number l.network (g.K.Sink.written l.out);
   number : l.number + length l.rest ≤ length l.text;
-  centres : length l.network.centres ≡ CENTRES;
+  centres : length l.network.centres ≡ l.centres;
   counted : g.K.Sink.write_faults l.fn.out ≤ g.K.Sink.write_faults l.out;
 }
 
