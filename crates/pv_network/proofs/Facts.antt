@@ -12,7 +12,7 @@ use Rattle.pv_network.specs.declared.centre.Arrival.TheVariants.{Taken, Old, Ear
 use Rattle.pv_network.specs.declared.outcome.Outcome.TheVariants as outcomes
 use Rattle.pv_network.specs.Centre.{arrival_of}
 use Rattle.pv_network.specs.Link.{number_to_send}
-use Rattle.pv_network.specs.Step.{step_of_send}
+use Rattle.pv_network.specs.Traffic.{step_of_send}
 use Rattle.pv_network.specs.Verdict.{verdict_by}
 use Rattle.pv_network.specs.World.{start}
 use Rattle.pv_network.specs.declared.verdict.TheConstants.{FULL}

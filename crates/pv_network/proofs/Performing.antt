@@ -21,7 +21,8 @@ use Rattle.pv_network.specs.Centre.{CentreStands, Held, arrival_of, with_next}
 use Rattle.pv_network.specs.Link.{Link, link_in, is_packets_full, number_to_send, with_packet, with_acknowledgement, heard_link}
 use Rattle.pv_network.specs.Sound.{IsGenuine}
 use Rattle.pv_network.specs.Standing.{State, StandsFor}
-use Rattle.pv_network.specs.Step.{step_of_request, step_of_line, step_of_said, step_of_edit, step_of_send, step_of_acknowledging, with_next_at, step_of_arrival, step_of_deliver, step_of_back}
+use Rattle.pv_network.specs.Step.{step_of_request, step_of_line, step_of_said, step_of_edit}
+use Rattle.pv_network.specs.Traffic.{step_of_send, step_of_acknowledging, with_next_at, step_of_arrival, step_of_deliver, step_of_back}
 use Rattle.pv_network.specs.Verdict.{verdict_of, list_after}
 use Rattle.pv_network.specs.World.{World, seat_at, link_at, centre_at}
 use Rattle.pv_network.proofs.Lists.{all_get}

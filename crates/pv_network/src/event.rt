@@ -20,6 +20,8 @@ pub enum Event<'a> {
     Deliver { centre: u8, index: u64 },
     /// The packet of this index, of those that a centre made, arrives at the Update Centre.
     Back { centre: u8, index: u64 },
+    /// Record after record is sent to a centre and delivered there, and its acknowledgement arrives.
+    Carry { centre: u8 },
     /// Somebody reads a frame as a centre holds it.
     View { centre: u8, name: FrameName },
     /// Somebody asks how many records a centre has applied.

@@ -28,6 +28,7 @@ mod links;
 mod network;
 mod outcome;
 mod packet;
+mod round;
 mod verdict;
 
 pub use event::{EDITORS, Event, MAX_CENTRES};
