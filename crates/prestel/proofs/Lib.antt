@@ -2,5 +2,6 @@ pub mod Ending
 pub mod Facts
 pub mod Flushing
 pub mod Happening
+pub mod Limits
 pub mod Reading
 pub mod Running

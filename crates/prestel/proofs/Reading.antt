@@ -1,10 +1,11 @@
 -- What is read of a source, piece by piece.
-use Rattle.std.proofs.Common.{◌≡◌, ℕ, ◌+◌, ◌-◌, ◌≤◌, List, [], ◌++◌, length, take, Option, Some, None, Result, Ok, Err, refl, sym, ap, ◌∙◌, append_assoc}
-use Rattle.std.specs.Prelude.{IfOk}
+use Rattle.std.proofs.Common.{◌≡◌, ℕ, true, false, ◌+◌, ◌-◌, ◌≤◌, List, [], ◌++◌, length, take, Option, Some, None, Result, Ok, Err, refl, sym, ap, ◌∙◌, append_assoc}
+use Rattle.std.specs.Prelude.{IfOk, is_err}
 use Rattle.std.specs.Io.KnownBytes.{Appends, Consumes, Keeps, IsAtEnd}
 use Rattle.std.proofs.lemmas.List.{append-nil, length-take-le, take-append-le}
 use Rattle.std.proofs.Math.Seq.{take-append-add}
 use borrow.Rule.Slice.PartMut.{put_mid, post_of}
+use Rattle.pv_outside.specs.Sink.{Writes}
 use Rattle.pv_outside.specs.Source.{Takes, Leaves}
 use Rattle.pv_outside.specs.declared.failed.Failed.{Failed}
 use Rattle.prestel.specs.Play.{HasRead}
@@ -53,6 +54,18 @@ Keeps-consumes : (a b : Option (List ℕ)) → Keeps a b → Consumes a b []
 Keeps-consumes None b p = tt
 Keeps-consumes (Some xs) None p = absurd p
 Keeps-consumes (Some xs) (Some ys) p = sym p
+
+-- ---- what is written
+
+-- a write that failed wrote a prefix
+pub prefix_written : {T : Type 0} (answer : Result T Failed) (a b : Option (List ℕ)) (text : List ℕ) → Writes a b answer text → is_err answer ≡ true → (count : ℕ) × Appends a b (take count text)
+prefix_written (Ok done) a b text written failed = absurd cc
+prefix_written (Err fault) a b text written failed = written
+
+-- one that did not wrote the whole
+pub whole_written : {T : Type 0} (answer : Result T Failed) (a b : Option (List ℕ)) (text : List ℕ) → Writes a b answer text → is_err answer ≡ false → Appends a b text
+whole_written (Ok done) a b text written passed = written
+whole_written (Err fault) a b text written passed = absurd cc
 
 -- ---- what is read
 

@@ -1,5 +1,5 @@
 -- What was run and written, line by line.
-use Rattle.std.proofs.Common.{◌≡◌, ℕ, ◌+◌, ◌≤◌, List, [], ◌∷◌, ◌++◌, length, take, Option, refl, sym, ap, subst, ◌∙◌, append_assoc, arith}
+use Rattle.std.proofs.Common.{◌≡◌, ℕ, ◌+◌, ◌≤◌, ◌==◌, List, [], ◌∷◌, ◌++◌, length, take, Option, refl, sym, ap, subst, ◌∙◌, append_assoc, arith}
 use Rattle.std.specs.Io.KnownBytes.{Appends}
 use Rattle.std.proofs.lemmas.List.{append-nil, length-append}
 use Rattle.std.proofs.Math.Seq.{take-append-add}
@@ -12,7 +12,7 @@ use Rattle.prestel.specs.declared.ends.RunEnd.{RunEnd}
 use Rattle.prestel.specs.declared.ends.RunEnd.TheVariants.{BadLine, Unanswered}
 use Rattle.prestel.specs.declared.grammar.Command.{Command}
 use Rattle.prestel.specs.Ends.{HasRun, IsLineEnd, IsRunEnd}
-use Rattle.prestel.specs.Grammar.{ReadsLine, IsCommandChoice, AreRead}
+use Rattle.prestel.specs.Grammar.{ReadsLine, HasNoForm, IsCommandChoice, AreRead}
 use Rattle.prestel.specs.Play.{IsTranscript, IsPlayed, StopsAfterLine}
 use Rattle.prestel.specs.Transcript.{answer_to, answers, world_after, world_after_all}
 use Rattle.prestel.proofs.Reading.{Appends-none, Appends-more}
@@ -32,12 +32,16 @@ answers-push w (first ∷ runs) run =
     ∙ sym (append_assoc (answer_to w first.0 first.1) _ _)
 
 -- one line more reads as one command more
-read-push : (centres : ℕ) (lines : List (List ℕ)) (runs : List (Command × Choice)) (line : List ℕ) (run : Command × Choice)
-    → AreRead centres lines runs → ReadsLine centres line run.0 × IsCommandChoice run.0 run.1 → AreRead centres (lines ++ line ∷ []) (runs ++ run ∷ [])
-read-push centres [] [] line run read reads = (reads, tt)
-read-push centres [] (c ∷ cs) line run read reads = absurd read
-read-push centres (l ∷ ls) [] line run read reads = absurd read
-read-push centres (l ∷ ls) (c ∷ cs) line run read reads = (read.0, read-push centres ls cs line run read.1 reads)
+read-push : (centres number at : ℕ) (lines : List (List ℕ)) (runs : List (Command × Choice)) (line : List ℕ) (run : Command × Choice)
+    → at ≡ length lines + number → AreRead centres number lines runs → ReadsLine centres (at == 1) line run.0 → IsCommandChoice run.0 run.1
+    → AreRead centres number (lines ++ line ∷ []) (runs ++ run ∷ [])
+read-push centres number at [] [] line run is read reads choice =
+    let here : at ≡ number = omega (arith, is) in
+    (subst (λ (n : ℕ). ReadsLine centres (n == 1) line run.0) here reads, choice, tt)
+read-push centres number at [] (c ∷ cs) line run is read reads choice = absurd read
+read-push centres number at (l ∷ ls) [] line run is read reads choice = absurd read
+read-push centres number at (l ∷ ls) (c ∷ cs) line run is read reads choice =
+    (read.0, read.1, read-push centres (number + 1) at ls cs line run (omega (arith, is)) read.2 reads choice)
 
 -- ---- the run so far
 
@@ -70,7 +74,7 @@ module _ (centres : ℕ) (first : World) (text : List ℕ) (before : Option (Lis
       let t = p.transcript in
       let all : p.done ≡ lines_of text = sym (append-nil p.done) ∙ sym p.lines in
       record {
-        transcript = record { runs = t.runs; read = subst (λ (l : List (List ℕ)). AreRead centres l t.runs) all t.read; written = t.written };
+        transcript = record { runs = t.runs; read = subst (λ (l : List (List ℕ)). AreRead centres 1 l t.runs) all t.read; written = t.written };
         stands = p.stands;
         one_list = p.stands.sound.law;
       }
@@ -81,7 +85,7 @@ module _ (centres : ℕ) (first : World) (text : List ℕ) (before : Option (Lis
     longer = p.lines ∙ ap (λ (l : List (List ℕ)). p.done ++ l) is ∙ sym (append_assoc p.done (line ∷ []) (lines_of later))
 
     -- one line more was run
-    pub goes_on : (new : State) → HasRun centres line old new mid now → Progress later (number + 1) new now
+    pub goes_on : (new : State) → HasRun centres (number + 1 == 1) line old new mid now → Progress later (number + 1) new now
     goes_on new run =
         let runs = p.transcript.runs in
         let next : Command × Choice = (run.0, run.2.0) in
@@ -92,7 +96,7 @@ module _ (centres : ℕ) (first : World) (text : List ℕ) (before : Option (Lis
           count = omega (arith, length-append p.done (line ∷ []), p.count);
           transcript = record {
             runs = runs ++ next ∷ [];
-            read = read-push centres p.done runs line next p.transcript.read (run.1, run.2.1);
+            read = read-push centres 1 (number + 1) p.done runs line next (omega (arith, p.count)) p.transcript.read run.1 run.2.1;
             written = subst (λ (l : List ℕ). Appends before now l) (sym (answers-push first runs next)) (Appends-more before mid now (answers first runs) _ p.transcript.written step.1);
           };
           stands = subst (λ (w : World). StandsFor new w) (sym (world_after-push first runs next)) step.0;
@@ -107,7 +111,7 @@ module _ (centres : ℕ) (first : World) (text : List ℕ) (before : Option (Lis
       later = lines_of later;
       lines = p.lines ∙ ap (λ (l : List (List ℕ)). p.done ++ l) is;
       place = omega (arith, p.count, end.0);
-      none = end.1;
+      none = subst (λ (n : ℕ). HasNoForm centres (n == 1) line) (sym end.0) end.1;
       transcript = subst (λ (k : Option (List ℕ)). IsTranscript centres first p.done before k) (sym end.2) p.transcript;
     }
     stops faults_before faults_mid faults_now (Unanswered answering.Fault) counted end =
@@ -121,7 +125,7 @@ module _ (centres : ℕ) (first : World) (text : List ℕ) (before : Option (Lis
             later = lines_of later;
             runs = runs ++ next ∷ [];
             lines = longer;
-            read = read-push centres p.done runs line next p.transcript.read (end.1, end.2.1.1);
+            read = read-push centres 1 (number + 1) p.done runs line next (omega (arith, p.count)) p.transcript.read end.1 end.2.1.1;
             count = length (answers first runs) + step.0;
             written = subst (λ (l : List ℕ). Appends before now l) (sym prefix) (Appends-more before mid now (answers first runs) _ p.transcript.written step.1);
           },

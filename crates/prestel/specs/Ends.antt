@@ -1,5 +1,5 @@
 -- Why a part of a play ended before its end: reading the script, an answer, a line, all lines.
-use Rattle.std.specs.Prelude.{◌≡◌, ℕ, ◌+◌, ◌≤◌, List, [], length, take, Option}
+use Rattle.std.specs.Prelude.{◌≡◌, ℕ, ◌+◌, ◌≤◌, ◌==◌, Bool, List, [], length, take, Option}
 use Rattle.std.specs.Io.KnownBytes.{Appends}
 use Rattle.pv_outside.specs.Counts.{Rose}
 use Rattle.pv_outside.specs.declared.status.Status.{Status}
@@ -52,14 +52,14 @@ IsAnswerEnd command old before now faults_before faults_now answering.Fault = Ro
 IsAnswerEnd command old before now faults_before faults_now answering.Memory = now ≡ before
 
 -- a line was run: it reads as a command that was run
-abbrev pub HasRun : ℕ → List ℕ → State → State → Option (List ℕ) → Option (List ℕ) → Type 0
-HasRun centres line old new before now = (command : Command) × ReadsLine centres line command × GivesAnswer command old new before now
+abbrev pub HasRun : ℕ → Bool → List ℕ → State → State → Option (List ℕ) → Option (List ℕ) → Type 0
+HasRun centres first line old new before now = (command : Command) × ReadsLine centres first line command × GivesAnswer command old new before now
 
 -- why a line was not run
 abbrev pub IsLineEnd : ℕ → List ℕ → ℕ → State → Option (List ℕ) → Option (List ℕ) → ℕ → ℕ → RunEnd → Type 0
-IsLineEnd centres line number old before now faults_before faults_now (BadLine bad) = (bad ≡ number) × HasNoForm centres line × (now ≡ before)
+IsLineEnd centres line number old before now faults_before faults_now (BadLine bad) = (bad ≡ number) × HasNoForm centres (number == 1) line × (now ≡ before)
 IsLineEnd centres line number old before now faults_before faults_now (Unanswered end) =
-    (command : Command) × ReadsLine centres line command × IsAnswerEnd command old before now faults_before faults_now end
+    (command : Command) × ReadsLine centres (number == 1) line command × IsAnswerEnd command old before now faults_before faults_now end
 
 -- why a text's lines were not all run
 abbrev pub IsRunEnd : ℕ → World → List ℕ → Option (List ℕ) → Option (List ℕ) → ℕ → ℕ → RunEnd → Type 0

@@ -1,5 +1,5 @@
 -- How a play may end, and what then was read and written.
-use Rattle.std.specs.Prelude.{◌≡◌, ℕ, ◌+◌, ◌≤◌, Bool, IsTrue, List, [], ◌∷◌, ◌++◌, length, take, Option, Some, None, IsSomeAnd, codes, decimal}
+use Rattle.std.specs.Prelude.{◌≡◌, ℕ, ◌+◌, ◌≤◌, ◌==◌, Bool, IsTrue, List, [], ◌∷◌, ◌++◌, length, take, Option, Some, None, IsSomeAnd, codes, decimal}
 use Rattle.std.specs.Io.KnownBytes.{Appends, Consumes}
 use Rattle.std.proofs.Common.{lit<, lit≤}
 use Rattle.pv_outside.specs.declared.limits.Limits.{Limits}
@@ -54,7 +54,7 @@ IsAllLeft (Some left) text = left ≡ text
 -- every one of the lines was read as a command and run, and what was written is the answers to them
 pub record IsTranscript (centres : ℕ) (first : World) (lines : List (List ℕ)) (written_before written_now : Option (List ℕ)) : Type 0 where
   pub runs : List (Command × Choice)
-  pub read : AreRead centres lines runs
+  pub read : AreRead centres 1 lines runs
   pub written : Appends written_before written_now (answers first runs)
 
 -- Every line of the text was run: what was written is the answers, and the network stands for the world after them, in which
@@ -72,7 +72,7 @@ pub record StopsAtBadLine (centres : ℕ) (first : World) (text : List ℕ) (num
   pub later : List (List ℕ)
   pub lines : lines_of text ≡ run ++ bad ∷ later
   pub place : length run + 1 ≡ number
-  pub none : HasNoForm centres bad
+  pub none : HasNoForm centres (number == 1) bad
   pub transcript : IsTranscript centres first run written_before written_now
 
 -- the first lines were read, and what was written is a prefix of their answers
@@ -81,7 +81,7 @@ pub record StopsInAnswers (centres : ℕ) (first : World) (text : List ℕ) (wri
   pub later : List (List ℕ)
   pub runs : List (Command × Choice)
   pub lines : lines_of text ≡ run ++ later
-  pub read : AreRead centres run runs
+  pub read : AreRead centres 1 run runs
   pub count : ℕ
   pub written : Appends written_before written_now (take count (answers first runs))
 

@@ -1,5 +1,6 @@
 -- What is written for what came of a script's commands.
-use Rattle.std.specs.Prelude.{ℕ, List, [], ◌∷◌, ◌++◌, Option, Some, None, codes, decimal}
+use Rattle.std.specs.Prelude.{ℕ, List, [], ◌∷◌, ◌++◌, length, Option, Some, None, codes, decimal}
+use Rattle.pv_outside.specs.declared.limits.Limits.{Limits}
 use Rattle.pv_cells.specs.Notation.{notation_of}
 use Rattle.pv_screen.specs.Painting.{screen_bytes}
 use Rattle.pv_network.specs.declared.outcome.Why.{Why}
@@ -7,10 +8,11 @@ use Rattle.pv_network.specs.declared.outcome.Why.TheVariants.{Finished, Refused,
 use Rattle.pv_network.specs.declared.outcome.Why.TheVariants as why
 use Rattle.pv_network.specs.declared.outcome.Outcome.{Outcome}
 use Rattle.pv_network.specs.declared.outcome.Outcome.TheVariants as outcomes
-use Rattle.pv_network.specs.World.{World}
+use Rattle.pv_network.specs.World.{World, start}
 use Rattle.pv_network.specs.Step.{Choice, happens}
 use Rattle.prestel.specs.declared.grammar.Command.{Command}
 use Rattle.prestel.specs.declared.grammar.Command.TheVariants.{Nothing, Do}
+use Rattle.prestel.specs.declared.grammar.Command.TheVariants as commands
 
 -- the end of a line
 abbrev pub newline : List ℕ
@@ -42,20 +44,27 @@ answer_text (outcomes.Old number ack) = codes "old " ++ decimal number ++ ack_te
 answer_text (outcomes.Early number ack) = codes "early " ++ decimal number ++ ack_text ack ++ newline
 answer_text (outcomes.Heard number) = codes "heard " ++ decimal number ++ newline
 answer_text (outcomes.Full count) = codes "full " ++ decimal count ++ newline
+answer_text (outcomes.Carried records items) = codes "carried " ++ decimal records ++ codes " " ++ decimal items ++ newline
 answer_text outcomes.NotHeld = codes "-" ++ newline
 answer_text (outcomes.Applied count) = codes "applied " ++ decimal count ++ newline
 answer_text (outcomes.Records count) = codes "records " ++ decimal count ++ newline
 
+-- what is written for limits
+abbrev pub limits_text : Limits → List ℕ
+limits_text limits = codes "limits " ++ decimal limits.frames ++ codes " " ++ decimal limits.records ++ newline
+
 -- ---- commands, one after another; beside each stands what was open in it
 
--- the world after a command
+-- the world after a command: limits begin the play again, before anything has happened
 abbrev pub world_after : World → Command → Choice → World
 world_after w Nothing choice = w
+world_after w (commands.Limits limits) choice = start (length w.centres) limits
 world_after w (Do event) choice = (happens w event choice).0
 
 -- what is written for a command
 abbrev pub answer_to : World → Command → Choice → List ℕ
 answer_to w Nothing choice = []
+answer_to w (commands.Limits limits) choice = limits_text limits
 answer_to w (Do event) choice = answer_text (happens w event choice).1
 
 -- the world after commands

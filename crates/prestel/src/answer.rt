@@ -1,9 +1,10 @@
 ghost use Rattle.std.specs.Prelude.{◌≡◌, ◌++◌, OnOk, decimal};
-ghost use Rattle.prestel.specs.Transcript.{answer_text, ack_text, end_text, newline};
+ghost use Rattle.prestel.specs.Transcript.{answer_text, limits_text, ack_text, end_text, newline};
 
 use itoa::Buffer;
 use pv_cells::push_notation;
 use pv_network::{Outcome, Turn, Why};
+use pv_outside::Limits;
 use pv_screen::BUFFER;
 use std::alloc::AllocError;
 
@@ -30,10 +31,24 @@ pub fn push_answer(text: &mut Vec<u8>, outcome: &Outcome) -> Result<(), AllocErr
         Outcome::Early { number, ack } => push_arrival(text, b"early ", *number, *ack),
         Outcome::Heard { number } => push_line(text, b"heard ", *number),
         Outcome::Full { count } => push_line(text, b"full ", *count),
+        Outcome::Carried { records, items } => {
+            push_number(text, b"carried ", *records)?;
+            push_number(text, b" ", *items)?;
+            push_words(text, b"\n")
+        }
         Outcome::NotHeld => push_words(text, b"-\n"),
         Outcome::Applied { count } => push_line(text, b"applied ", *count),
         Outcome::Records { count } => push_line(text, b"records ", *count),
     }
+}
+
+/// Appends the line that answers limits.
+pub fn push_limits(text: &mut Vec<u8>, limits: Limits) -> Result<(), AllocError>
+    ensures { OnOk result (text.new.items ≡ text.old.items ++ limits_text limits) }
+{
+    push_number(text, b"limits ", limits.frames as u64)?;
+    push_number(text, b" ", limits.records as u64)?;
+    push_words(text, b"\n")
 }
 
 /// Appends words.

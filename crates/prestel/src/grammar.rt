@@ -1,11 +1,11 @@
-ghost use Rattle.std.specs.Prelude.{◌≡◌, Some, IfSome};
+ghost use Rattle.std.specs.Prelude.{◌≡◌, ◌↔◌, Some, IfSome, IsTrue};
 ghost use Rattle.pv_words.specs.Parts.{Exactly};
-ghost use Rattle.pv_network.specs.declared.event.Event.{Event};
-ghost use Rattle.prestel.specs.Grammar.{Asks, AsksAs, ReadsLine};
+ghost use Rattle.prestel.specs.Grammar.{Asks, AsksAs, MayStand, ReadsLine};
 
-use crate::readers::{FrameText, RowText};
+use crate::readers::{FrameText, LimitsText, RowText};
 use crate::word::{Word, word_of};
 use pv_network::{EDITORS, Event};
+use pv_outside::Limits;
 use pv_words::{AllOf, Below, Number, none_as, one_as, split_word, two_as};
 
 /// The byte that begins a comment.
@@ -16,70 +16,91 @@ pub const COMMENT: u8 = b';';
 pub enum Command<'a> {
     /// Nothing: the line is empty or a comment.
     Nothing,
+    /// That the play begins with these limits.
+    Limits(Limits),
     /// That an event happens.
     Do(Event<'a>),
 }
 
-/// What a line asks for in a play of this many centres. `None` exactly when it is not a valid command.
-pub fn parse(line: &[u8], centres: u8) -> Option<Command<'_>>
-    ensures found { IfSome result (ReadsLine centres line.now) }
-    ensures only { (command : Command) → ReadsLine centres line.now command → result ≡ Some command }
+impl<'a> Command<'a> {
+    /// Whether it may stand on the first line of a script, or on another line.
+    fn may_stand(&self, first: bool) -> bool
+        ensures { IsTrue result ↔ MayStand first self.now }
+    {
+        match self {
+            Command::Limits(_) => first,
+            Command::Nothing | Command::Do(_) => true,
+        }
+    }
+}
+
+/// What a line asks for in a play of this many centres, if it is the first of its script or if it is not. `None`
+/// exactly when it is not a valid command there.
+pub fn parse(line: &[u8], first: bool, centres: u8) -> Option<Command<'_>>
+    ensures found { IfSome result (ReadsLine centres first line.now) }
+    ensures only { (command : Command) → ReadsLine centres first line.now command → result ≡ Some command }
 {
     if line.is_empty() || line[0] == COMMENT {
         return Some(Command::Nothing);
     }
-    let event = event_of(line, centres)?;
-    Some(Command::Do(event))
+    let command = command_of(line, centres)?;
+    if command.may_stand(first) {
+        Some(command)
+    } else {
+        None
+    }
 }
 
-/// The event that a line asks for. `None` exactly when it asks for none.
-fn event_of(line: &[u8], centres: u8) -> Option<Event<'_>>
+/// What the words of a line ask for. `None` exactly when they ask for nothing.
+fn command_of(line: &[u8], centres: u8) -> Option<Command<'_>>
     ensures found { IfSome result (Asks centres line.now) }
-    ensures only { (event : Event) → Asks centres line.now event → result ≡ Some event }
+    ensures only { (command : Command) → Asks centres line.now command → result ≡ Some command }
 {
     let (first, tail) = split_word(line);
     let word = word_of(first)?;
-    asked_event(word, tail, centres)
+    asked_command(word, tail, centres)
 }
 
-/// The event that a word and the tail after it ask for. `None` exactly when they ask for none.
-fn asked_event(word: Word, tail: &[u8], centres: u8) -> Option<Event<'_>>
+/// What a word and the tail after it ask for. `None` exactly when they ask for nothing.
+fn asked_command(word: Word, tail: &[u8], centres: u8) -> Option<Command<'_>>
     ensures { Exactly (AsksAs centres word tail.now) result }
 {
     let centre = Below(centres);
     match word {
+        Word::Limits => one_as(&LimitsText, tail, |limits| Command::Limits(limits)),
         Word::Seed => two_as(
             &FrameText,
             &RowText,
             tail,
-            |(name, row)| Event::Seed { name, row },
+            |(name, row)| Command::Do(Event::Seed { name, row }),
         ),
         Word::Edit => two_as(
             &Below(EDITORS),
             &AllOf,
             tail,
-            |(port, line)| Event::Edit { port, line },
+            |(port, line)| Command::Do(Event::Edit { port, line }),
         ),
-        Word::Send => one_as(&centre, tail, |centre| Event::Send { centre }),
+        Word::Send => one_as(&centre, tail, |centre| Command::Do(Event::Send { centre })),
         Word::Deliver => two_as(
             &centre,
             &Number,
             tail,
-            |(centre, index)| Event::Deliver { centre, index },
+            |(centre, index)| Command::Do(Event::Deliver { centre, index }),
         ),
         Word::Back => two_as(
             &centre,
             &Number,
             tail,
-            |(centre, index)| Event::Back { centre, index },
+            |(centre, index)| Command::Do(Event::Back { centre, index }),
         ),
+        Word::Carry => one_as(&centre, tail, |centre| Command::Do(Event::Carry { centre })),
         Word::View => two_as(
             &centre,
             &FrameText,
             tail,
-            |(centre, name)| Event::View { centre, name },
+            |(centre, name)| Command::Do(Event::View { centre, name }),
         ),
-        Word::At => one_as(&centre, tail, |centre| Event::At { centre }),
-        Word::List => none_as(tail, Event::List),
+        Word::At => one_as(&centre, tail, |centre| Command::Do(Event::At { centre })),
+        Word::List => none_as(tail, Command::Do(Event::List)),
     }
 }

@@ -1,12 +1,13 @@
-ghost use Rattle.std.specs.Prelude.{◌≡◌, ℕ, ◌+◌, ◌<◌, ◌≤◌, ◌↔◌, List, [], ◌∷◌, map, length, Some, None, IfOk, IfErr, IfSome, OnOk, IsSome, string_bytes};
+ghost use Rattle.std.specs.Prelude.{◌≡◌, ℕ, ◌+◌, ◌<◌, ◌≤◌, ◌==◌, ◌↔◌, List, [], ◌∷◌, map, length, Some, None, IfOk, IfErr, IfSome, OnOk, IsSome, string_bytes};
 ghost use Rattle.pv_outside.specs.Counts.{Rose};
 ghost use Rattle.pv_network.specs.declared.event.TheConstants.{MAX_CENTRES};
 ghost use Rattle.pv_network.specs.Standing.{StandsFor, IsPossible};
 ghost use Rattle.prestel.specs.declared.grammar.Command.TheVariants.{Do};
+ghost use Rattle.prestel.specs.declared.grammar.Command.TheVariants as commands;
 ghost use Rattle.prestel.specs.Ends.{GivesAnswer, HasRun, IsAnswerEnd, IsLineEnd, IsRunEnd};
 ghost use Rattle.prestel.specs.Play.{AskToPlay, AskNoPlay, HasRead, IsPlayOf, IsPlayed, IsNotRun, first_world};
 
-use crate::answer::push_answer;
+use crate::answer::{push_answer, push_limits};
 use crate::ends::{AnswerEnd, RunEnd};
 use crate::grammar::{Command, parse};
 use crate::script::{LONGEST_SCRIPT, read_script};
@@ -145,6 +146,8 @@ fn run_lines<K: Sink>(
 ) -> Result<(), RunEnd>
     requires short { length text.now ≤ LONGEST_SCRIPT }
     requires centres { length network.old.centres ≡ centres }
+    requires some { 1 ≤ centres }
+    requires few { centres ≤ MAX_CENTRES }
     requires new { StandsFor network.old (first_world centres) }
     ensures ok { OnOk result (IsPlayed centres (first_world centres) text.now network.new (K.written out.old)
         (K.written out.new)) }
@@ -158,7 +161,7 @@ fn run_lines<K: Sink>(
     while !rest.is_empty() {
         let (line, later) = first_line(rest);
         number += 1;
-        run_line(line, number, centres, network, &mut answer, out)?;
+        run_line(alloc, centres, line, number, network, &mut answer, out)?;
         rest = later;
     }
     Ok(())
@@ -166,29 +169,71 @@ fn run_lines<K: Sink>(
 
 /// Runs one line, of this number, in a play of this many centres.
 fn run_line<K: Sink>(
+    alloc: Global,
+    centres: u8,
     line: &[u8],
     number: u32,
-    centres: u8,
     network: &mut Network,
     answer: &mut Vec<u8>,
     out: &mut K,
 ) -> Result<(), RunEnd>
-    requires { length network.old.centres ≡ centres }
-    ensures ok { OnOk result (HasRun centres line.now network.old network.new (K.written out.old)
+    requires centres { length network.old.centres ≡ centres }
+    requires some { 1 ≤ centres }
+    requires few { centres ≤ MAX_CENTRES }
+    ensures ok { OnOk result (HasRun centres (number == 1) line.now network.old network.new (K.written out.old)
         (K.written out.new)) }
     ensures err { IfErr result (IsLineEnd centres line.now number network.old
         (K.written out.old) (K.written out.new) (K.write_faults out.old) (K.write_faults out.new)) }
     ensures counted { K.write_faults out.old ≤ K.write_faults out.new }
     ensures centres { length network.new.centres ≡ length network.old.centres }
 {
-    match parse(line, centres) {
+    match parse(line, number == 1, centres) {
         None => Err(RunEnd::BadLine { line: number }),
         Some(Command::Nothing) => Ok(()),
+        Some(Command::Limits(limits)) => {
+            match begin_again(alloc, centres, limits, network, answer, out) {
+                Ok(()) => Ok(()),
+                Err(end) => Err(RunEnd::Unanswered(end)),
+            }
+        }
         Some(Command::Do(event)) => match run_event(&event, network, answer, out) {
             Ok(()) => Ok(()),
             Err(end) => Err(RunEnd::Unanswered(end)),
         },
     }
+}
+
+/// Begins the play again with these limits, and writes the answer. Nothing has happened yet.
+fn begin_again<K: Sink>(
+    alloc: Global,
+    centres: u8,
+    limits: Limits,
+    network: &mut Network,
+    answer: &mut Vec<u8>,
+    out: &mut K,
+) -> Result<(), AnswerEnd>
+    requires centres { length network.old.centres ≡ centres }
+    requires some { 1 ≤ centres }
+    requires few { centres ≤ MAX_CENTRES }
+    ensures ok { OnOk result (GivesAnswer (commands.Limits limits) network.old network.new (K.written out.old)
+        (K.written out.new)) }
+    ensures err { IfErr result (IsAnswerEnd (commands.Limits limits) network.old
+        (K.written out.old) (K.written out.new) (K.write_faults out.old) (K.write_faults out.new)) }
+    ensures counted { K.write_faults out.old ≤ K.write_faults out.new }
+    ensures centres { length network.new.centres ≡ length network.old.centres }
+{
+    let Ok(fresh) = Network::open(alloc, centres, limits) else {
+        return Err(AnswerEnd::Memory);
+    };
+    *network = fresh;
+    answer.clear();
+    if push_limits(answer, limits).is_err() {
+        return Err(AnswerEnd::Memory);
+    }
+    if out.write_all(answer).is_err() {
+        return Err(AnswerEnd::Fault);
+    }
+    Ok(())
 }
 
 /// Lets an event happen, and writes the answer by one write.

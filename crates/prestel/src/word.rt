@@ -1,9 +1,11 @@
 ghost use Rattle.std.specs.Prelude.{◌≡◌};
 ghost use Rattle.prestel.specs.Words.{word_of_text};
 
-/// The first word of a line that asks for an event.
+/// The first word of a line.
 #[derive(Clone, Copy, Debug, PartialEq, Eq)]
 pub enum Word {
+    /// `limits FRAMES RECORDS`
+    Limits,
     /// `seed NAME TEXT`
     Seed,
     /// `edit E LINE`
@@ -14,6 +16,8 @@ pub enum Word {
     Deliver,
     /// `back C K`
     Back,
+    /// `carry C`
+    Carry,
     /// `view C NAME`
     View,
     /// `at C`
@@ -26,7 +30,9 @@ pub enum Word {
 pub fn word_of(text: &[u8]) -> Option<Word>
     ensures { result ≡ word_of_text text.now }
 {
-    if text == b"seed".as_slice() {
+    if text == b"limits".as_slice() {
+        Some(Word::Limits)
+    } else if text == b"seed".as_slice() {
         Some(Word::Seed)
     } else if text == b"edit".as_slice() {
         Some(Word::Edit)
@@ -36,6 +42,8 @@ pub fn word_of(text: &[u8]) -> Option<Word>
         Some(Word::Deliver)
     } else if text == b"back".as_slice() {
         Some(Word::Back)
+    } else if text == b"carry".as_slice() {
+        Some(Word::Carry)
     } else if text == b"view".as_slice() {
         Some(Word::View)
     } else if text == b"at".as_slice() {

@@ -4,12 +4,8 @@ use Rattle.std.specs.Io.KnownBytes.{Appends}
 use Rattle.pv_outside.specs.Sink.{Writes}
 use Rattle.pv_outside.specs.declared.failed.Failed.{Failed}
 use Rattle.prestel.specs.Transcript.{answer_text}
+use Rattle.prestel.proofs.Reading.{prefix_written}
 use Rattle.prestel.proofs.play.run_event.Goals as goal
-
--- a write that failed wrote a prefix
-prefix_written : {T : Type 0} (answer : Result T Failed) (a b : Option (List ℕ)) (text : List ℕ) → Writes a b answer text → is_err answer ≡ true → (count : ℕ) × Appends a b (take count text)
-prefix_written (Ok done) a b text written failed = absurd cc
-prefix_written (Err fault) a b text written failed = written
 
 -- the answer could not be written
 pub returns-then-is_err-2-clause-err : goal.returns-then-is_err-2-clause-err

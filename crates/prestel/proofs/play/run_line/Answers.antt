@@ -1,15 +1,26 @@
-use Rattle.std.proofs.Common.{ℕ, true, None, sym, subst}
-use Rattle.prestel.specs.declared.grammar.Command.TheVariants.{Nothing}
+use Rattle.std.proofs.Common.{ℕ, ◌==◌, Bool, true, List, None, refl, sym, subst, inl, inr}
+use Rattle.pv_network.specs.declared.event.Event.{Event}
+use Rattle.prestel.specs.declared.grammar.Command.TheVariants.{Nothing, Do}
 use Rattle.prestel.proofs.Reading.{Appends-none}
-use Rattle.prestel.specs.Grammar.{AsksAs}
+use Rattle.prestel.specs.Grammar.{Asks, AsksAs, ReadsLine}
 use Rattle.prestel.proofs.Happening.{can_happen}
 use Rattle.prestel.proofs.play.run_line.Goals as goal
+
+-- an event that a line reads as is one that it asks for
+asks_for : (centres : ℕ) (first : Bool) (line : List ℕ) (event : Event) → ReadsLine centres first line (Do event) → Asks centres line (Do event)
+asks_for centres first line event (inl nothing) = absurd cc
+asks_for centres first line event (inr asks) = asks.0
 
 -- its centre is one that there is
 pub run_event-requires : goal.run_event-requires
 run_event-requires g c =
-    let asks = rw c.in-Some-Do.field-0-is at c.in-Some-Do.ensures.found in
-    can_happen c.args.network.now asks.2 asks.1 c.in-Some-Do.event (subst (λ (centres : ℕ). AsksAs centres asks.2 asks.1 c.in-Some-Do.event) (sym c.requires) asks.5)
+    let asks = asks_for _ (c.args.number == 1) _ c.in-Some-Do.event (rw c.in-Some-Do.field-0-is at c.in-Some-Do.ensures.found) in
+    can_happen c.args.network.now asks.2 asks.1 c.in-Some-Do.event
+    (subst (λ (centres : ℕ). AsksAs centres asks.2 asks.1 (Do c.in-Some-Do.event)) (sym c.requires.centres) asks.5)
+
+-- the line reads as nothing
+pub returns-in-None-clause-err : goal.returns-in-None-clause-err
+returns-in-None-clause-err g c = (refl, (λ command reads. let none = c.in-None.ensures.only command reads in absurd cc), refl)
 
 -- nothing is done, and nothing is open in it
 pub returns-in-Some-Nothing-clause-ok : goal.returns-in-Some-Nothing-clause-ok
