@@ -1,5 +1,5 @@
 -- How a run of the whole program may end, and what then has gone to the writer after its buffer.
-use Rattle.std.specs.Prelude.{◌≡◌, ℕ, ◌+◌, ◌≤◌, ◌⊎◌, Bool, List, [], drop, length, take, Option}
+use Rattle.std.specs.Prelude.{◌≡◌, ℕ, ◌+◌, ◌≤◌, ◌⊎◌, Bool, List, [], length, take, Option}
 use Rattle.std.specs.Io.KnownBytes.{Appends}
 use Rattle.pv_outside.specs.Counts.{Rose}
 use Rattle.pv_outside.specs.declared.status.Status.{Status}
@@ -8,7 +8,7 @@ use Rattle.pv_words.specs.Lines.{lines_of}
 use Rattle.pv_network.specs.World.{World}
 use Rattle.prestel.specs.declared.streams.StandardOutput.{StandardOutput}
 use Rattle.prestel.specs.Output.{written_bytes, flushed_bytes, buffered_bytes}
-use Rattle.prestel.specs.Play.{longest_script, IsReadWhole, IsTranscript, StopsAtBadLine, StopsInAnswers, StopsAfterLine}
+use Rattle.pv_script.specs.Play.{longest_script, IsReadWhole, IsTranscript, StopsAtBadLine, StopsInAnswers, StopsAfterLine}
 
 -- How it may end that a text of the program is written: the writer itself has the whole of it, and nothing is in the buffer, or
 -- the output failed after a prefix of it.
@@ -24,7 +24,7 @@ WritesText contents text before now _ = ⊥
 abbrev pub IsRunOf : {W : Type 0} → (W → Option (List ℕ)) → ℕ → World → List ℕ → Option (List ℕ) → Bool → StandardOutput W → StandardOutput W → Status → Type 0
 IsRunOf contents centres first text left ended before now Done = IsReadWhole text left ended
     × IsTranscript centres first (lines_of text) (written_bytes contents before) (flushed_bytes contents now) × (buffered_bytes now ≡ [])
-IsRunOf contents centres first text left ended before now Usage = text ≡ []
+IsRunOf contents centres first text left ended before now Usage = ⊥
 IsRunOf contents centres first text left ended before now (BadLine number) = IsReadWhole text left ended
     × StopsAtBadLine centres first text number (written_bytes contents before) (flushed_bytes contents now) × (buffered_bytes now ≡ [])
 IsRunOf contents centres first text left ended before now ReadFault = length text ≤ longest_script

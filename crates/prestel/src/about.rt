@@ -5,13 +5,12 @@ ghost use Rattle.prestel.specs.About.{about_words, about_text};
 const VERSION: &str = "prestel 0.1.0\n";
 
 /// How the program is used.
-const HELP: &str = "usage: prestel play 1 < SCRIPT
+const HELP: &str = "usage: prestel play N < SCRIPT
        prestel --help
        prestel --version
 
-Runs the script on standard input on a viewdata network of one retrieval
-centre, and writes an answer to each event. The 1 is the number of centres;
-only 1 is supported so far.
+Runs the script on standard input on a viewdata network of N retrieval
+centres, 1 to 4, and writes an answer to each event.
 
 Exit status:
   0  everything was done

@@ -1,4 +1,4 @@
-//! The program: `prestel play 1` runs a script on a viewdata network of one retrieval centre.
+//! The program: `prestel play N` runs a script on a viewdata network of N retrieval centres, 1 to 4.
 //!
 //! The script comes in by standard input and the transcript goes out by standard output; a fault is one
 //! line on standard error, and the exit status says which. All that the program does is
@@ -11,17 +11,10 @@ ghost use Rattle.std.specs.Process.{exit_status};
 ghost use Rattle.pv_outside.specs.Status.{number_of};
 
 mod about;
-mod answer;
-mod ends;
-mod grammar;
-mod play;
 mod program;
-mod readers;
-mod script;
 mod streams;
 #[cfg(test)]
 mod tests;
-mod word;
 
 use crate::program::run_program;
 use crate::streams::{StandardInput, StandardOutput};

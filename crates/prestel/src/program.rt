@@ -1,15 +1,14 @@
 ghost use Rattle.std.specs.Prelude.{◌≡◌, ◌≢◌, ℕ, ◌≤◌, ◌↔◌, List, map, string_bytes};
 ghost use Rattle.pv_outside.specs.Counts.{Rose};
 ghost use Rattle.prestel.specs.About.{about_words, about_text};
-ghost use Rattle.prestel.specs.Play.{play_words, first_world, HasRead, IsNotRun};
+ghost use Rattle.pv_script.specs.Play.{AskToPlay, AskNoPlay, first_world, HasRead, IsNotRun};
 ghost use Rattle.prestel.specs.Program.{WritesText, IsRunOf};
-ghost use Rattle.prestel.specs.declared.play.TheConstants.{CENTRES};
 ghost use Rattle.prestel.specs.declared.about.About.{About};
 
 use crate::about::About;
-use crate::play::play;
 use crate::streams::StandardOutput;
 use pv_outside::{Failed, Sink, Source, Status};
+use pv_script::play;
 use std::alloc::Global;
 use std::io::Write;
 
@@ -25,14 +24,15 @@ pub fn run_program<S: Source, W: Write + Drop>(
     ensures about { (about : About) → map string_bytes words.now ≡ about_words about
         → WritesText W.contents (about_text about) out.old out.new result × (script.new ≡ script.old) }
 
-    // Otherwise what was read is a text, and what the writer has now is what a run of that text makes of it.
-    ensures runs { ((about : About) → map string_bytes words.now ≢ about_words about) → (text : List ℕ)
+    // If they ask for a play, what was read is a text, and what the writer has now is what a run of that text
+    // makes of it.
+    ensures runs { (centres : ℕ) → AskToPlay (map string_bytes words.now) centres → (text : List ℕ)
         × HasRead (S.taken script.old) (S.taken script.new) (S.left script.old) (S.left script.new) text
-        × IsRunOf W.contents CENTRES first_world text (S.left script.old) (S.ended script.new) out.old out.new result }
+        × IsRunOf W.contents centres (first_world centres) text (S.left script.old) (S.ended script.new) out.old out.new result }
 
     // The words are refused exactly when they are none of those, and then nothing is read.
     ensures usage { (result ≡ Status.Usage)
-        ↔ (map string_bytes words.now ≢ play_words
+        ↔ (AskNoPlay (map string_bytes words.now)
         × ((about : About) → map string_bytes words.now ≢ about_words about)) }
     ensures unread { result ≡ Status.Usage → script.new ≡ script.old }
 
@@ -75,13 +75,14 @@ fn play_out<S: Source, W: Write + Drop>(
     script: &mut S,
     out: &mut StandardOutput<W>,
 ) -> Status
-    // What was read is a text, and what the writer has now is what a run of that text makes of it.
-    ensures runs { (text : List ℕ)
+    // If the words ask for a play, what was read is a text, and what the writer has now is what a run of that
+    // text makes of it.
+    ensures runs { (centres : ℕ) → AskToPlay (map string_bytes words.now) centres → (text : List ℕ)
         × HasRead (S.taken script.old) (S.taken script.new) (S.left script.old) (S.left script.new) text
-        × IsRunOf W.contents CENTRES first_world text (S.left script.old) (S.ended script.new) out.old out.new result }
+        × IsRunOf W.contents centres (first_world centres) text (S.left script.old) (S.ended script.new) out.old out.new result }
 
-    // The words are refused exactly when they are others than `play 1`, and then nothing is read.
-    ensures usage { (result ≡ Status.Usage) ↔ (map string_bytes words.now ≢ play_words) }
+    // The words are refused exactly when they ask for no play, and then nothing is read.
+    ensures usage { (result ≡ Status.Usage) ↔ AskNoPlay (map string_bytes words.now) }
     ensures unread { result ≡ Status.Usage → script.new ≡ script.old }
 
     // Nothing is run, and nothing written, if the words, the reading or the length is at fault.

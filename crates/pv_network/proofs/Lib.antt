@@ -1,3 +1,4 @@
+pub mod Carrying
 pub mod Counts
 pub mod Facts
 pub mod Lists

@@ -1,5 +1,5 @@
 -- Each event at a network is that event at each world that it stands for.
-use Rattle.std.proofs.Common.{◌≡◌, ℕ, ◌<◌, true, false, cond, leb, List, [], ◌∷◌, ◌++◌, length, get_or, set, Option, Some, None, refl, sym, ap, subst, ◌∙◌}
+use Rattle.std.proofs.Common.{◌≡◌, ℕ, ◌<◌, true, false, List, [], ◌∷◌, ◌++◌, length, get_or, set, Option, Some, refl, sym, ap, subst, ◌∙◌}
 use Rattle.std.specs.Prelude.{slice_get}
 use Rattle.pv_network.specs.declared.centre.Arrival.{Arrival}
 use Rattle.pv_network.specs.declared.centre.Arrival.TheVariants as arrivals
@@ -21,7 +21,8 @@ use Rattle.pv_network.specs.Centre.{CentreStands, Held, arrival_of, with_next}
 use Rattle.pv_network.specs.Link.{Link, link_in, is_packets_full, number_to_send, with_packet, with_acknowledgement, heard_link}
 use Rattle.pv_network.specs.Sound.{IsGenuine}
 use Rattle.pv_network.specs.Standing.{State, StandsFor}
-use Rattle.pv_network.specs.Step.{step_of_request, step_of_line, step_of_said, step_of_edit, step_of_send, step_of_acknowledging, with_next_at, step_of_arrival, step_of_deliver, step_of_back}
+use Rattle.pv_network.specs.Step.{step_of_request, step_of_line, step_of_said, step_of_edit}
+use Rattle.pv_network.specs.Traffic.{step_of_send, step_of_acknowledging, with_next_at, step_of_arrival, step_of_deliver, step_of_back}
 use Rattle.pv_network.specs.Verdict.{verdict_of, list_after}
 use Rattle.pv_network.specs.World.{World, seat_at, link_at, centre_at}
 use Rattle.pv_network.proofs.Lists.{all_get}

@@ -33,14 +33,18 @@ use Rattle.pv_network.specs.declared.centre.Arrival.{Arrival}
 use Rattle.pv_network.specs.declared.centre.Arrival.TheVariants as arrivals
 use Rattle.pv_network.specs.declared.event.Event.{Event}
 use Rattle.pv_network.specs.declared.event.Event.TheVariants as events
+use Rattle.pv_network.specs.declared.outcome.Outcome.{Outcome}
 use Rattle.pv_network.specs.declared.packet.Packet.{Packet}
+use Rattle.pv_network.specs.declared.round.Round.{Round}
+use Rattle.pv_network.specs.declared.round.Round.TheVariants as rounds
 use Rattle.pv_network.specs.declared.verdict.TheConstants.{FULL}
 use Rattle.pv_network.specs.Centre.{Centre, new_centre, arrival_of}
 use Rattle.pv_network.specs.Link.{End, Link, new_link, is_packets_full, number_to_send, with_packet, with_acknowledgement, with_heard, heard_link}
 use Rattle.pv_network.specs.OneList.{IsNextOfEditor, HasNumbersInOrder, StandsAt, HasOnePlaceEach, MatchesReceipt}
 use Rattle.pv_network.specs.Run.{EachFollows, MayFollow}
 use Rattle.pv_network.specs.Sound.{IsGenuine, IsSoundLink, IsSound}
-use Rattle.pv_network.specs.Step.{Choice, with_verdict, step_of_request, seeded_frame, step_of_line, step_of_said, step_of_edit, step_of_packing, step_of_number, step_of_send, step_of_acknowledging, with_next_at, step_of_arrival, step_of_packet, step_of_deliver, step_of_heard, step_of_back, happens, after}
+use Rattle.pv_network.specs.Step.{Choice, with_verdict, step_of_request, seeded_frame, step_of_line, step_of_said, step_of_edit, happens, after}
+use Rattle.pv_network.specs.Traffic.{packet_room, with_ack_back, round_of_send, round_of_number, step_of_round, after_round, carry_rounds, step_of_packing, step_of_number, step_of_send, step_of_acknowledging, with_next_at, step_of_arrival, step_of_packet, step_of_deliver, step_of_heard, step_of_back}
 use Rattle.pv_network.specs.Verdict.{view_of, verdict_by}
 use Rattle.pv_network.specs.World.{World, Receipt, start, with_seat, centre_at, link_at, with_centre, with_link, with_edit, with_receipt}
 use Rattle.pv_network.proofs.Counts.{count_by-grows, frame_count-none, frames_within}
@@ -381,6 +385,41 @@ sound_back w c index sound = arrives (slice_get (link_at w c).up index) refl
     arrives None is = sound
     arrives (Some count) is = sound_heard w c index count sound is
 
+-- ---- carry
+
+-- a sound world stays sound if an acknowledgement is taken back
+sound_ack_back : (w : World) (c : ℕ) (ack : Option ℕ) → IsSound w → IsSound (with_ack_back w c ack)
+sound_ack_back w c None sound = sound
+sound_ack_back w c (Some index) sound = sound_back w c index sound
+
+-- a sound world stays sound after a round
+sound_round : (w : World) (c : ℕ) → IsSound w → IsSound (step_of_round w c).0
+sound_round w c sound = numbered (number_to_send (link_at w c).sending (length w.update.records))
+  where
+    sent : (v : World) (outcome : Outcome) (packet : Option ℕ) → IsSound v → IsSound (round_of_send v c outcome packet).0
+    sent v outcome None next = next
+    sent v outcome (Some index) next = sound_ack_back (step_of_deliver v c index).0 c _ (sound_deliver v c index next)
+
+    numbered : (number : Option ℕ) → IsSound (round_of_number w c number).0
+    numbered None = sound
+    numbered (Some number) = sent (step_of_send w c).0 (step_of_send w c).1 _ (sound_send w c sound)
+
+-- what comes after a round leaves a sound world sound if more rounds do
+sound_after_round : (more : World → ℕ → World × Outcome) → ((v : World) (taken : ℕ) → IsSound v → IsSound (more v taken).0)
+    → (w : World) (taken : ℕ) (round : Round) → IsSound w → IsSound (after_round more w taken round).0
+sound_after_round more keeps w taken rounds.Idle sound = sound
+sound_after_round more keeps w taken rounds.Taken sound = keeps w (taken + 1) sound
+sound_after_round more keeps w taken rounds.Again sound = keeps w taken sound
+sound_after_round more keeps w taken (rounds.Stopped outcome) sound = sound
+
+-- a sound world stays sound however many rounds there are
+sound_rounds : (more c : ℕ) (w : World) (taken : ℕ) → IsSound w → IsSound (carry_rounds more c w taken).0
+unfolding carry_rounds
+sound_rounds zero c w taken sound = sound
+sound_rounds (suc more) c w taken sound =
+    sound_after_round (carry_rounds more c) (sound_rounds more c) (step_of_round w c).0 taken (step_of_round w c).1
+    (sound_round w c sound)
+
 -- ---- all
 
 -- a sound world stays sound whatever event happens, whatever is open in it
@@ -391,6 +430,7 @@ sound_happens w (events.Edit port line) choice sound = sound_edit w port choice.
 sound_happens w (events.Send centre) choice sound = sound_send w centre sound
 sound_happens w (events.Deliver centre index) choice sound = sound_deliver w centre index sound
 sound_happens w (events.Back centre index) choice sound = sound_back w centre index sound
+sound_happens w (events.Carry centre) choice sound = sound_rounds (packet_room w.links + 1) centre w 0 sound
 sound_happens w (events.View centre name) choice sound = sound
 sound_happens w (events.At centre) choice sound = sound
 sound_happens w events.List choice sound = sound

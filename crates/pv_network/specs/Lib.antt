@@ -5,5 +5,6 @@ pub mod Run
 pub mod Sound
 pub mod Standing
 pub mod Step
+pub mod Traffic
 pub mod Verdict
 pub mod World

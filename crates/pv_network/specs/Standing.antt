@@ -42,6 +42,7 @@ IsPossible s (events.Edit port line) = port < EDITORS
 IsPossible s (events.Send centre) = centre < length s.centres
 IsPossible s (events.Deliver centre index) = centre < length s.centres
 IsPossible s (events.Back centre index) = centre < length s.centres
+IsPossible s (events.Carry centre) = centre < length s.centres
 IsPossible s (events.View centre name) = centre < length s.centres
 IsPossible s (events.At centre) = centre < length s.centres
 IsPossible s events.List = Unit {0}

@@ -1,11 +1,10 @@
 -- What one event makes of the world, and the answer to it.
-use Rattle.std.specs.Prelude.{ℕ, Bool, List, [], ◌∷◌, length, Option, Some, None, slice_get, if◌then◌else◌}
+use Rattle.std.specs.Prelude.{ℕ, Bool, List, [], ◌∷◌, length, Option, Some, None}
 use Rattle.pv_page.specs.Names.{Name}
 use Rattle.pv_frame.specs.declared.layout.TheConstants.{FIRST_ROW}
 use Rattle.pv_frame.specs.Content.{Content, blank_frame, with_row}
 use Rattle.pv_screen.specs.Composing.{composed_grid}
 use Rattle.pv_screen.specs.declared.screen.Screen.TheVariants.{Whole}
-use Rattle.pv_edits.specs.declared.record.Record.{Record}
 use Rattle.pv_edits.specs.declared.room.TheConstants.{OPERATOR}
 use Rattle.pv_edits.specs.declared.wish.EditWish.{EditWish}
 use Rattle.pv_edits.specs.declared.wish.EditWish.TheVariants.{Put}
@@ -20,17 +19,13 @@ use Rattle.pv_editor.specs.Say.{new_seat, turn_of}
 use Rattle.pv_editor.specs.declared.line.EditLine.{EditLine}
 use Rattle.pv_editor.specs.declared.step.EditStep.{EditStep}
 use Rattle.pv_editor.specs.declared.step.EditStep.TheVariants as steps
-use Rattle.pv_network.specs.declared.packet.Packet.{Packet}
-use Rattle.pv_network.specs.declared.centre.Arrival.{Arrival}
-use Rattle.pv_network.specs.declared.centre.Arrival.TheVariants as arrivals
 use Rattle.pv_network.specs.declared.event.Event.{Event}
 use Rattle.pv_network.specs.declared.event.Event.TheVariants as events
 use Rattle.pv_network.specs.declared.outcome.Outcome.{Outcome}
 use Rattle.pv_network.specs.declared.outcome.Outcome.TheVariants as outcomes
-use Rattle.pv_network.specs.Centre.{with_next, arrival_of}
-use Rattle.pv_network.specs.Link.{is_packets_full, number_to_send, with_packet, with_acknowledgement, heard_link}
+use Rattle.pv_network.specs.Traffic.{step_of_send, step_of_deliver, step_of_back, step_of_carry}
 use Rattle.pv_network.specs.Verdict.{Verdict, verdict_of, reply_found}
-use Rattle.pv_network.specs.World.{World, seat_at, with_seat, centre_at, link_at, with_centre, with_link, with_edit, with_receipt, page_base}
+use Rattle.pv_network.specs.World.{World, seat_at, with_seat, centre_at, with_edit, with_receipt, page_base}
 
 -- ---- seed
 
@@ -80,69 +75,6 @@ view_answer name (Some frame) = outcomes.Shown (record { screen = Whole (compose
 abbrev pub step_of_view : World → ℕ → Name → World × Outcome
 step_of_view w c name = (w, view_answer name (frame_at (page_base w c) name))
 
--- ---- send
-
--- the record of a number is packed, if the list has one there
-abbrev pub step_of_packing : World → ℕ → ℕ → Option Record → World × Outcome
-step_of_packing w c number None = (w, outcomes.Idle)
-step_of_packing w c number (Some edit) = (
-  with_link w c (with_packet (link_at w c) number edit),
-  outcomes.SentRecord
-      (length (link_at w c).down) number,
-)
-
--- the record of the number that is sent next is packed, if there is such a number
-abbrev pub step_of_number : World → ℕ → Option ℕ → World × Outcome
-step_of_number w c None = (w, outcomes.Idle)
-step_of_number w c (Some number) = step_of_packing w c number (slice_get w.update.records number)
-
--- the next record is packed for a centre, unless no packet can be made
-abbrev pub step_of_send : World → ℕ → World × Outcome
-step_of_send w c = if is_packets_full w.links then (w, outcomes.PacketsFull)
-    else step_of_number w c (number_to_send (link_at w c).sending (length w.update.records))
-
--- ---- deliver
-
--- The centre sends its count up in an acknowledgement, unless no packet can be made: the world, and the
--- acknowledgement's index.
-abbrev pub step_of_acknowledging : World → ℕ → World × Option ℕ
-step_of_acknowledging w c = if is_packets_full w.links then (w, None)
-    else (with_link w c (with_acknowledgement (link_at w c) (centre_at w c).applied), Some (length (link_at w c).up))
-
--- the world with the next record applied at a centre
-abbrev pub with_next_at : World → ℕ → World
-with_next_at w c = with_centre w c (with_next (centre_at w c))
-
--- The centre takes the record that comes next; it acknowledges that one, and any that is old or early. A full centre
--- does neither.
-abbrev pub step_of_arrival : World → ℕ → ℕ → Arrival → World × Outcome
-step_of_arrival w c number arrivals.Taken = let a = step_of_acknowledging (with_next_at w c) c in (a.0, outcomes.Taken number a.1)
-step_of_arrival w c number arrivals.Old = let a = step_of_acknowledging w c in (a.0, outcomes.Old number a.1)
-step_of_arrival w c number arrivals.Early = let a = step_of_acknowledging w c in (a.0, outcomes.Early number a.1)
-step_of_arrival w c number arrivals.Full = (w, outcomes.Full (centre_at w c).applied)
-
--- a packet that was made arrives
-abbrev pub step_of_packet : World → ℕ → Option Packet → World × Outcome
-step_of_packet w c None = (w, outcomes.NoPacket)
-step_of_packet w c (Some packet) = step_of_arrival w c packet.number
-    (arrival_of (centre_at w c).applied w.update.limits.records packet.number)
-
--- the packet of an index arrives at a centre
-abbrev pub step_of_deliver : World → ℕ → ℕ → World × Outcome
-step_of_deliver w c index = step_of_packet w c (slice_get (link_at w c).down index)
-
--- ---- back
-
--- an acknowledgement that was made arrives at the Update Centre, whose end hears it
-abbrev pub step_of_heard : World → ℕ → Option ℕ → World × Outcome
-step_of_heard w c None = (w, outcomes.NoPacket)
-step_of_heard w c (Some count) =
-    (with_link w c (heard_link (link_at w c) (length w.update.records) count), outcomes.Heard count)
-
--- the acknowledgement of an index arrives
-abbrev pub step_of_back : World → ℕ → ℕ → World × Outcome
-step_of_back w c index = step_of_heard w c (slice_get (link_at w c).up index)
-
 -- ---- at, list
 
 -- a question for what a centre has applied leaves the world as it is
@@ -173,6 +105,7 @@ happens w (events.Edit port line) choice = step_of_edit w port choice.said
 happens w (events.Send centre) choice = step_of_send w centre
 happens w (events.Deliver centre index) choice = step_of_deliver w centre index
 happens w (events.Back centre index) choice = step_of_back w centre index
+happens w (events.Carry centre) choice = step_of_carry w centre
 happens w (events.View centre name) choice = step_of_view w centre name
 happens w (events.At centre) choice = step_of_at w centre
 happens w events.List choice = step_of_list w

@@ -4,6 +4,9 @@ use pv_words::Part;
 /// How many editors' ports there are.
 pub const EDITORS: u8 = 4;
 
+/// How many retrieval centres a network has at most.
+pub const MAX_CENTRES: u8 = 4;
+
 /// What can happen to a network. Centres, ports and packets are counted from 0. An event borrows the line of an editor.
 #[derive(Debug, Drop)]
 pub enum Event<'a> {
@@ -17,6 +20,8 @@ pub enum Event<'a> {
     Deliver { centre: u8, index: u64 },
     /// The packet of this index, of those that a centre made, arrives at the Update Centre.
     Back { centre: u8, index: u64 },
+    /// Record after record is sent to a centre and delivered there, and its acknowledgement arrives.
+    Carry { centre: u8 },
     /// Somebody reads a frame as a centre holds it.
     View { centre: u8, name: FrameName },
     /// Somebody asks how many records a centre has applied.

@@ -3,14 +3,17 @@ ghost use Rattle.pv_words.specs.Parts.{Exactly};
 ghost use Rattle.pv_editor.specs.Lines.{IsLine};
 ghost use Rattle.pv_editor.specs.declared.line.EditLine.{EditLine};
 ghost use Rattle.pv_editor.specs.declared.step.EditStep.TheVariants as steps;
-ghost use Rattle.pv_network.specs.World.{start};
+ghost use Rattle.pv_network.specs.declared.event.TheConstants.{MAX_CENTRES};
+ghost use Rattle.pv_network.specs.Traffic.{step_of_send, step_of_deliver, step_of_back, step_of_acknowledging, GoesOn, packet_room, with_ack_back, round_of_packet, step_of_round, step_of_carry};
+ghost use Rattle.pv_network.specs.World.{World, start};
 ghost use Rattle.pv_network.specs.Standing.{StandsFor, Performs, IsPossible};
-ghost use Rattle.pv_network.specs.Step.{Choice, IsChoice, happens, step_of_request, step_of_seeding, step_of_line, step_of_said, step_of_edit, step_of_send, step_of_deliver, step_of_back, step_of_view, step_of_at, step_of_list, step_of_acknowledging};
+ghost use Rattle.pv_network.specs.Step.{Choice, IsChoice, happens, step_of_request, step_of_seeding, step_of_line, step_of_said, step_of_edit, step_of_view, step_of_at, step_of_list};
 
 use crate::centre::{Arrival, Centre, open_centres};
 use crate::event::{EDITORS, Event};
 use crate::links::Links;
 use crate::outcome::{Outcome, Turn};
+use crate::round::Round;
 use crate::verdict::{responses, store};
 use pv_editor::{EditStep, EditorSeat, closing_text, reply_text};
 use pv_edits::{EditWish, OPERATOR};
@@ -62,7 +65,7 @@ impl Network {
     /// its nodes. It reserves all room; the only error is that memory ran out.
     pub fn open(alloc: Global, centres: u8, limits: Limits) -> Result<Network, AllocError>
         requires some { 1 ≤ centres }
-        requires few { centres ≤ 4 }
+        requires few { centres ≤ MAX_CENTRES }
         ensures ok { IfOk result (λ network. StandsFor network (start centres limits)) }
         ensures centres { IfOk result (λ network. length network.centres ≡ centres) }
         ensures memory { IfOk result (λ network. network.is_out ≡ false) }
@@ -114,6 +117,7 @@ impl Network {
             Event::Send { centre } => self.send(*centre as usize),
             Event::Deliver { centre, index } => self.deliver(*centre as usize, *index),
             Event::Back { centre, index } => self.back(*centre as usize, *index),
+            Event::Carry { centre } => self.carry(*centre as usize),
             Event::View { centre, name } => self.view(*centre as usize, *name),
             Event::At { centre } => self.at(*centre as usize),
             Event::List => self.list(),
@@ -245,6 +249,69 @@ impl Network {
         };
         self.links.hear(centre, self.update.front(), number);
         Outcome::Heard { number }
+    }
+
+    /// Record after record is sent to a centre and delivered there, and its acknowledgement taken back, until
+    /// nothing is left to send or the carry cannot go on.
+    fn carry(&mut self, centre: usize) -> Outcome
+        requires { centre < length self.old.centres }
+        ensures performs { Performs self.old self.new result (λ w. step_of_carry w centre) }
+        ensures centres { length self.new.centres ≡ length self.old.centres }
+    {
+        let mut records = 0;
+        'rounds: loop {
+            match self.round(centre) {
+                Round::Idle => return Outcome::Carried { records, items: 0 },
+                Round::Taken => records += 1,
+                Round::Again => {}
+                Round::Stopped(outcome) => return outcome,
+            }
+        }
+    }
+
+    /// One round of a carry: a record is sent and delivered, and its acknowledgement taken back.
+    fn round(&mut self, centre: usize) -> Round
+        requires { centre < length self.old.centres }
+        ensures performs { Performs self.old self.new result (λ w. step_of_round w centre) }
+        ensures centres { length self.new.centres ≡ length self.old.centres }
+
+        // Before another round comes a packet was made.
+        ensures room { GoesOn result → packet_room self.new.links < packet_room self.old.links }
+    {
+        if self
+            .links
+            .next_number(centre, self.update.front())
+            .is_none()
+        {
+            return Round::Idle;
+        }
+        let sent = self.send(centre);
+        match sent.packet() {
+            Some(index) => self.bring(centre, index),
+            None => Round::Stopped(sent),
+        }
+    }
+
+    /// The rest of a round: a packet is delivered, and its acknowledgement taken back.
+    fn bring(&mut self, centre: usize, index: u64) -> Round
+        requires { centre < length self.old.centres }
+        ensures performs { Performs self.old self.new result (λ w. round_of_packet w centre index) }
+        ensures centres { length self.new.centres ≡ length self.old.centres }
+    {
+        let arrived = self.deliver(centre, index);
+        self.take_back(centre, arrived.ack());
+        Round::of(arrived)
+    }
+
+    /// An acknowledgement is taken back, if one was made.
+    fn take_back(&mut self, centre: usize, ack: Option<u64>)
+        requires { centre < length self.old.centres }
+        ensures stands { (w : World) → StandsFor self.old w → StandsFor self.new (with_ack_back w centre ack) }
+        ensures centres { length self.new.centres ≡ length self.old.centres }
+    {
+        if let Some(index) = ack {
+            let _ = self.back(centre, index);
+        }
     }
 
     /// A frame as a centre holds it.

@@ -1,3 +1,6 @@
+ghost use Rattle.std.specs.Prelude.{◌≡◌};
+ghost use Rattle.pv_network.specs.Traffic.{packet_in, ack_in};
+
 use pv_editor::Text;
 use pv_screen::Screen;
 
@@ -47,10 +50,35 @@ pub enum Outcome {
     Heard { number: u64 },
     /// The centre has this many records, which is its limit, and took none.
     Full { count: u64 },
+    /// Nothing was left to send. The centre took this many records, and the Update Centre this many items.
+    Carried { records: u64, items: u64 },
     /// The centre has no such frame.
     NotHeld,
     /// The centre has applied this many records.
     Applied { count: u64 },
     /// The edit list has this many records.
     Records { count: u64 },
+}
+
+impl Outcome {
+    /// The index of the packet that was made, if one was.
+    pub(crate) fn packet(&self) -> Option<u64>
+        ensures { result ≡ packet_in self.now }
+    {
+        match self {
+            Outcome::SentRecord { index, .. } => Some(*index),
+            _ => None,
+        }
+    }
+
+    /// The index of the acknowledgement that was made, if one was.
+    pub(crate) fn ack(&self) -> Option<u64>
+        ensures { result ≡ ack_in self.now }
+    {
+        match self {
+            Outcome::Taken { ack, .. } | Outcome::Old { ack, .. } | Outcome::Early { ack, .. } =>
+                *ack,
+            _ => None,
+        }
+    }
 }

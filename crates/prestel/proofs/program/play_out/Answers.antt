@@ -1,27 +1,26 @@
-use Rattle.prestel.specs.declared.play.TheConstants.{CENTRES}
-use Rattle.prestel.specs.Play.{first_world}
+use Rattle.pv_script.specs.Play.{first_world}
 use Rattle.prestel.proofs.Flushing.{flushed, out_of_memory, not_flushed}
 use Rattle.prestel.proofs.program.play_out.Goals as goal
 
 -- the buffer was flushed
 pub returns-in-Ok-clause-runs : goal.returns-in-Ok-clause-runs
-returns-in-Ok-clause-runs g c =
-    let plays = c.play-status.ensures.plays in
-    (plays.0, plays.1, flushed g.W.Write.contents CENTRES first_world plays.0 _ _ _ c.args.out.now c.play-status.new.out c.flush.new.self c.flush.ensures.kept _ plays.2 c.in-Ok.ensures.flushed)
+returns-in-Ok-clause-runs g c = λ centres asks.
+    let plays = c.play-status.ensures.plays centres asks in
+    (plays.0, plays.1, flushed g.W.Write.contents centres (first_world centres) plays.0 _ _ _ c.args.out.now c.play-status.new.out c.flush.new.self c.flush.ensures.kept _ plays.2 c.in-Ok.ensures.flushed)
 
 -- it could not be flushed
 pub returns-in-Err-clause-runs : goal.returns-in-Err-clause-runs
-returns-in-Err-clause-runs g c =
-    let plays = c.play-status.ensures.plays in
-    (plays.0, plays.1, not_flushed g.W.Write.contents CENTRES first_world plays.0 _ _ _ c.args.out.now c.play-status.new.out c.flush.new.self c.flush.ensures.kept _ plays.2 c.in-Done.is)
+returns-in-Err-clause-runs g c = λ centres asks.
+    let plays = c.play-status.ensures.plays centres asks in
+    (plays.0, plays.1, not_flushed g.W.Write.contents centres (first_world centres) plays.0 _ _ _ c.args.out.now c.play-status.new.out c.flush.new.self c.flush.ensures.kept _ plays.2 c.in-Done.is)
 
 -- memory ran out
 pub returns-in-Memory-clause-runs : goal.returns-in-Memory-clause-runs
-returns-in-Memory-clause-runs g c =
-    let plays = c.play-status.ensures.plays in
+returns-in-Memory-clause-runs g c = λ centres asks.
+    let plays = c.play-status.ensures.plays centres asks in
     let flush = c.flush-in-Memory.ensures in (
       plays.0,
       plays.1,
-      out_of_memory g.W.Write.contents CENTRES first_world plays.0 _ _ _ c.args.out.now c.play-status.new.out c.flush-in-Memory.new.self flush.kept
+      out_of_memory g.W.Write.contents centres (first_world centres) plays.0 _ _ _ c.args.out.now c.play-status.new.out c.flush-in-Memory.new.self flush.kept
           _ c.flush-in-Memory.result plays.2 c.in-Memory.is flush.flushed flush.failed c.play-status.ensures.counted.1,
     )

@@ -1,4 +1,4 @@
-use Rattle.std.proofs.Common.{◌≡◌, ℕ, List, Option, Some, subst}
+use Rattle.std.proofs.Common.{◌≡◌, ℕ, List, Option, Some, sym, subst, ◌∙◌}
 use Rattle.std.specs.Prelude.{◌↔◌}
 use Rattle.pv_outside.specs.declared.status.Status.{Status}
 use Rattle.pv_outside.specs.declared.status.Status.TheVariants.{Usage}
@@ -6,6 +6,7 @@ use Rattle.prestel.specs.declared.about.About.{About}
 use Rattle.prestel.specs.declared.about.About.TheVariants.{Help, Version}
 use Rattle.prestel.specs.declared.streams.StandardOutput.{StandardOutput}
 use Rattle.prestel.specs.About.{about_words}
+use Rattle.pv_script.specs.Play.{AskNoPlay}
 use Rattle.prestel.specs.Program.{WritesText}
 use Rattle.prestel.proofs.program.run_program.Goals as goal
 
@@ -18,8 +19,14 @@ words_that_ask words asked Version help version is = version.0 is
 never_usage : {W : Type 0} (contents : W → Option (List ℕ)) (text : List ℕ) (status : Status) (before now : StandardOutput W) → WritesText contents text before now status → status ≡ Usage → ⊥
 never_usage contents text status before now written is = subst (λ (s : Status). WritesText contents text before now s) is written
 
+-- words that ask for the help or the version ask for no play
+no_play : (words : List (List ℕ)) (about : About) → words ≡ about_words about → AskNoPlay words
+no_play words Help is = λ centres asks. let both = sym is ∙ asks.asked in absurd cc
+no_play words Version is = λ centres asks. let both = sym is ∙ asks.asked in absurd cc
+
 pub returns-in-Some-clause-runs : goal.returns-in-Some-clause-runs
-returns-in-Some-clause-runs g c = λ others. absurd (others c.in-Some.about (words_that_ask _ _ c.in-Some.about c.asked.ensures.help c.asked.ensures.version c.in-Some.is))
+returns-in-Some-clause-runs g c = λ centres asks. absurd (no_play _ c.in-Some.about
+    (words_that_ask _ _ c.in-Some.about c.asked.ensures.help c.asked.ensures.version c.in-Some.is) centres asks)
 
 pub returns-in-Some-clause-usage : goal.returns-in-Some-clause-usage
 returns-in-Some-clause-usage g c = (

@@ -1,7 +1,7 @@
 use Rattle.std.proofs.Common.{◌≡◌, length, Some, sym, ap, ◌∙◌}
 use Rattle.std.proofs.lemmas.List.{length-set}
 use Rattle.pv_network.specs.Standing.{State, StandsFor}
-use Rattle.pv_network.specs.Step.{step_of_acknowledging}
+use Rattle.pv_network.specs.Traffic.{step_of_acknowledging}
 use Rattle.pv_network.specs.World.{World}
 use Rattle.pv_network.proofs.Performing.{acknowledges}
 use Rattle.pv_network.proofs.network.Network.acknowledge.Goals as goal

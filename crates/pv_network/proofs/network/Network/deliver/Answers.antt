@@ -5,7 +5,7 @@ use Rattle.pv_network.specs.declared.centre.Arrival.{Arrival}
 use Rattle.pv_network.specs.declared.centre.Arrival.TheVariants as arrivals
 use Rattle.pv_network.specs.declared.outcome.Outcome.TheVariants.{Taken, Old, Early, Full}
 use Rattle.pv_network.specs.Standing.{State, StandsFor}
-use Rattle.pv_network.specs.Step.{with_next_at, step_of_arrival, step_of_deliver}
+use Rattle.pv_network.specs.Traffic.{with_next_at, step_of_arrival, step_of_deliver}
 use Rattle.pv_network.specs.World.{World, centre_at}
 use Rattle.pv_network.proofs.Performing.{delivers, room_there, takes}
 use Rattle.pv_network.proofs.Standing.{centre_count, centre_stands}

@@ -20,6 +20,7 @@ returns-clause-performs c =
       | goal.in-Send b ↦ (any, rw b.in-Send.is tt, rw (b.in-Send.is, b.self-is, b.result-is) b.send.ensures.performs)
       | goal.in-Deliver b ↦ (any, rw b.in-Deliver.is tt, rw (b.in-Deliver.is, b.self-is, b.result-is) b.deliver.ensures.performs)
       | goal.in-Back b ↦ (any, rw b.in-Back.is tt, rw (b.in-Back.is, b.self-is, b.result-is) b.back.ensures.performs)
+      | goal.in-Carry b ↦ (any, rw b.in-Carry.is tt, rw (b.in-Carry.is, b.self-is, b.result-is) b.carry.ensures.performs)
       | goal.in-View b ↦ (any, rw b.in-View.is tt, rw (b.in-View.is, b.self-is, b.result-is) b.view.ensures)
       | goal.in-At b ↦ (any, rw b.in-At.is tt, rw (b.in-At.is, b.self-is, b.result-is) b.at.ensures)
       | goal.in-List b ↦ (any, rw b.in-List.is tt, rw (b.in-List.is, b.self-is, b.result-is) b.list.ensures)

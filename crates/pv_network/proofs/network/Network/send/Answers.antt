@@ -2,7 +2,7 @@ use Rattle.std.proofs.Common.{◌≡◌, length, sym, ap, ◌∙◌}
 use Rattle.std.proofs.lemmas.List.{length-set}
 use Rattle.pv_network.specs.declared.outcome.Outcome.TheVariants.{SentRecord}
 use Rattle.pv_network.specs.Standing.{State, StandsFor}
-use Rattle.pv_network.specs.Step.{step_of_send}
+use Rattle.pv_network.specs.Traffic.{step_of_send}
 use Rattle.pv_network.specs.World.{World}
 use Rattle.pv_network.proofs.Performing.{sends}
 use Rattle.pv_network.proofs.network.Network.send.Goals as goal

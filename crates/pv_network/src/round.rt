@@ -1,0 +1,30 @@
+ghost use Rattle.std.specs.Prelude.{◌≡◌};
+ghost use Rattle.pv_network.specs.Traffic.{round_by};
+
+use crate::outcome::Outcome;
+
+/// What a round of a carry came to.
+#[derive(Debug, Drop)]
+pub enum Round {
+    /// Nothing was left to send.
+    Idle,
+    /// The centre took the record.
+    Taken,
+    /// The centre had it, or misses one before it.
+    Again,
+    /// The carry cannot go on.
+    Stopped(Outcome),
+}
+
+impl Round {
+    /// The round whose delivery came to this.
+    pub(crate) fn of(arrived: Outcome) -> Round
+        ensures { result ≡ round_by arrived }
+    {
+        match arrived {
+            Outcome::Taken { .. } => Round::Taken,
+            Outcome::Old { .. } | Outcome::Early { .. } => Round::Again,
+            outcome => Round::Stopped(outcome),
+        }
+    }
+}

@@ -1,0 +1,29 @@
+-- Parts of lines that the script alone has, and what each of them stands for.
+use Rattle.std.specs.Prelude.{◌≡◌, ℕ, List}
+use Rattle.pv_outside.specs.declared.limits.Limits.{Limits}
+use Rattle.pv_words.specs.Numbers.{IsNumber}
+use Rattle.pv_words.specs.Parts.{IsOne}
+use Rattle.pv_words.specs.Split.{IsSplit}
+use Rattle.pv_page.specs.Names.{Name, IsName, name_text}
+use Rattle.pv_cells.specs.Row.{SpellsCells}
+use Rattle.pv_screen.specs.Grid.{IsRow}
+
+-- the text is a frame's name
+abbrev pub IsFrameText : Name → List ℕ → Type 0
+IsFrameText name text = IsName name × (text ≡ name_text name)
+
+-- the text is the notation of a row: of at most 40 cells, which are the row with spaces after them
+abbrev pub IsRowText : List ℕ → List ℕ → Type 0
+IsRowText row text = IsRow row × SpellsCells 40 text row
+
+-- limits are of this many frames and records
+abbrev pub AreOf : ℕ → ℕ → Limits → Type 0
+AreOf frames records limits = (limits.frames ≡ frames) × (limits.records ≡ records)
+
+-- the text is the two numbers of limits, which are in their range
+pub record IsLimitsText (limits : Limits) (text : List ℕ) : Type 0 where
+  pub word : List ℕ
+  pub later : List ℕ
+  pub split : IsSplit text word later
+  pub frames : IsNumber limits.frames word
+  pub records : IsOne IsNumber later limits.records
