@@ -1,4 +1,6 @@
 -- What a proof in a crate above may cite of names and their texts.
+-- ten digits are an account's text
+pub use Rattle.pv_page.proofs.Decimals.{account_within, account_text-digits}
 use Rattle.std.proofs.lemmas.{Grind.common_steps, List.{same_from_push, length_push, Elements.All-push}}
 use Rattle.std.{proofs.Common.{◌≡◌, ℕ, ◌≤◌, ◌≢◌, ◌⊎◌, length, All, decimal, inl, inr, arith}, specs.Char.IsAsciiDigit}
 use Rattle.pv_page.specs.Names.{IsLetter, Name, IsName, name_text, space}
