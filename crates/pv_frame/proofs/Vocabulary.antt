@@ -1,6 +1,6 @@
 -- The definitions that the proofs of this crate speak of, under one name.
 pub use Rattle.pv_cells.specs.Row.{IsCell}
-pub use Rattle.pv_cells.specs.declared.reading.TheConstants.{LAST_CELL, ROW_LENGTH}
+pub use Rattle.pv_cells.specs.declared.reading.TheConstants.{LAST_CELL}
 pub use Rattle.pv_fields.specs.Out.{Appends}
 pub use Rattle.pv_fields.specs.Padded.{IsPadded, padded_list}
 pub use Rattle.pv_fields.specs.Reading.{Reads, ReadsLast, run_at, whole, IsBytes, ReadsBack}
@@ -27,8 +27,6 @@ pub use Rattle.pv_frame.specs.declared.frame_error.FrameError.{FrameError}
 pub use Rattle.pv_frame.specs.declared.frame_error.FrameError.TheVariants.{Cell, Price, FieldRange, FieldsMeet, Shape, Code}
 pub use Rattle.pv_frame.specs.declared.kind.Kind.{Kind}
 pub use Rattle.pv_frame.specs.declared.kind.Kind.TheVariants.{Information, Response, Mail}
-pub use Rattle.pv_frame.specs.declared.layout.TheConstants.{LAST_PRICE, FIRST_ROW, LAST_ROW, ACCOUNT_DIGITS, MAIL_TEXTS, FIELDS_AT}
-pub use Rattle.pv_frame.specs.declared.layout.TheConstants.{FIELD_BYTES, TITLE_CELLS, BODY_CELLS, ROUTES_SIZE, FIELDS, VERSION, NO_ROUTE}
-pub use Rattle.pv_frame.specs.declared.layout.TheConstants.{ROUTES}
+pub use Rattle.pv_frame.specs.declared.layout.TheConstants.{LAST_PRICE, ACCOUNT_DIGITS, MAIL_TEXTS, FIELDS_AT, FIELD_BYTES, TITLE_CELLS}
+pub use Rattle.pv_frame.specs.declared.layout.TheConstants.{BODY_CELLS, ROUTES, ROUTES_SIZE, FIELDS, VERSION}
 pub use Rattle.pv_page.specs.Names.{IsPage}
-pub use Rattle.pv_page.specs.declared.page_no.TheConstants.{LAST_PAGE}
