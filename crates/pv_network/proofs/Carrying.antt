@@ -238,7 +238,7 @@ module _ (c : ℕ) (w : World) where
     pub rest_after_again : packet_room new.links < packet_room old.links → RoundDone taken old new rounds.Again → Rest c w taken new
     rest_after_again less d = rest_after taken d.so_far d.more d.stands d.room less d.is
 
--- what a carry came to is what it is said to come to
+-- the world and the outcome after the last round are those of the carry
 pub carry_ends : (c : ℕ) (w v : World) (new : State) (outcome : Outcome) → StandsFor new v → step_of_carry w c ≡ (v, outcome)
     → StandsFor new (step_of_carry w c).0 × (outcome ≡ (step_of_carry w c).1)
 carry_ends c w v new outcome stands is =

@@ -20,8 +20,8 @@ pub fn every_reachable_world_is_sound()
         → IsSound (after (start centres limits) events) }
 {}
 
-/// A carry is never cut short: if it could have more rounds than there is room for packets, it would come to the
-/// same.
+/// A carry is never cut short: if it could have more rounds than there is room for packets, the world after it and
+/// its outcome would be the same.
 pub fn a_carry_has_rounds_enough()
     ensures { (w : World) (centre more : ℕ) → centre < length w.links
         → carry_rounds (packet_room w.links + 1 + more) centre w 0 ≡ step_of_carry w centre }

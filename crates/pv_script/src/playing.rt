@@ -16,10 +16,10 @@ use pv_outside::{Limits, Sink, Source, Status};
 use pv_words::{first_line, number_of};
 use std::alloc::Global;
 
-/// How many frames a node of a play may have.
+/// How many frames a node of a play may have, unless its script says otherwise.
 pub const FRAMES: u32 = 2_000;
 
-/// How many records a node of a play may have.
+/// How many records a node of a play may have, unless its script says otherwise.
 pub const RECORDS: u32 = 10_000;
 
 /// How a play ended, and the network after it, which is there exactly when all was done.

@@ -1,8 +1,6 @@
-use Rattle.std.proofs.Common.{rules, ◌≡◌, ℕ, true, List, take, Option, Result, Ok, Err, sym, ap, subst, ◌∙◌}
+use Rattle.std.proofs.Common.{rules, ◌≡◌, ℕ, true, List, take, sym, ap, subst, ◌∙◌}
 use Rattle.std.specs.Prelude.{is_err}
 use Rattle.std.specs.Io.KnownBytes.{Appends}
-use Rattle.pv_outside.specs.Sink.{Writes}
-use Rattle.pv_outside.specs.declared.failed.Failed.{Failed}
 use Rattle.pv_script.specs.Transcript.{answer_text}
 use Rattle.pv_script.proofs.Reading.{prefix_written}
 use Rattle.pv_script.proofs.playing.run_event.Goals as goal

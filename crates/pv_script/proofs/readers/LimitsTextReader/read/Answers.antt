@@ -1,8 +1,6 @@
-use Rattle.std.proofs.Common.{◌≡◌, ℕ, List, Option, Some, None, sym, subst, ◌∙◌}
-use Rattle.pv_outside.specs.declared.limits.Limits.{Limits}
+use Rattle.std.proofs.Common.{◌≡◌, ℕ, List, Some, None, sym, subst}
 use Rattle.pv_words.specs.Numbers.{IsNumber}
 use Rattle.pv_words.specs.Parts.{IsOne}
-use Rattle.pv_script.specs.Readers.{IsLimitsText}
 use Rattle.pv_script.proofs.readers.LimitsTextReader.read.Goals as goal
 
 -- the second number is none
