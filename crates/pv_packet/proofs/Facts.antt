@@ -1,0 +1,1 @@
+-- Worked examples of packets, computed from the definitions.
