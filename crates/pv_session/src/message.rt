@@ -1,5 +1,6 @@
 ghost use Rattle.std.specs.Prelude.{◌≡◌, ◌≤◌, length, All};
 ghost use Rattle.pv_cells.specs.Row.{IsCell};
+ghost use Rattle.pv_screen.specs.Showing.{HasCells};
 ghost use Rattle.pv_session.specs.Messages.{message_words, message_row, row_screen, blank_screen};
 
 use pv_screen::codes::SPACE;
@@ -72,7 +73,8 @@ impl Message {
 
     /// The screen that shows it and leaves the rows above as they are.
     pub(crate) fn alone(self) -> Screen
-        ensures { result ≡ row_screen self }
+        ensures value { result ≡ row_screen self }
+        ensures cells { HasCells result }
     {
         Screen::Row(self.row())
     }
