@@ -18,7 +18,7 @@ use Rattle.pv_session.specs.declared.message.Message.{Message}
 use Rattle.pv_session.specs.declared.message.Message.TheVariants as messages
 use Rattle.pv_session.specs.declared.seat.TheConstants.{TRIES}
 use Rattle.pv_session.specs.Entries.{PasswordMode, AccountMode}
-use Rattle.pv_session.specs.Shown.{ShownFrame, frame_screen, first_frame, route_of_digit}
+use Rattle.pv_session.specs.Shown.{ShownFrame, screen_of_frame, first_frame, route_of_digit}
 use Rattle.pv_session.specs.State.{CallState}
 use Rattle.pv_session.specs.Fetching.{message_turn, blank_turn, ending_turn, showing_turn, fetch_turn, visit_turn, names_with, route_turn, next_turn, back_turn, repeat_turn, fresh_turn, command_turn}
 use Rattle.pv_session.specs.Turns.{log_on_turn, known_caller, entry_turn}
@@ -29,7 +29,7 @@ module _ (n : ℕ) (Holds : CallState × Step → Type 0)
     (alone : (call : CallState) (words : Message) → call.entries ≡ n → Holds (blank_turn call words))
     (ending : (call : CallState) (why : Why) (words : Message) → call.entries ≡ n → Holds (ending_turn call why words))
     (showing : (call : CallState) (name : Name) (frame : Content) → call.entries ≡ n → Holds (showing_turn call name frame))
-    (repeating : (call : CallState) (shown : ShownFrame) → call.entries ≡ n → Holds (call, steps.Show (frame_screen shown)))
+    (repeating : (call : CallState) (shown : ShownFrame) → call.entries ≡ n → Holds (call, steps.Show (screen_of_frame shown)))
     (owing : (call : CallState) (account : ℕ) → call.entries ≡ n
     → Holds (record call { phase = phases.Owing (LogOn account) }, steps.Owe (LogOn account))) where
   -- a turn by a test

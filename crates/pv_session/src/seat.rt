@@ -44,7 +44,7 @@ pub struct Seat {
 impl Seat {
     ghost use Rattle.pv_edits.specs.Sight.{view_of};
     ghost use Rattle.pv_session.specs.Fetching.{ending_turn};
-    ghost use Rattle.pv_session.specs.Messages.{blank_screen};
+    ghost use Rattle.pv_session.specs.Messages.{screen_of_blank};
     ghost use Rattle.pv_session.specs.Seat.{state_of};
     ghost use Rattle.pv_session.specs.State.{new_call, is_owing};
     ghost use Rattle.pv_session.specs.Turns.{IsTurn, CanBeShown, Listens, Hears, Goes, storing_turn, full_turn};
@@ -53,7 +53,7 @@ impl Seat {
     /// A call that begins, and its first screen, which asks for the account.
     pub fn dial() -> (Seat, Screen)
         ensures seat { state_of result.0 ≡ new_call }
-        ensures screen { result.1 ≡ blank_screen Message.KeyAccount }
+        ensures screen { result.1 ≡ screen_of_blank Message.KeyAccount }
     {
         let seat = Seat {
             phase: Phase::Listening,
@@ -103,7 +103,8 @@ impl Seat {
     /// Ends the call, since the centre is full and does not store what the seat owes. If it owes nothing, nothing
     /// changes.
     pub fn turned_away(&mut self) -> Step
-        ensures turn { Goes (full_turn (state_of self.old) (state_of self.old).phase) (state_of self.new) result }
+        ensures turn { Goes (full_turn (state_of self.old) (state_of self.old).phase)
+            (state_of self.new) result }
         ensures cells { CanBeShown result }
     {
         match self.phase {
