@@ -1,3 +1,5 @@
+mod Cells
+mod EachTurn
 mod Facts
 mod Laws
 mod Rows
