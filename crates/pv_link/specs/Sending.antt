@@ -16,8 +16,8 @@ abbrev pub number_in_turn : SendingEnd → ℕ → ℕ
 number_in_turn end front = if nat_le end.acknowledged end.next && nat_lt end.next front then end.next else end.acknowledged
 
 -- the number that an end gives: none if all below the front are acknowledged
-abbrev pub number_given : SendingEnd → ℕ → Option ℕ
-number_given end front = if nat_lt end.acknowledged front then Some (number_in_turn end front) else None
+abbrev pub number_to_give : SendingEnd → ℕ → Option ℕ
+number_to_give end front = if nat_lt end.acknowledged front then Some (number_in_turn end front) else None
 
 -- the end after it gave that number
 abbrev pub end_after : SendingEnd → ℕ → SendingEnd
@@ -27,7 +27,7 @@ end_after end front = if nat_lt end.acknowledged front then record end { next = 
 abbrev pub end_that_heard : SendingEnd → ℕ → ℕ → SendingEnd
 end_that_heard end n front = if nat_lt end.acknowledged n && nat_le n front then record end { acknowledged = n } else end
 
--- the numbers that an end gives if it is asked so many times, with one front
-unfoldable pub numbers_given : ℕ → SendingEnd → ℕ → List ℕ
-numbers_given zero end front = []
-numbers_given (suc times) end front = cons_option (number_given end front) (numbers_given times (end_after end front) front)
+-- the numbers that an end gives if it is asked this often, with one front
+unfoldable pub numbers_to_give : ℕ → SendingEnd → ℕ → List ℕ
+numbers_to_give zero end front = []
+numbers_to_give (suc times) end front = cons_option (number_to_give end front) (numbers_to_give times (end_after end front) front)

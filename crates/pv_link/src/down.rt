@@ -1,5 +1,5 @@
 ghost use Rattle.std.specs.Prelude.{◌≡◌, ◌↔◌, ◌≤◌, None};
-ghost use Rattle.pv_link.specs.Sending.{new_end, number_given, end_after, end_that_heard};
+ghost use Rattle.pv_link.specs.Sending.{new_end, number_to_give, end_after, end_that_heard};
 
 use crate::sending::Sending;
 use std::marker::Model;
@@ -34,7 +34,7 @@ impl DownEnd {
     /// acknowledged one to below the front in turn, and then again from the acknowledged one. `None`
     /// exactly when all below the front are acknowledged.
     pub fn next(&mut self, front: u64) -> Option<u64>
-        ensures given { result ≡ number_given self.old front }
+        ensures given { result ≡ number_to_give self.old front }
         ensures after { self.new ≡ end_after self.old front }
         ensures none { (result ≡ None) ↔ (front ≤ self.old.acknowledged) }
     {
@@ -42,7 +42,7 @@ impl DownEnd {
     }
 
     /// Hears that all numbers below `n` are stored at the other side. The end keeps the greatest number
-    /// that it heard. One above the front is ignored: there are not so many records.
+    /// that it heard. One above the front is ignored: there are fewer records.
     pub fn acknowledged(&mut self, n: u64, front: u64)
         ensures { self.new ≡ end_that_heard self.old n front }
     {

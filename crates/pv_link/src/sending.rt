@@ -1,5 +1,5 @@
 ghost use Rattle.std.specs.Prelude.{◌≡◌, ◌↔◌, ◌<◌, ◌≤◌, None};
-ghost use Rattle.pv_link.specs.Sending.{new_end, number_in_turn, number_given, end_after, end_that_heard};
+ghost use Rattle.pv_link.specs.Sending.{new_end, number_in_turn, number_to_give, end_after, end_that_heard};
 
 use std::marker::Model;
 
@@ -46,7 +46,7 @@ impl Sending {
 
     /// Gives the next number below the front.
     pub(crate) fn next(&mut self, front: u64) -> Option<u64>
-        ensures given { result ≡ number_given self.old front }
+        ensures given { result ≡ number_to_give self.old front }
         ensures after { self.new ≡ end_after self.old front }
         ensures none { (result ≡ None) ↔ (front ≤ self.old.acknowledged) }
     {

@@ -1,5 +1,5 @@
 -- No spelling of a packet is a prefix of another's.
-use Rattle.std.proofs.Common.{◌≡◌, ℕ, ◌<◌, ◌^◌, List, [], ◌∷◌, ◌++◌, sym, ap, ◌∙◌, append_assoc, refl}
+use Rattle.std.proofs.Common.{◌≡◌, ℕ, ◌<◌, ◌^◌, List, ◌∷◌, ◌++◌, ap, refl}
 use Rattle.std.specs.Int.{w64, to_be_bytes}
 use Rattle.pv_fields.specs.Reading.{ReadsBack}
 use Rattle.pv_fields.proofs.Readings.{Reads-eight, Reads-back}

@@ -1,8 +1,7 @@
 -- Bytes that are refused spell no packet.
-use Rattle.std.proofs.Common.{◌≡◌, ◌≢◌, ◌⊎◌, ℕ, ◌<◌, ◌≤◌, Bool, false, List, [], ◌∷◌, ◌++◌, length, drop, Some, None, inl, inr, refl, sym, ap, subst, ◌∙◌, arith, rules, append-nil, slice_index}
+use Rattle.std.proofs.Common.{◌≡◌, ◌≢◌, ℕ, ◌≤◌, List, [], ◌++◌, length, drop, None, inl, inr, refl, sym, ap, subst, ◌∙◌, arith, append-nil, slice_index}
 use Rattle.std.proofs.lemmas.Option.{none-some}
 use Rattle.std.proofs.lemmas.Grind.{common_steps}
-use Rattle.std.specs.Int.{w64, to_be_bytes}
 use Rattle.pv_fields.proofs.Readings.{Reads-back}
 use Rattle.pv_post.specs.declared.item.Item.{Item}
 use Rattle.pv_post.specs.Spelling.{IsItem, item_bytes, item_at}
@@ -19,7 +18,8 @@ use Rattle.pv_packet.specs.declared.packet.Packet.TheVariants.{Down, Up, DownHea
 pub goes_on : (bytes : List ℕ) (item other : Item) (more : List ℕ) → IsItem item → IsItem other → bytes ≡ item_bytes item ++ more
     → length more ≢ 0 → bytes ≡ item_bytes other → ⊥
 goes_on bytes item other more is_item is_other begins some same =
-    let both = Reads-back IsItem item_bytes item_at Reads-item item other more [] is_item is_other (sym begins ∙ same ∙ sym (append-nil (item_bytes other))) in
+    let both = Reads-back IsItem item_bytes item_at Reads-item item other more [] is_item is_other
+    (sym begins ∙ same ∙ sym (append-nil (item_bytes other))) in
     some (ap length both.1)
 
 -- a head of kind 1 or 2 with what follows it has no error
@@ -40,7 +40,8 @@ no_head_error (DownHeard centre number) is = head_ends 3 centre number (omega ar
 no_head_error (UpHeard centre number) is = head_ends 4 centre number (omega arith) (omega arith) is.known
 
 -- a packet carries something, or is of a kind that carries nothing
-carries : (packet : Packet) → IsPacket packet → CarriesNothing (slice_index (packet_bytes packet) 0) (drop HEAD_BYTES (packet_bytes packet)) → ⊥
+carries : (packet : Packet) → IsPacket packet
+    → CarriesNothing (slice_index (packet_bytes packet) 0) (drop HEAD_BYTES (packet_bytes packet)) → ⊥
 unfolding packet_bytes
 carries (Down centre number rec) is nothing = nothing rec is.1 refl
 carries (Up centre number item) is nothing = nothing item is.1 refl

@@ -44,6 +44,8 @@ pub(crate) fn read_head(bytes: &[u8]) -> Result<(Head, &[u8]), PacketError>
     ensures range { IfOk result (λ read. (1 ≤ read.0.kind) × (read.0.kind ≤ LAST_KIND)) }
     ensures centre { IfOk result (λ read. read.0.centre ≤ LAST_CENTRE) }
     ensures ends { IfOk result (λ read. LAST_CARRYING < read.0.kind → read.1.now ≡ []) }
+
+    // The error is the first that applies to the head.
     ensures ok { OnOk result (head_error bytes.now ≡ None) }
     ensures refused { IfErr result (λ error. head_error bytes.now ≡ Some error) }
 {

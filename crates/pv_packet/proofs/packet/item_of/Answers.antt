@@ -5,7 +5,7 @@ use Rattle.pv_packet.proofs.packet.item_of.Goals as goal
 
 -- bytes that begin with no item are none
 pub returns-in_err-item-clause-missing : goal.returns-in_err-item-clause-missing
-returns-in_err-item-clause-missing c none item is same = 
+returns-in_err-item-clause-missing c none item is same =
     c.decode.ensures.missing (search rules) item [] is (c.new-from.ensures.whole ∙ same ∙ sym (append-nil (item_bytes item)))
 
 -- nor are those that go on after one
