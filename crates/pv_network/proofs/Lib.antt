@@ -1,3 +1,4 @@
+pub mod Carried
 pub mod Carrying
 pub mod Counts
 pub mod Facts

@@ -3,8 +3,9 @@
 ghost use Rattle.std.specs.Prelude.{◌≡◌, ℕ, ◌+◌, ◌<◌, List, length};
 ghost use Rattle.pv_outside.specs.declared.limits.Limits.{Limits};
 ghost use Rattle.pv_network.specs.declared.event.Event.{Event};
+ghost use Rattle.pv_network.specs.declared.outcome.Outcome.TheVariants.{Carried};
 ghost use Rattle.pv_network.specs.Traffic.{packet_room, carry_rounds, step_of_carry};
-ghost use Rattle.pv_network.specs.World.{World, start};
+ghost use Rattle.pv_network.specs.World.{World, centre_at, start};
 ghost use Rattle.pv_network.specs.Step.{Choice, after};
 ghost use Rattle.pv_network.specs.OneList.{OneList};
 ghost use Rattle.pv_network.specs.Sound.{IsSound};
@@ -25,4 +26,10 @@ pub fn every_reachable_world_is_sound()
 pub fn a_carry_has_rounds_enough()
     ensures { (w : World) (centre more : ℕ) → centre < length w.links
         → carry_rounds (packet_room w.links + 1 + more) centre w 0 ≡ step_of_carry w centre }
+{}
+
+/// A carry that says `carried` has brought the centre every record of the edit list.
+pub fn a_carried_centre_has_every_record()
+    ensures { (w : World) (centre records items : ℕ) → IsSound w → (step_of_carry w centre).1 ≡ Carried records items
+        → (centre_at (step_of_carry w centre).0 centre).applied ≡ length (step_of_carry w centre).0.update.records }
 {}
