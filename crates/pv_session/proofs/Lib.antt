@@ -3,5 +3,6 @@ mod EachTurn
 mod Facts
 mod Laws
 mod Rows
+mod Serials
 mod TenDigits
 mod Waiting
