@@ -7,6 +7,7 @@ use Rattle.pv_edits.specs.Record.{record_bytes, drop_bytes, lease_bytes}
 use Rattle.pv_edits.specs.Down.{down_bytes}
 use Rattle.pv_edits.specs.Edits.{frame_at, account_at, last_of, operator_profile}
 use Rattle.pv_edits.specs.OpenPages.{open_frame_at}
+use Rattle.pv_edits.specs.Sight.{sight_of}
 use Rattle.pv_edits.specs.Room.{frame_count, account_count, lease_count}
 use Rattle.pv_edits.specs.declared.record.Record.TheVariants.{Put, Drop, Lease}
 use Rattle.pv_edits.specs.declared.down.DownRecord.TheVariants.{Blank}
@@ -86,3 +87,17 @@ spelling-of_a_drop = refl
 pub spelling-of_blank : down_bytes Blank ≡ 6 ∷ []
 unfolding down_bytes
 spelling-of_blank = refl
+
+-- the operator is at home at centre 0: there he sees what is open to all, and no frame of a group
+pub seen-at_home : (sight_of (Put 0 1 page_1a blank_frame ∷ []) 0 (Some 0)).pages page_1a ≡ Some blank_frame
+seen-at_home = refl
+
+pub unseen-closed : (sight_of (Put 0 1 page_1a (priced 5) ∷ []) 0 (Some 0)).pages page_1a ≡ None
+unseen-closed = refl
+
+-- he sees none at another centre, and neither does a caller without an account
+pub unseen-elsewhere : (sight_of (Put 0 1 page_1a blank_frame ∷ []) 1 (Some 0)).pages page_1a ≡ None
+unseen-elsewhere = refl
+
+pub unseen-by_nobody : (sight_of (Put 0 1 page_1a blank_frame ∷ []) 0 None).pages page_1a ≡ None
+unseen-by_nobody = refl

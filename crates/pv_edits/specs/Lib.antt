@@ -5,5 +5,6 @@ pub mod Edits
 pub mod Chain
 pub mod Owner
 pub mod OpenPages
+pub mod Sight
 pub mod Room
 pub mod Standing

@@ -5,6 +5,7 @@
 //! - [`DownRecord`] is what a centre gets of a record.
 //!
 //! - [`Base`] answers what a list of records means, without going through the list's frames again.
+//! - [`Sight`] is what a centre shows of its base to one caller.
 //!
 //! Contracts see a record as its parts. What a list of records means is defined in `specs/`: the frame
 //! of a name, an account, an editor's last number, the owner of a page, and the pages that are open to
@@ -19,6 +20,7 @@ mod owner;
 mod parts;
 mod record;
 mod room;
+mod sight;
 mod subject;
 mod taken;
 mod wish;
@@ -29,6 +31,7 @@ pub use law::no_record_begins_another;
 pub use owner::Lot;
 pub use record::Record;
 pub use room::{MAX_ACCOUNTS, MAX_LEASES, OPERATOR};
+pub use sight::Sight;
 pub use subject::Subject;
 pub use taken::Taken;
 pub use wish::EditWish;

@@ -1,4 +1,4 @@
-use crate::{Base, DownRecord, Record, Taken};
+use crate::{Base, DownRecord, Record, Sight, Taken};
 use pv_account::{Account, Groups, digest};
 use pv_charge::Line;
 use pv_fields::Out;
@@ -185,5 +185,57 @@ fn a_frame_is_open_to_its_group(rt: HostRuntime) -> Result<(), Fail> {
     assert!(rt; base.open_to(&member, name).is_some());
     assert!(rt; base.open_to(&stranger, name).is_none());
     assert_eq!(rt; base.last(operator().ok_or("the operator")?), Some((3, 40)));
+    Ok(())
+}
+
+/// The operator's record that makes an account.
+fn new_account(account: Account) -> Option<Record> {
+    Some(Record::Account {
+        editor: operator()?,
+        q: 1,
+        account,
+    })
+}
+
+/// Whether the base has room for a record, and then takes it.
+fn takes(base: &mut Base, record: &Record) -> bool {
+    let place = base.count();
+    let fits = place < u64::from(base.limits().records) && base.has_room(record);
+    if fits {
+        base.absorb(record, place);
+    }
+    fits
+}
+
+#[test]
+fn a_caller_sees_the_pages_open_to_him_at_home_alone(rt: HostRuntime) -> Result<(), Fail> {
+    let mut base = Base::open(rt.alloc(), LIMITS)?;
+    let name = name().ok_or("a name")?;
+    let missing = FrameName::of_text(b"12b").ok_or("a name")?;
+    let member = account().ok_or("an account")?;
+    assert!(rt;
+        takes(
+            &mut base,
+            &new_account(member).ok_or("an account's record")?
+        )
+    );
+    assert!(rt; takes(&mut base, &put().ok_or("a put")?));
+    let rows = [
+        (2, Some(member.number), true, true),
+        (1, Some(member.number), false, false),
+        (0, operator(), true, false),
+        (2, AccountNo::of_number(1_000_000_002), false, false),
+        (2, None, false, false),
+    ];
+    for (centre, caller, known, shown) in rows {
+        let sight = Sight::new(&base, centre, caller);
+        assert_eq!(rt; sight.account().is_some(), known, "{caller:?} at {centre}");
+        assert_eq!(rt;
+            sight.frame(name).is_some(),
+            shown,
+            "{caller:?} at {centre}"
+        );
+        assert!(rt; sight.frame(missing).is_none());
+    }
     Ok(())
 }

@@ -1,4 +1,6 @@
 -- What a proof in a crate above may cite of names and their texts.
+-- ten digits are an account's text
+pub use Rattle.pv_page.proofs.Decimals.{account_within, account_text-digits}
 use Rattle.std.proofs.Common.{◌≡◌, ℕ, ◌≤◌, ◌≢◌, ◌⊎◌, length, All, decimal, ap, ◌∙◌, inl, inr, arith}
 use Rattle.std.specs.Char.{IsAsciiDigit}
 use Rattle.std.proofs.lemmas.List.Elements.{All-push}

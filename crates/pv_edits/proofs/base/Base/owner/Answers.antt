@@ -1,5 +1,4 @@
-use Rattle.std.proofs.Common.{rules, ◌≡◌, ℕ, sym, ap, ◌∙◌}
-use Rattle.std.proofs.lemmas.Bool.{eqb-true}
+use Rattle.std.proofs.Common.{rules, ◌≡◌, sym, ap, ◌∙◌}
 use Rattle.pv_account.specs.Profile.{Profile}
 use Rattle.pv_edits.specs.declared.base.Base.{Base}
 use Rattle.pv_edits.specs.Room.{lease_count}

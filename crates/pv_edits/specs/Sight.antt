@@ -1,0 +1,38 @@
+-- What a caller may see of a centre's base: his account, if the centre is its home, and the pages that are open to him.
+use Rattle.std.specs.Prelude.{ℕ, ◌==◌, List, Option, Some, None, option_copied, if◌then◌else◌}
+use Rattle.pv_fields.specs.Reading.{◌>>=◌}
+use Rattle.pv_page.specs.Names.{Name}
+use Rattle.pv_frame.specs.Content.{Content}
+use Rattle.pv_account.specs.Profile.{Profile}
+use Rattle.pv_edits.specs.declared.record.Record.{Record}
+use Rattle.pv_edits.specs.declared.sight.Sight.{Sight}
+use Rattle.pv_edits.specs.Edits.{account_at}
+use Rattle.pv_edits.specs.OpenPages.{open_frame_at, open_pages}
+use Rattle.pv_edits.specs.Standing.{records_of}
+
+-- what a caller sees: his account, and the frame of each name that he may have
+pub record View : Type 0 where
+  pub account : Option Profile
+  pub pages : Name → Option Content
+
+-- the account, if its home is the centre
+abbrev pub if_at_home : ℕ → Profile → Option Profile
+if_at_home centre account = if account.home == centre then Some account else None
+
+-- the account of a number, if its home is the centre
+abbrev pub account_at_home : List Record → ℕ → ℕ → Option Profile
+account_at_home records centre number = account_at records number >>= if_at_home centre
+
+-- what a centre shows to a caller who gave this number, or none: without an account at home he has no page
+abbrev pub sight_of : List Record → ℕ → Option ℕ → View
+sight_of records centre caller = record {
+  account = caller >>= account_at_home records centre;
+  pages = λ name. caller >>= λ number. account_at_home records centre number >>= λ account. open_pages records number name;
+}
+
+-- what a sight shows
+abbrev pub view_of : Sight → View
+view_of sight = record {
+  account = option_copied sight.account;
+  pages = λ name. option_copied sight.account >>= λ account. open_frame_at (records_of sight.base.now) account.groups name;
+}

@@ -1,0 +1,60 @@
+ghost use Rattle.std.specs.Prelude.{◌≡◌, ℕ, List, option_copied, IfSome};
+ghost use Rattle.pv_frame.specs.Errors.{IsValid};
+ghost use Rattle.pv_edits.specs.declared.record.Record.{Record};
+ghost use Rattle.pv_edits.specs.Standing.{IsBaseOf};
+ghost use Rattle.pv_edits.specs.Sight.{sight_of, view_of};
+
+use crate::base::Base;
+use pv_account::Account;
+use pv_frame::Frame;
+use pv_page::{AccountNo, FrameName};
+
+/// What a centre shows to one caller: his account, if the centre is its home, and the frames that are
+/// open to it. To a caller without such an account it shows no frame.
+#[derive(Clone, Copy, Debug)]
+pub struct Sight<'a> {
+    base: &'a Base,
+    account: Option<&'a Account>,
+}
+
+impl<'a> Sight<'a> {
+    /// What the centre of this base shows to the caller who gave this account, or none.
+    pub fn new(base: &'a Base, centre: u8, account: Option<AccountNo>) -> Sight<'a>
+        ensures { (records : List Record) (places : List ℕ) → IsBaseOf base.now records places →
+            view_of result ≡ sight_of records centre account }
+    {
+        Sight {
+            base,
+            account: account_at_home(base, centre, account),
+        }
+    }
+
+    /// The caller's account. `None` exactly when he gave none, there is none, or its home is another centre.
+    pub fn account(&self) -> Option<&'a Account>
+        ensures { option_copied result ≡ (view_of self.now).account }
+    {
+        self.account
+    }
+
+    /// The frame of a name. `None` exactly when there is none or it is closed to the caller: the two are
+    /// one answer.
+    pub fn frame(&self, name: FrameName) -> Option<&'a Frame>
+        ensures valid { IfSome result (λ frame. IsValid frame.now) }
+        ensures frame { option_copied result ≡ (view_of self.now).pages name }
+    {
+        self.base.open_to(self.account?, name)
+    }
+}
+
+/// The account that was given, if there is one and its home is the centre.
+fn account_at_home(base: &Base, centre: u8, account: Option<AccountNo>) -> Option<&Account>
+    ensures { (records : List Record) (places : List ℕ) → IsBaseOf base.now records places →
+        option_copied result ≡ (sight_of records centre account).account }
+{
+    let account = base.account(account?)?;
+    if account.home == centre {
+        Some(account)
+    } else {
+        None
+    }
+}
