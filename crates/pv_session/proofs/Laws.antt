@@ -1,0 +1,202 @@
+-- What is sent to a caller is a function of his keys and of what he may see at his entries.
+use Rattle.std.proofs.Common.{◌≡◌, ℕ, ◌+◌, Bool, true, false, List, [], ◌∷◌, Option, Some, None, refl, sym, ap, subst, ◌∙◌, inl, inr, arith, if◌then◌else◌, nat_lt}
+use Rattle.std.specs.Prelude.{◌==◌}
+use Rattle.std.proofs.lemmas.Bool.{cases_eq}
+use Rattle.pv_page.specs.Names.{Name}
+use Rattle.pv_frame.specs.Content.{Content}
+use Rattle.pv_words.specs.Parts.{Exactly}
+use Rattle.pv_keys.specs.declared.command.Command.{Command}
+use Rattle.pv_keys.specs.declared.command.Command.TheVariants as commands
+use Rattle.pv_edits.specs.Sight.{View}
+use Rattle.pv_session.specs.declared.entry.Entry.{Entry}
+use Rattle.pv_session.specs.declared.entry.Entry.TheVariants as entries
+use Rattle.pv_session.specs.declared.step.Phase.{Phase}
+use Rattle.pv_session.specs.declared.step.Phase.TheVariants as phases
+use Rattle.pv_session.specs.declared.step.Step.{Step}
+use Rattle.pv_session.specs.declared.seat.TheConstants.{TRIES}
+use Rattle.pv_session.specs.declared.message.Message.TheVariants as messages
+use Rattle.pv_session.specs.Shown.{ShownFrame, first_frame, route_of_digit}
+use Rattle.pv_session.specs.State.{CallState}
+use Rattle.pv_session.specs.Fetching.{fetch_turn, visit_turn, route_turn, next_turn, back_turn, repeat_turn, fresh_turn, command_turn, message_turn}
+use Rattle.pv_session.specs.Turns.{Goes, Listens, IsTurnIn, IsTurn, is_spent, entry_turn, log_on_turn, byte_turn, known_caller}
+use Rattle.pv_session.specs.Calls.{CallEvent, Keyed, Stored, Refused, Happens, AreSteps, IsLike, AreStepsOfLike}
+
+-- ---- what an entry does changes no count of entries
+
+-- it leaves the count as it was
+abbrev pub Keeps : CallState → CallState × Step → Type 0
+Keeps call turn = turn.0.entries ≡ call.entries
+
+-- a fetch
+fetch_keeps : (call : CallState) (name : Name) (frame : Option Content) → Keeps call (fetch_turn call name frame)
+fetch_keeps call name None = refl
+fetch_keeps call name (Some frame) = refl
+
+-- one from which the caller can go back
+visit_keeps : (call : CallState) (name : Name) (frame : Option Content) → Keeps call (visit_turn call name frame)
+visit_keeps call name None = refl
+visit_keeps call name (Some frame) = refl
+
+-- a digit, and each other command that shows a frame
+route_keeps : (call : CallState) (view : View) (page : Option ℕ) → Keeps call (route_turn call view page)
+route_keeps call view None = refl
+route_keeps call view (Some page) = visit_keeps call (first_frame page) (view.pages (first_frame page))
+
+-- a turn by a test
+by_test : (call : CallState) (test : Bool) (one other : CallState × Step) → Keeps call one → Keeps call other
+    → Keeps call (if test then one else other)
+by_test call true one other is_one is_other = is_one
+by_test call false one other is_one is_other = is_other
+
+next_keeps : (call : CallState) (view : View) (present : Option ShownFrame) → Keeps call (next_turn call view present)
+next_keeps call view None = visit_keeps call (first_frame 0) (view.pages (first_frame 0))
+next_keeps call view (Some present) =
+    let next : Name = record present.name { letter = present.name.letter + 1 } in
+    by_test call (present.name.letter == 122) (message_turn call messages.PageNotAvailable) (visit_turn call next (view.pages next)) refl
+    (visit_keeps call next (view.pages next))
+
+back_keeps : (call : CallState) (view : View) (earlier : List Name) → Keeps call (back_turn call view earlier)
+back_keeps call view [] = refl
+back_keeps call view (name ∷ earlier) = fetch_keeps (record call { earlier = earlier }) name (view.pages name)
+
+repeat_keeps : (call : CallState) (present : Option ShownFrame) → Keeps call (repeat_turn call present)
+repeat_keeps call None = refl
+repeat_keeps call (Some present) = refl
+
+fresh_keeps : (call : CallState) (view : View) (present : Option ShownFrame) → Keeps call (fresh_turn call view present)
+fresh_keeps call view None = refl
+fresh_keeps call view (Some present) = fetch_keeps call present.name (view.pages present.name)
+
+-- so no command changes it
+command_keeps : (call : CallState) (view : View) (command : Command) → Keeps call (command_turn call view command)
+command_keeps call view (commands.Route digit) = route_keeps call view (route_of_digit call.present digit)
+command_keeps call view commands.Next = next_keeps call view call.present
+command_keeps call view (commands.Go page) = visit_keeps call (first_frame page) (view.pages (first_frame page))
+command_keeps call view commands.Back = back_keeps call view call.earlier
+command_keeps call view commands.Repeat = repeat_keeps call call.present
+command_keeps call view commands.Fresh = fresh_keeps call view call.present
+command_keeps call view commands.Mail = refl
+command_keeps call view commands.End = refl
+command_keeps call view commands.Cancel = refl
+command_keeps call view commands.Slip = refl
+
+-- neither does a password
+log_on_keeps : (call : CallState) (caller : Option ℕ) → Keeps call (log_on_turn call caller)
+log_on_keeps call (Some account) = refl
+log_on_keeps call None = by_test call (nat_lt (call.failed + 1) TRIES) _ _ refl refl
+
+-- so no entry does
+pub entry_keeps : (call : CallState) (view : View) (entry : Entry) → Keeps call (entry_turn call view entry)
+entry_keeps call view (entries.Account account) = refl
+entry_keeps call view (entries.Password password) = log_on_keeps call (known_caller call.account view.account password)
+entry_keeps call view (entries.Command command) = command_keeps call view command
+
+-- ---- a byte that makes no entry
+
+-- a byte that makes an entry raises the count, so it is none that leaves it
+hears_unseen : (call after : CallState) (byte : ℕ) (view other : View) (step : Step) (entry : Option Entry)
+    → Goes (byte_turn call byte view entry) after step → after.entries ≡ call.entries → Goes (byte_turn call byte other entry) after step
+hears_unseen call after byte view other step None goes same = record { after_is = goes.after_is; step_is = goes.step_is }
+hears_unseen call after byte view other step (Some entry) goes same =
+    let raised : CallState = record call { keyed = []; bytes = call.bytes + 1; entries = call.entries + 1 } in
+    let more : after.entries ≡ call.entries + 1 = ap (λ (c : CallState). c.entries) goes.after_is ∙ entry_keeps raised view entry in
+    absurd (omega arith)
+
+-- a byte at a seat that takes keys
+listens_unseen : (spent : Bool) (call after : CallState) (byte : ℕ) (view other : View) (step : Step)
+    → Listens spent call byte view after step → after.entries ≡ call.entries → Listens spent call byte other after step
+listens_unseen true call after byte view other step goes same = goes
+listens_unseen false call after byte view other step hears same = record {
+  entry = hears.entry;
+  says = hears.says;
+  goes = hears_unseen call after byte view other step hears.entry hears.goes same;
+}
+
+-- a byte at any seat
+turns_unseen : (phase : Phase) (call after : CallState) (byte : ℕ) (view other : View) (step : Step)
+    → IsTurnIn phase call byte view after step → after.entries ≡ call.entries → IsTurnIn phase call byte other after step
+turns_unseen phases.Listening call after byte view other step turns same =
+    listens_unseen (is_spent call) call after byte view other step turns same
+turns_unseen (phases.Owing wish) call after byte view other step turns same = turns
+turns_unseen phases.Over call after byte view other step turns same = turns
+
+-- the sight does not count at a byte that makes no entry
+pub unseen : (call after : CallState) (byte : ℕ) (view other : View) (step : Step)
+    → IsTurn call byte view after step → after.entries ≡ call.entries → IsTurn call byte other after step
+unseen call after byte view other step turns same = turns_unseen call.phase call after byte view other step turns same
+
+-- ---- one way
+
+-- what comes of one turn comes in one way
+one_end : (turn : CallState × Step) (x y : CallState) (a b : Step) → Goes turn x a → Goes turn y b → (x ≡ y) × (a ≡ b)
+one_end turn x y a b is_x is_y = (is_x.after_is ∙ sym is_y.after_is, is_x.step_is ∙ sym is_y.step_is)
+
+-- a value that is found exactly is one
+one_value : {A : Type 0} (Is : A → Type 0) (a b : Option A) → Exactly Is a → Exactly Is b → a ≡ b
+one_value Is None None is_a is_b = refl
+one_value Is None (Some b) is_a is_b = is_a.only b is_b.found
+one_value Is (Some a) b is_a is_b = sym (is_b.only a is_a.found)
+
+-- a byte at a seat that takes keys, in one way
+listens_once : (spent : Bool) (call x y : CallState) (byte : ℕ) (view : View) (a b : Step)
+    → Listens spent call byte view x a → Listens spent call byte view y b → (x ≡ y) × (a ≡ b)
+listens_once true call x y byte view a b is_x is_y = one_end _ x y a b is_x is_y
+listens_once false call x y byte view a b is_x is_y =
+    let same = one_value _ is_x.entry is_y.entry is_x.says is_y.says in
+    one_end (byte_turn call byte view is_y.entry) x y a b
+    (subst (λ (entry : Option Entry). Goes (byte_turn call byte view entry) x a) same is_x.goes) is_y.goes
+
+-- a byte at any seat, in one way
+turns_once : (phase : Phase) (call x y : CallState) (byte : ℕ) (view : View) (a b : Step)
+    → IsTurnIn phase call byte view x a → IsTurnIn phase call byte view y b → (x ≡ y) × (a ≡ b)
+turns_once phases.Listening call x y byte view a b is_x is_y = listens_once (is_spent call) call x y byte view a b is_x is_y
+turns_once (phases.Owing wish) call x y byte view a b is_x is_y = one_end _ x y a b is_x is_y
+turns_once phases.Over call x y byte view a b is_x is_y = one_end _ x y a b is_x is_y
+
+-- whatever happens, in one way
+happens_once : (call x y : CallState) (event : CallEvent) (a b : Step) → Happens call event x a → Happens call event y b
+    → (x ≡ y) × (a ≡ b)
+happens_once call x y (Keyed byte view) a b is_x is_y = turns_once call.phase call x y byte view a b is_x is_y
+happens_once call x y (Stored reply) a b is_x is_y = one_end _ x y a b is_x is_y
+happens_once call x y Refused a b is_x is_y = one_end _ x y a b is_x is_y
+
+-- so does a whole call
+pub one_call : (events : List CallEvent) (call x y : CallState) (one other : List Step)
+    → AreSteps call events one x → AreSteps call events other y → (one ≡ other) × (x ≡ y)
+one_call [] call x y [] [] is_x is_y = (refl, sym is_x ∙ is_y)
+one_call [] call x y [] (b ∷ other) is_x is_y = absurd is_y
+one_call [] call x y (a ∷ one) other is_x is_y = absurd is_x
+one_call (event ∷ events) call x y [] other is_x is_y = absurd is_x
+one_call (event ∷ events) call x y (a ∷ one) [] is_x is_y = absurd is_y
+one_call (event ∷ events) call x y (a ∷ one) (b ∷ other) (next, first, more) (after, second, rest) =
+    let head = happens_once call next after event a b first second in
+    let tail = one_call events after x y one other (subst (λ (c : CallState). AreSteps c events one x) head.0 more) rest in
+    ((λ i. head.1 i ∷ tail.0 i), tail.1)
+
+-- ---- calls that are alike
+
+-- an event has the effect of one that is like it
+like_event : (call next : CallState) (event other : CallEvent) (step : Step) → Happens call event next step → IsLike call next event other
+    → Happens call other next step
+like_event call next (Keyed byte view) (Keyed other seen) step happens like =
+    let here : IsTurn call byte seen next step =
+    elim (cases_eq next.entries call.entries) [
+      | inl same ↦ unseen call next byte view seen step happens same
+      | inr raised ↦ subst (λ (v : View). IsTurn call byte v next step) (like.1 raised) happens
+    ] in
+    subst (λ (b : ℕ). IsTurn call b seen next step) like.0 here
+like_event call next (Keyed byte view) (Stored reply) step happens like = subst (λ (e : CallEvent). Happens call e next step) like happens
+like_event call next (Keyed byte view) Refused step happens like = subst (λ (e : CallEvent). Happens call e next step) like happens
+like_event call next (Stored reply) other step happens like = subst (λ (e : CallEvent). Happens call e next step) like happens
+like_event call next Refused other step happens like = subst (λ (e : CallEvent). Happens call e next step) like happens
+
+-- so has a call
+pub like_calls : (events others : List CallEvent) (call after : CallState) (steps : List Step)
+    → AreStepsOfLike call events others steps after → AreSteps call others steps after
+like_calls [] [] call after [] is = is
+like_calls [] [] call after (step ∷ steps) is = absurd is
+like_calls [] (other ∷ others) call after steps is = absurd is
+like_calls (event ∷ events) [] call after steps is = absurd is
+like_calls (event ∷ events) (other ∷ others) call after [] is = absurd is
+like_calls (event ∷ events) (other ∷ others) call after (step ∷ steps) (next, happens, like, more) =
+    (next, like_event call next event other step happens like, like_calls events others next after steps more)

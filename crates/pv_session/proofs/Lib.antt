@@ -1,0 +1,5 @@
+mod Facts
+mod Laws
+mod Rows
+mod TenDigits
+mod Waiting

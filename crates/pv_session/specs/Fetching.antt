@@ -1,0 +1,97 @@
+-- What the commands of a caller show: messages, and frames that are fetched.
+use Rattle.std.specs.Prelude.{ℕ, ◌+◌, ◌==◌, List, [], ◌∷◌, take, Option, Some, None, if◌then◌else◌}
+use Rattle.pv_page.specs.Names.{Name}
+use Rattle.pv_page.specs.declared.frame_name.TheConstants.{LAST_LETTER}
+use Rattle.pv_frame.specs.Content.{Content}
+use Rattle.pv_edits.specs.Sight.{View}
+use Rattle.pv_keys.specs.declared.command.Command.{Command}
+use Rattle.pv_keys.specs.declared.command.Command.TheVariants as commands
+use Rattle.pv_session.specs.declared.earlier.TheConstants.{EARLIER}
+use Rattle.pv_session.specs.declared.message.Message.{Message}
+use Rattle.pv_session.specs.declared.message.Message.TheVariants.{Welcome, PageNotAvailable, NoSuchRoute, NoPreviousFrame, KeysNotUnderstood, Blank, CallEnded, NoMessages}
+use Rattle.pv_session.specs.declared.step.Phase.TheVariants.{Over}
+use Rattle.pv_session.specs.declared.step.Why.{Why}
+use Rattle.pv_session.specs.declared.step.Why.TheVariants.{Finished}
+use Rattle.pv_session.specs.declared.step.Step.{Step}
+use Rattle.pv_session.specs.declared.step.Step.TheVariants as steps
+use Rattle.pv_session.specs.Messages.{row_screen, blank_screen}
+use Rattle.pv_session.specs.Shown.{ShownFrame, frame_screen, route_of_digit, first_frame}
+use Rattle.pv_session.specs.State.{CallState}
+
+-- a message in row 24
+abbrev pub message_turn : CallState → Message → CallState × Step
+message_turn call message = (call, steps.Show (row_screen message))
+
+-- a message on a blank screen
+abbrev pub blank_turn : CallState → Message → CallState × Step
+blank_turn call message = (call, steps.Show (blank_screen message))
+
+-- the call is over, and a message says so
+abbrev pub ending_turn : CallState → Why → Message → CallState × Step
+ending_turn call why message = (record call { phase = Over }, steps.Ended why (row_screen message))
+
+-- ---- frames
+
+-- a frame becomes the present one and is shown
+abbrev pub showing_turn : CallState → Name → Content → CallState × Step
+showing_turn call name frame =
+    let present : ShownFrame = record { name = name; frame = frame } in
+    (record call { present = Some present }, steps.Show (frame_screen present))
+
+-- a fetch: a frame that the caller may see is shown, and without one nothing changes but row 24
+abbrev pub fetch_turn : CallState → Name → Option Content → CallState × Step
+fetch_turn call name None = message_turn call PageNotAvailable
+fetch_turn call name (Some frame) = showing_turn call name frame
+
+-- the earlier names, with the present one before them; the oldest of four is dropped
+abbrev pub names_with : Option ShownFrame → List Name → List Name
+names_with None earlier = earlier
+names_with (Some present) earlier = take EARLIER (present.name ∷ earlier)
+
+-- a fetch from which the caller can go back
+abbrev pub visit_turn : CallState → Name → Option Content → CallState × Step
+visit_turn call name None = message_turn call PageNotAvailable
+visit_turn call name (Some frame) = showing_turn (record call { earlier = names_with call.present call.earlier }) name frame
+
+-- ---- commands
+
+-- a digit: frame a of the page to which the present frame's route leads
+abbrev pub route_turn : CallState → View → Option ℕ → CallState × Step
+route_turn call view None = message_turn call NoSuchRoute
+route_turn call view (Some page) = visit_turn call (first_frame page) (view.pages (first_frame page))
+
+-- the next frame of the page, or frame 0a if none is shown
+abbrev pub next_turn : CallState → View → Option ShownFrame → CallState × Step
+next_turn call view None = visit_turn call (first_frame 0) (view.pages (first_frame 0))
+next_turn call view (Some present) =
+    if present.name.letter == LAST_LETTER then message_turn call PageNotAvailable else
+    let next : Name = record present.name { letter = present.name.letter + 1 } in
+    visit_turn call next (view.pages next)
+
+-- the last earlier frame; its name is used up, whether it can be seen or not
+abbrev pub back_turn : CallState → View → List Name → CallState × Step
+back_turn call view [] = message_turn call NoPreviousFrame
+back_turn call view (name ∷ earlier) = fetch_turn (record call { earlier = earlier }) name (view.pages name)
+
+-- the present frame as it was shown
+abbrev pub repeat_turn : CallState → Option ShownFrame → CallState × Step
+repeat_turn call None = blank_turn call Welcome
+repeat_turn call (Some present) = (call, steps.Show (frame_screen present))
+
+-- the present frame as it is now
+abbrev pub fresh_turn : CallState → View → Option ShownFrame → CallState × Step
+fresh_turn call view None = blank_turn call Welcome
+fresh_turn call view (Some present) = fetch_turn call present.name (view.pages present.name)
+
+-- what each command does
+abbrev pub command_turn : CallState → View → Command → CallState × Step
+command_turn call view (commands.Route digit) = route_turn call view (route_of_digit call.present digit)
+command_turn call view commands.Next = next_turn call view call.present
+command_turn call view (commands.Go page) = visit_turn call (first_frame page) (view.pages (first_frame page))
+command_turn call view commands.Back = back_turn call view call.earlier
+command_turn call view commands.Repeat = repeat_turn call call.present
+command_turn call view commands.Fresh = fresh_turn call view call.present
+command_turn call view commands.Mail = message_turn call NoMessages
+command_turn call view commands.End = ending_turn call Finished CallEnded
+command_turn call view commands.Cancel = message_turn call Blank
+command_turn call view commands.Slip = message_turn call KeysNotUnderstood

@@ -1,0 +1,11 @@
+pub mod Messages
+pub mod Entries
+pub mod Gathering
+pub mod Earlier
+pub mod Reading
+pub mod Shown
+pub mod State
+pub mod Seat
+pub mod Fetching
+pub mod Turns
+pub mod Calls

@@ -1,0 +1,20 @@
+-- What a seat stands for.
+use Rattle.pv_session.specs.declared.seat.Seat.{Seat}
+use Rattle.pv_session.specs.Earlier.{names_of}
+use Rattle.pv_session.specs.Reading.{mode_of, keys_so_far}
+use Rattle.pv_session.specs.State.{CallState}
+
+-- the call at a seat
+abbrev pub state_of : Seat → CallState
+state_of seat = record {
+  phase = seat.phase;
+  mode = mode_of seat.reading;
+  keyed = keys_so_far seat.reading;
+  failed = seat.failed;
+  account = seat.account;
+  serial = seat.serial;
+  present = seat.present;
+  earlier = names_of seat.earlier;
+  bytes = seat.bytes;
+  entries = seat.entries;
+}

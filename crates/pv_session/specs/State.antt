@@ -1,0 +1,42 @@
+-- What there is of a call at a caller's seat.
+use Rattle.std.specs.Prelude.{ℕ, Bool, true, false, List, [], Option, None}
+use Rattle.pv_page.specs.Names.{Name}
+use Rattle.pv_session.specs.Entries.{Mode, AccountMode}
+use Rattle.pv_session.specs.Shown.{ShownFrame}
+use Rattle.pv_session.specs.declared.step.Phase.{Phase}
+use Rattle.pv_session.specs.declared.step.Phase.TheVariants.{Listening, Owing, Over}
+
+-- something is to be stored
+abbrev pub is_owing : Phase → Bool
+is_owing Listening = false
+is_owing (Owing wish) = true
+is_owing Over = false
+
+-- a call: what the caller is asked for, and what he has keyed of it; how many of his log-ons failed; his account and the call's
+-- serial; the frame that he is shown, and the names of those before it, the last one first; and how much he has keyed in all
+pub record CallState : Type 0 where
+  pub phase : Phase
+  pub mode : Mode
+  pub keyed : List ℕ
+  pub failed : ℕ
+  pub account : Option ℕ
+  pub serial : Option ℕ
+  pub present : Option ShownFrame
+  pub earlier : List Name
+  pub bytes : ℕ
+  pub entries : ℕ
+
+-- a call that begins
+abbrev pub new_call : CallState
+new_call = record {
+  phase = Listening;
+  mode = AccountMode;
+  keyed = [];
+  failed = 0;
+  account = None;
+  serial = None;
+  present = None;
+  earlier = [];
+  bytes = 0;
+  entries = 0;
+}

@@ -1,0 +1,221 @@
+ghost use Rattle.std.specs.Prelude.{◌≡◌, ◌<◌, false};
+ghost use Rattle.pv_session.specs.declared.seat.TheConstants.{TRIES};
+
+mod browse;
+
+use crate::digits::DigitReader;
+use crate::earlier::Earlier;
+use crate::entry::Entry;
+use crate::gathered::Gathered;
+use crate::message::Message;
+use crate::password::known_caller;
+use crate::present::Present;
+use crate::reading::Reading;
+use crate::step::{Paid, Phase, Step, Why, Wish};
+use pv_account::AccountNo;
+use pv_edits::Sight;
+use pv_keys::KeyReader;
+use pv_screen::Screen;
+
+/// How many bytes a call has at most.
+pub const MAX_BYTES: u32 = 1_000_000;
+
+/// How many entries a call has at most.
+pub const MAX_ENTRIES: u16 = 4096;
+
+/// How many times a caller may try to log on.
+pub const TRIES: u8 = 3;
+
+/// A caller's seat.
+#[derive(Clone, Copy, Debug, PartialEq, Eq)]
+pub struct Seat {
+    phase: Phase,
+    reading: Reading,
+    failed: u8,
+    account: Option<AccountNo>,
+    serial: Option<u64>,
+    present: Option<Present>,
+    earlier: Earlier,
+    bytes: u32,
+    entries: u16,
+    ghost tries_left: { failed < TRIES },
+}
+
+impl Seat {
+    ghost use Rattle.pv_edits.specs.Sight.{view_of};
+    ghost use Rattle.pv_session.specs.Fetching.{ending_turn};
+    ghost use Rattle.pv_session.specs.Messages.{blank_screen};
+    ghost use Rattle.pv_session.specs.Seat.{state_of};
+    ghost use Rattle.pv_session.specs.State.{new_call, is_owing};
+    ghost use Rattle.pv_session.specs.Turns.{IsTurn, Listens, Hears, Goes, storing_turn, full_turn};
+    ghost use Rattle.pv_session.specs.Turns.{failure_turn, log_on_turn, entry_turn, is_spent};
+
+    /// A call that begins, and its first screen, which asks for the account.
+    pub fn dial() -> (Seat, Screen)
+        ensures seat { state_of result.0 ≡ new_call }
+        ensures screen { result.1 ≡ blank_screen Message.KeyAccount }
+    {
+        let seat = Seat {
+            phase: Phase::Listening,
+            reading: Reading::Account(DigitReader::new()),
+            failed: 0,
+            account: None,
+            serial: None,
+            present: None,
+            earlier: Earlier::new(),
+            bytes: 0,
+            entries: 0,
+        };
+        (seat, Message::KeyAccount.on_blank())
+    }
+
+    /// Takes a byte. The sight is that of [`Seat::account`]. A seat that owes something or whose call is over takes no
+    /// byte, and returns [`Step::Quiet`].
+    pub fn key(&mut self, byte: u8, sight: &Sight) -> Step
+        ensures { IsTurn (state_of self.old) byte (view_of sight.now) (state_of self.new) result }
+    {
+        match self.phase {
+            Phase::Listening => self.listen(byte, sight),
+            Phase::Owing(_) | Phase::Over => Step::Quiet,
+        }
+    }
+
+    /// Goes on after the centre stored what the seat owes. If it owes nothing, nothing changes.
+    pub fn paid(&mut self, reply: Paid) -> Step
+        ensures { Goes (storing_turn (state_of self.old) (state_of self.old).phase reply) (state_of self.new) result }
+    {
+        match (self.phase, reply) {
+            (Phase::Owing(Wish::LogOn(_)), Paid::Serial(serial)) => {
+                self.phase = Phase::Listening;
+                self.serial = Some(serial);
+                self.reading = Reading::Browse(KeyReader::new());
+                Step::Show(Message::Welcome.on_blank())
+            }
+            _ => Step::Quiet,
+        }
+    }
+
+    /// Ends the call, since the centre is full and does not store what the seat owes. If it owes nothing, nothing
+    /// changes.
+    pub fn turned_away(&mut self) -> Step
+        ensures { Goes (full_turn (state_of self.old) (state_of self.old).phase) (state_of self.new) result }
+    {
+        match self.phase {
+            Phase::Owing(_) => self.end(Why::Full, Message::PleaseTryLater),
+            _ => Step::Quiet,
+        }
+    }
+
+    /// The account that was keyed. `None` exactly until ten digits were keyed, and after each log-on that failed.
+    pub fn account(&self) -> Option<AccountNo>
+        ensures { result ≡ (state_of self.now).account }
+    {
+        self.account
+    }
+
+    /// Whether something is to be stored.
+    pub fn owes(&self) -> bool
+        ensures { result ≡ is_owing (state_of self.now).phase }
+    {
+        matches!(self.phase, Phase::Owing(_))
+    }
+
+    /// The serial that the call was given as its caller logged on.
+    pub fn serial(&self) -> Option<u64>
+        ensures { result ≡ (state_of self.now).serial }
+    {
+        self.serial
+    }
+
+    /// How many entries were keyed.
+    pub fn entries(&self) -> u16
+        ensures { result ≡ (state_of self.now).entries }
+    {
+        self.entries
+    }
+
+    /// Takes a byte, unless the call is spent.
+    fn listen(&mut self, byte: u8, sight: &Sight) -> Step
+        ensures { Listens (is_spent (state_of self.old)) (state_of self.old) byte (view_of sight.now)
+            (state_of self.new) result }
+    {
+        if self.is_spent() {
+            self.end(Why::Spent, Message::CallEnded)
+        } else {
+            self.hear(byte, sight)
+        }
+    }
+
+    /// Takes a byte of a call that is not spent.
+    fn hear(&mut self, byte: u8, sight: &Sight) -> Step
+        requires { is_spent (state_of self.old) ≡ false }
+        ensures { Hears (state_of self.old) byte (view_of sight.now) (state_of self.new) result }
+    {
+        self.bytes += 1;
+        match self.reading.take(byte) {
+            Some(entry) => {
+                self.entries += 1;
+                self.enter(entry, sight)
+            }
+            None => Step::Quiet,
+        }
+    }
+
+    /// Whether the call has had as many bytes or entries as it may have.
+    fn is_spent(&self) -> bool
+        ensures { result ≡ is_spent (state_of self.now) }
+    {
+        MAX_BYTES <= self.bytes || MAX_ENTRIES <= self.entries
+    }
+
+    /// Ends the call with a message.
+    fn end(&mut self, why: Why, message: Message) -> Step
+        ensures { Goes (ending_turn (state_of self.old) why message) (state_of self.new) result }
+    {
+        self.phase = Phase::Over;
+        Step::Ended(why, message.alone())
+    }
+
+    /// Does what an entry asks for.
+    fn enter(&mut self, entry: Entry, sight: &Sight) -> Step
+        ensures { Goes (entry_turn (state_of self.old) (view_of sight.now) entry) (state_of self.new) result }
+    {
+        match entry {
+            Entry::Account(account) => {
+                self.account = Some(account);
+                self.reading = Reading::Password(Gathered::new());
+                Step::Show(Message::KeyPassword.alone())
+            }
+            Entry::Password(password) => {
+                self.log_on(known_caller(self.account, sight.account(), &password))
+            }
+            Entry::Command(command) => self.obey(command, sight),
+        }
+    }
+
+    /// Goes on after a password.
+    fn log_on(&mut self, caller: Option<AccountNo>) -> Step
+        ensures { Goes (log_on_turn (state_of self.old) caller) (state_of self.new) result }
+    {
+        match caller {
+            Some(account) => {
+                self.phase = Phase::Owing(Wish::LogOn(account));
+                Step::Owe(Wish::LogOn(account))
+            }
+            None => self.fail(),
+        }
+    }
+
+    /// Counts a log-on that failed.
+    fn fail(&mut self) -> Step
+        ensures { Goes (failure_turn (state_of self.old)) (state_of self.new) result }
+    {
+        if self.failed + 1 >= TRIES {
+            return self.end(Why::Refused, Message::CallRefused);
+        }
+        self.failed += 1;
+        self.account = None;
+        self.reading = Reading::Account(DigitReader::new());
+        Step::Show(Message::NotKnown.alone())
+    }
+}

@@ -1,0 +1,353 @@
+use crate::{MAX_BYTES, MAX_ENTRIES, Message, Paid, Seat, Step, Why, Wish};
+use pv_account::{Account, AccountNo, Groups, LAST_CENTRE, digest};
+use pv_edits::{Base, Record, Sight};
+use pv_frame::{CheckedFrame, Frame};
+use pv_outside::Limits;
+use pv_page::{FrameName, PageNo};
+use pv_screen::{Screen, compose};
+use std::alloc::Global;
+use std::process::Abort;
+use std::test::Fail;
+
+const LIMITS: Limits = Limits {
+    frames: 40,
+    records: 60,
+};
+
+/// What a caller is sent, in short.
+#[derive(Clone, Copy, Debug)]
+enum Sent {
+    /// Nothing.
+    Nothing,
+    /// A message in row 24.
+    Row(Message),
+    /// A message on a blank screen.
+    Alone(Message),
+    /// The frame of a name.
+    Page(&'static [u8]),
+    /// A message, and the call is over.
+    Over(Why, Message),
+}
+
+use Sent::{Alone, Nothing, Over, Page, Row};
+
+fn number(number: u64) -> Result<AccountNo, Fail> {
+    Ok(AccountNo::of_number(number).ok_or("an account's number")?)
+}
+
+fn name(text: &[u8]) -> Result<FrameName, Fail> {
+    Ok(FrameName::of_text(text).ok_or("a frame's name")?)
+}
+
+/// An account with the password `ABCD`.
+fn account(number: u64, home: u8, groups: &[u16]) -> Option<Account> {
+    let number = AccountNo::of_number(number)?;
+    let groups = Groups::of_list(groups)?;
+    Some(Account {
+        number,
+        digest: digest(number, b"ABCD"),
+        home: home.min(LAST_CENTRE),
+        groups,
+    })
+}
+
+/// The operator's record that makes an account.
+fn new_account(account: Option<Account>) -> Result<Record, Fail> {
+    Ok(Record::Account {
+        editor: number(0)?,
+        q: 1,
+        account: account.ok_or("an account")?,
+    })
+}
+
+/// A frame with a route 2 to page 2. Page 70 is closed to all but group 7.
+fn frame_of(name: FrameName) -> Result<CheckedFrame, Fail> {
+    let mut frame = Frame::blank();
+    frame.routes[2] = PageNo::of_number(2);
+    if name.page.number() == 70 {
+        frame.group = 7;
+    }
+    Ok(CheckedFrame::of(frame)?)
+}
+
+/// Adds a record if there is room.
+fn absorb(base: &mut Base, record: &Record) {
+    if base.count() < u64::from(base.limits().records) && base.has_room(record) {
+        base.absorb(record, 0);
+    }
+}
+
+/// A base with a member of group 7 and a stranger at home at centre 0, another account at home at centre 1, and these
+/// frames.
+fn base_of(alloc: Global, names: &[&[u8]]) -> Result<Base, Fail> {
+    let mut base = Base::open(alloc, LIMITS)?;
+    absorb(&mut base, &new_account(account(1_000_000_001, 0, &[7]))?);
+    absorb(&mut base, &new_account(account(1_000_000_002, 0, &[]))?);
+    absorb(&mut base, &new_account(account(1_000_000_003, 1, &[7]))?);
+    for text in names {
+        let name = name(text)?;
+        let put = Record::Put {
+            editor: number(0)?,
+            q: 2,
+            name,
+            frame: frame_of(name)?,
+        };
+        absorb(&mut base, &put);
+    }
+    Ok(base)
+}
+
+/// Keys bytes at centre 0, one after another. What is owed is stored at once. The step is the last one that is not quiet.
+fn keyed(seat: &mut Seat, keys: &[u8], base: &Base) -> Step {
+    let mut last = Step::Quiet;
+    for key in keys {
+        let mut step = seat.key(*key, &Sight::new(base, 0, seat.account()));
+        if seat.owes() {
+            step = seat.paid(Paid::Serial(9));
+        }
+        if step != Step::Quiet {
+            last = step;
+        }
+    }
+    last
+}
+
+/// A seat whose caller has logged on.
+fn logged_on(keys: &[u8], base: &Base) -> Seat {
+    let (mut seat, _) = Seat::dial();
+    let _ = keyed(&mut seat, keys, base);
+    seat
+}
+
+/// The step that sends this.
+fn step_of(sent: Sent) -> Result<Step, Fail> {
+    Ok(match sent {
+        Nothing => Step::Quiet,
+        Row(message) => Step::Show(Screen::Row(message.row())),
+        Alone(message) => Step::Show(message.on_blank()),
+        Page(text) => {
+            let name = name(text)?;
+            Step::Show(Screen::Whole(compose(frame_of(name)?.frame(), name)))
+        }
+        Over(why, message) => Step::Ended(why, Screen::Row(message.row())),
+    })
+}
+
+/// Keys the first of each row at one seat, and compares what is sent with the second.
+fn play(rt: &impl Abort, seat: &mut Seat, base: &Base, rows: &[(&[u8], Sent)]) -> Result<(), Fail> {
+    for (keys, sent) in rows {
+        let step = keyed(seat, keys, base);
+        assert!(rt;
+            step == step_of(*sent)?,
+            "{keys:?} is not answered by {sent:?}"
+        );
+    }
+    Ok(())
+}
+
+#[test]
+fn a_caller_logs_on(rt: HostRuntime) -> Result<(), Fail> {
+    let base = base_of(rt.alloc(), &[])?;
+    let (mut seat, screen) = Seat::dial();
+    assert!(rt; screen == Message::KeyAccount.on_blank());
+    assert_eq!(rt; seat.account(), None);
+    assert_eq!(rt; seat.serial(), None);
+    assert_eq!(rt; seat.entries(), 0);
+    let rows: [(&[u8], Sent); 6] = [
+        (b"1000 *#x", Nothing),
+        (b"00000", Nothing),
+        (b"1", Row(Message::KeyPassword)),
+        (b"A *#_\x7f", Nothing),
+        (b"BC", Nothing),
+        (b"D", Alone(Message::Welcome)),
+    ];
+    play(&rt, &mut seat, &base, &rows)?;
+    assert_eq!(rt; seat.account(), Some(number(1_000_000_001)?));
+    assert_eq!(rt; seat.serial(), Some(9));
+    assert_eq!(rt; seat.entries(), 2);
+    Ok(())
+}
+
+#[test]
+fn the_third_failed_log_on_ends_the_call_whatever_was_wrong(rt: HostRuntime) -> Result<(), Fail> {
+    let base = base_of(rt.alloc(), &[])?;
+    let wrong: [&[u8]; 3] = [b"1000000001XXXX", b"9999999999ABCD", b"1000000003ABCD"];
+    for first in wrong {
+        for third in wrong {
+            let (mut seat, _) = Seat::dial();
+            let rows = [
+                (first, Row(Message::NotKnown)),
+                (b"1000000002", Row(Message::KeyPassword)),
+                (b"abcd", Row(Message::NotKnown)),
+                (third, Over(Why::Refused, Message::CallRefused)),
+                (b"1000000001ABCD", Nothing),
+            ];
+            play(&rt, &mut seat, &base, &rows)?;
+        }
+    }
+    Ok(())
+}
+
+#[test]
+fn each_command_before_a_frame_is_shown(rt: HostRuntime) -> Result<(), Fail> {
+    let base = base_of(rt.alloc(), &[b"0a", b"1a"])?;
+    let rows: [(&[u8], Sent); 17] = [
+        (b"5", Row(Message::NoSuchRoute)),
+        (b"#", Page(b"0a")),
+        (b"_", Page(b"0a")),
+        (b"*0#", Page(b"0a")),
+        (b"*1#", Page(b"1a")),
+        (b"*1_", Page(b"1a")),
+        (b"*2#", Row(Message::PageNotAvailable)),
+        (b"*#", Row(Message::NoPreviousFrame)),
+        (b"*00", Alone(Message::Welcome)),
+        (b"*09", Alone(Message::Welcome)),
+        (b"*930#", Row(Message::NoMessages)),
+        (b"*90#", Over(Why::Finished, Message::CallEnded)),
+        (b"**", Row(Message::Blank)),
+        (b"*12**", Row(Message::Blank)),
+        (b"*05", Row(Message::KeysNotUnderstood)),
+        (b"*1234567890", Row(Message::KeysNotUnderstood)),
+        (b"*12*5", Row(Message::KeysNotUnderstood)),
+    ];
+    for row in rows {
+        play(&rt, &mut logged_on(b"1000000001ABCD", &base), &base, &[row])?;
+    }
+    Ok(())
+}
+
+#[test]
+fn each_command_after_a_frame_is_shown(rt: HostRuntime) -> Result<(), Fail> {
+    let base = base_of(rt.alloc(), &[b"1a", b"2a", b"2b"])?;
+    let rows: [(&[u8], Sent); 12] = [
+        (b"2", Page(b"2a")),
+        (b"2#", Page(b"2b")),
+        (b"2*#", Page(b"1a")),
+        (b"7", Row(Message::NoSuchRoute)),
+        (b"#", Row(Message::PageNotAvailable)),
+        (b"*2#", Page(b"2a")),
+        (b"*3#*00", Page(b"1a")),
+        (b"*00", Page(b"1a")),
+        (b"*09", Page(b"1a")),
+        (b"*#", Row(Message::NoPreviousFrame)),
+        (b"*2#*09*#", Page(b"1a")),
+        (b"*00*00*#", Row(Message::NoPreviousFrame)),
+    ];
+    for row in rows {
+        let mut seat = logged_on(b"1000000001ABCD", &base);
+        play(&rt, &mut seat, &base, &[(b"*1#", Page(b"1a")), row])?;
+    }
+    Ok(())
+}
+
+#[test]
+fn commands_come_one_after_another(rt: HostRuntime) -> Result<(), Fail> {
+    let base = base_of(rt.alloc(), &[])?;
+    let mut seat = logged_on(b"1000000001ABCD", &base);
+    let rows: [(&[u8], Sent); 9] = [
+        (b"*0", Nothing),
+        (b"0", Alone(Message::Welcome)),
+        (b"*0#", Row(Message::PageNotAvailable)),
+        (b"*0_", Row(Message::PageNotAvailable)),
+        (b"*1234567890", Row(Message::KeysNotUnderstood)),
+        (b"#", Row(Message::PageNotAvailable)),
+        (b"**", Row(Message::Blank)),
+        (b"*90#", Over(Why::Finished, Message::CallEnded)),
+        (b"*00", Nothing),
+    ];
+    play(&rt, &mut seat, &base, &rows)
+}
+
+#[test]
+fn the_last_letter_has_no_next_frame(rt: HostRuntime) -> Result<(), Fail> {
+    let base = base_of(rt.alloc(), &[b"5x", b"5y", b"5z", b"5a", b"6a"])?;
+    let mut seat = logged_on(b"1000000001ABCD", &base);
+    let rows: [(&[u8], Sent); 4] = [
+        (b"*5#", Page(b"5a")),
+        (b"#", Row(Message::PageNotAvailable)),
+        (b"*6#", Page(b"6a")),
+        (b"#", Row(Message::PageNotAvailable)),
+    ];
+    play(&rt, &mut seat, &base, &rows)
+}
+
+#[test]
+fn a_caller_goes_back_three_frames(rt: HostRuntime) -> Result<(), Fail> {
+    let base = base_of(rt.alloc(), &[b"1a", b"2a", b"3a", b"4a", b"5a"])?;
+    let mut seat = logged_on(b"1000000001ABCD", &base);
+    let rows: [(&[u8], Sent); 5] = [
+        (b"*1#*2#*3#*4#*5#", Page(b"5a")),
+        (b"*#", Page(b"4a")),
+        (b"*#", Page(b"3a")),
+        (b"*#", Page(b"2a")),
+        (b"*#", Row(Message::NoPreviousFrame)),
+    ];
+    play(&rt, &mut seat, &base, &rows)
+}
+
+#[test]
+fn a_closed_page_is_answered_as_a_missing_one(rt: HostRuntime) -> Result<(), Fail> {
+    let base = base_of(rt.alloc(), &[b"70a"])?;
+    let mut member = logged_on(b"1000000001ABCD", &base);
+    play(&rt, &mut member, &base, &[(b"*70#", Page(b"70a"))])?;
+    let mut stranger = logged_on(b"1000000002ABCD", &base);
+    let rows: [(&[u8], Sent); 2] = [
+        (b"*70#", Row(Message::PageNotAvailable)),
+        (b"*71#", Row(Message::PageNotAvailable)),
+    ];
+    play(&rt, &mut stranger, &base, &rows)
+}
+
+#[test]
+fn what_was_shown_can_be_repeated_once_it_is_gone(rt: HostRuntime) -> Result<(), Fail> {
+    let base = base_of(rt.alloc(), &[b"1a", b"2a", b"3a"])?;
+    let mut seat = logged_on(b"1000000001ABCD", &base);
+    play(&rt, &mut seat, &base, &[(b"*1#*2#*3#", Page(b"3a"))])?;
+    let later = base_of(rt.alloc(), &[b"1a"])?;
+    let rows: [(&[u8], Sent); 6] = [
+        (b"*00", Page(b"3a")),
+        (b"*09", Row(Message::PageNotAvailable)),
+        (b"*00", Page(b"3a")),
+        (b"*#", Row(Message::PageNotAvailable)),
+        (b"*#", Page(b"1a")),
+        (b"*#", Row(Message::NoPreviousFrame)),
+    ];
+    play(&rt, &mut seat, &later, &rows)
+}
+
+#[test]
+fn a_log_on_is_stored_first(rt: HostRuntime) -> Result<(), Fail> {
+    let base = base_of(rt.alloc(), &[])?;
+    let (mut seat, _) = Seat::dial();
+    let _ = keyed(&mut seat, b"1000000001ABC", &base);
+    let caller = number(1_000_000_001)?;
+    let sight = Sight::new(&base, 0, Some(caller));
+    assert!(rt; seat.key(b'D', &sight) == Step::Owe(Wish::LogOn(caller)));
+    assert!(rt; seat.owes());
+    assert!(rt; seat.key(b'1', &sight) == Step::Quiet);
+    let mut away = seat;
+    assert!(rt; away.turned_away() == step_of(Over(Why::Full, Message::PleaseTryLater))?);
+    assert!(rt; !away.owes());
+    assert!(rt; away.paid(Paid::Serial(1)) == Step::Quiet);
+    assert!(rt; seat.paid(Paid::Serial(1)) == step_of(Alone(Message::Welcome))?);
+    assert!(rt; !seat.owes());
+    assert!(rt; seat.turned_away() == Step::Quiet);
+    Ok(())
+}
+
+#[test]
+fn a_call_has_a_last_entry_and_a_last_byte(rt: HostRuntime) -> Result<(), Fail> {
+    let base = base_of(rt.alloc(), &[])?;
+    let spent = (b"1".as_slice(), Over(Why::Spent, Message::CallEnded));
+    let mut seat = logged_on(b"1000000001ABCD", &base);
+    for _ in 2..MAX_ENTRIES {
+        play(&rt, &mut seat, &base, &[(b"**", Row(Message::Blank))])?;
+    }
+    assert_eq!(rt; seat.entries(), MAX_ENTRIES);
+    play(&rt, &mut seat, &base, &[spent, (b"1", Nothing)])?;
+    let (mut silent, _) = Seat::dial();
+    for _ in 0..MAX_BYTES {
+        assert!(rt; silent.key(b' ', &Sight::new(&base, 0, None)) == Step::Quiet);
+    }
+    play(&rt, &mut silent, &base, &[spent])
+}
