@@ -103,8 +103,8 @@ def network_picture():
     body = [marker]
     body += box(40, 20, 150, 44, "operator's script", "seed, view, list")
     for at in range(2):
-        body += box(250 + at * 150, 20, 120, 44, f"editor {at}", "pages of his own", dashed=True)
-        body.append(line(310 + at * 150, 64, 330, 110, dashed=True, arrow=down))
+        body += box(250 + at * 150, 20, 120, 44, f"editor {at}", "pages of his own")
+        body.append(line(310 + at * 150, 64, 330, 110, arrow=down))
     body.append(line(115, 64, 290, 110, arrow=down))
     body += box(220, 110, 200, 56, "Update Centre", "the one edit list")
     body += box(470, 116, 110, 44, "disk", "its journal", dashed=True)
@@ -112,9 +112,9 @@ def network_picture():
     body.append(words(425, 183, "edits go down in numbered packets;", 12, "start"))
     body.append(words(425, 199, "acknowledgements, charges, mail go up", 12, "start"))
     for at in range(3):
-        x, dashed = 30 + at * 215, at > 0
-        body += box(x, 260, 130, 56, f"centre {at}", "a prefix of the list", dashed=dashed)
-        body.append(line(320, 166, x + 65, 260, dashed=dashed, arrow=both))
+        x = 30 + at * 215
+        body += box(x, 260, 130, 56, f"centre {at}", "a prefix of the list")
+        body.append(line(320, 166, x + 65, 260, arrow=both))
         body += box(x + 145, 268, 52, 40, "disk", dashed=True)
         body.append(line(x + 130, 288, x + 145, 288, dashed=True))
         for caller in range(2):

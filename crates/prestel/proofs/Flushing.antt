@@ -12,10 +12,10 @@ use Rattle.pv_network.specs.Standing.{State}
 use Rattle.pv_network.specs.World.{World}
 use Rattle.prestel.specs.declared.streams.StandardOutput.{StandardOutput}
 use Rattle.prestel.specs.Output.{written_bytes, buffered_bytes}
-use Rattle.prestel.specs.Play.{IsTranscript, StopsAtBadLine, StopsInAnswers, StopsAfterLine, IsPlayOf}
+use Rattle.pv_script.specs.Play.{IsTranscript, StopsAtBadLine, StopsInAnswers, StopsAfterLine, IsPlayOf}
 use Rattle.prestel.specs.Program.{IsRunOf}
-use Rattle.prestel.specs.Transcript.{answers}
-use Rattle.prestel.proofs.Reading.{Appends-kept}
+use Rattle.pv_script.specs.Transcript.{answers}
+use Rattle.pv_script.proofs.CallerLemmas.{Appends-kept}
 
 -- ---- what was written stays written
 

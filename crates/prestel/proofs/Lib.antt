@@ -1,7 +1,1 @@
-pub mod Ending
-pub mod Facts
 pub mod Flushing
-pub mod Happening
-pub mod Limits
-pub mod Reading
-pub mod Running

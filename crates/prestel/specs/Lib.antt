@@ -1,9 +1,3 @@
 pub mod About
-pub mod Ends
-pub mod Grammar
 pub mod Output
-pub mod Play
 pub mod Program
-pub mod Readers
-pub mod Transcript
-pub mod Words

@@ -8,7 +8,7 @@ use Rattle.pv_words.specs.Lines.{lines_of}
 use Rattle.pv_network.specs.World.{World}
 use Rattle.prestel.specs.declared.streams.StandardOutput.{StandardOutput}
 use Rattle.prestel.specs.Output.{written_bytes, flushed_bytes, buffered_bytes}
-use Rattle.prestel.specs.Play.{longest_script, IsReadWhole, IsTranscript, StopsAtBadLine, StopsInAnswers, StopsAfterLine}
+use Rattle.pv_script.specs.Play.{longest_script, IsReadWhole, IsTranscript, StopsAtBadLine, StopsInAnswers, StopsAfterLine}
 
 -- How it may end that a text of the program is written: the writer itself has the whole of it, and nothing is in the buffer, or
 -- the output failed after a prefix of it.

@@ -11,17 +11,10 @@ ghost use Rattle.std.specs.Process.{exit_status};
 ghost use Rattle.pv_outside.specs.Status.{number_of};
 
 mod about;
-mod answer;
-mod ends;
-mod grammar;
-mod play;
 mod program;
-mod readers;
-mod script;
 mod streams;
 #[cfg(test)]
 mod tests;
-mod word;
 
 use crate::program::run_program;
 use crate::streams::{StandardInput, StandardOutput};

@@ -1,14 +1,14 @@
 ghost use Rattle.std.specs.Prelude.{◌≡◌, ◌≢◌, ℕ, ◌≤◌, ◌↔◌, List, map, string_bytes};
 ghost use Rattle.pv_outside.specs.Counts.{Rose};
 ghost use Rattle.prestel.specs.About.{about_words, about_text};
-ghost use Rattle.prestel.specs.Play.{AskToPlay, AskNoPlay, first_world, HasRead, IsNotRun};
+ghost use Rattle.pv_script.specs.Play.{AskToPlay, AskNoPlay, first_world, HasRead, IsNotRun};
 ghost use Rattle.prestel.specs.Program.{WritesText, IsRunOf};
 ghost use Rattle.prestel.specs.declared.about.About.{About};
 
 use crate::about::About;
-use crate::play::play;
 use crate::streams::StandardOutput;
 use pv_outside::{Failed, Sink, Source, Status};
+use pv_script::play;
 use std::alloc::Global;
 use std::io::Write;
 

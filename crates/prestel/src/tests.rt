@@ -1,9 +1,9 @@
 use crate::about::About;
-use crate::play::{Played, play};
 use crate::program::run_program;
 use crate::streams::{StandardInput, StandardOutput};
 use pv_memory::{MemSink, MemSource};
 use pv_outside::{Failed, Sink, Status};
+use pv_script::{Played, play};
 use std::alloc::Global;
 use std::io::{self, ErrorKind, Read, Write};
 use std::test::Fail;
@@ -118,10 +118,66 @@ OK 7
 OK 6
 ";
 
+/// Two frames and five records: what is refused first, and what a full list still answers.
+const SMALL: &[u8] = b"limits 2 5
+seed 1a A
+seed 2a B
+seed 3a C
+seed 1a A
+seed 1a A
+seed 1a A
+seed 1a A
+edit 0 LOGON 0000000000 0000
+edit 0 DROP 6 9a
+edit 0 DROP 6 1a
+edit 0 DROP 5 9a
+";
+
+/// What is written then.
+const FILLED: &[u8] = b"limits 2 5
+OK 0
+OK 1
+NO 5 FRAMES FULL 2
+OK 2
+OK 3
+OK 4
+NO 14 FULL 5
+OK
+NO 4 NO FRAME
+NO 14 FULL 5
+OK 4
+";
+
+/// Two editors at two ports with one account: a number counts for both, and what it holds is not asked again.
+const TWO_PORTS: &[u8] = b"edit 0 LOGON 0000000000 0000
+edit 3 LOGON 0000000000 0000
+edit 0 NEW 1a
+edit 3 NEW 2a
+edit 0 STORE 1
+edit 3 STORE 1
+edit 3 STORE 2
+edit 0 STORE 3
+edit 0 DROP 3 2a
+list
+";
+
+/// What is written then: the second editor's first number was there, so that his frame is stored under the next.
+const ONE_ACCOUNT: &[u8] = b"OK
+OK
+OK
+OK
+OK 0
+OK 0
+OK 1
+OK 2
+OK 2
+records 3
+";
+
 #[test]
 fn scripts_have_their_transcripts(rt: HostRuntime) -> Result<(), Fail> {
     let alloc = rt.alloc();
-    let cases: [(&[u8], &[u8], &[u8]); 6] = [
+    let cases: [(&[u8], &[u8], &[u8]); 8] = [
         (b"", b"", b""),
         (
             b"seed 1a HELLO\nview 0 1a\nsend 0\ndeliver 0 0\nview 0 1a",
@@ -144,6 +200,8 @@ fn scripts_have_their_transcripts(rt: HostRuntime) -> Result<(), Fail> {
             b"",
         ),
         (OWNERS, OWNED, b""),
+        (SMALL, FILLED, b""),
+        (TWO_PORTS, ONE_ACCOUNT, b""),
     ];
     for (script, first, rest) in cases {
         let mut wanted = Vec::new(alloc);
@@ -157,8 +215,55 @@ fn scripts_have_their_transcripts(rt: HostRuntime) -> Result<(), Fail> {
     Ok(())
 }
 
+/// Two centres: the one gets a record early and one that it lacks, the other all by one carry.
+const TWO_CENTRES: &[u8] = b"seed 1a A
+seed 2a B
+send 0
+send 0
+deliver 0 1
+carry 1
+carry 0
+at 0
+at 1
+seed 1a C
+carry 1
+carry 1
+at 0
+at 1
+";
+
+/// What is written then.
+const CARRIED: &[u8] = b"OK 0
+OK 1
+sent 0 record 0
+sent 1 record 1
+early 1 ack 0
+carried 2 0
+carried 2 0
+applied 2
+applied 2
+OK 2
+carried 1 0
+carried 0 0
+applied 2
+applied 3
+";
+
+#[test]
+fn centres_are_apart(rt: HostRuntime) -> Result<(), Fail> {
+    let alloc = rt.alloc();
+    for words in [["play", "2"], ["play", "3"], ["play", "4"]] {
+        let trial = Trial::of(TWO_CENTRES);
+        assert!(rt;
+            trial.ends(alloc, &words, Status::Done, CARRIED)?,
+            "{words:?}"
+        );
+    }
+    Ok(())
+}
+
 /// Lines at the edge of a form, and what is written for them.
-const FORMS: [(&[u8], &[u8]); 17] = [
+const FORMS: [(&[u8], &[u8]); 20] = [
     (b"\n", b""),
     (b"; seed 1a X\n", b""),
     (b";\n\n;", b""),
@@ -182,6 +287,12 @@ const FORMS: [(&[u8], &[u8]); 17] = [
     (b"deliver 0 0", b"no packet\n"),
     (b"deliver 0 18446744073709551615", b"no packet\n"),
     (b"view 0 1a", b"-\n"),
+    (b"carry 0", b"carried 0 0\n"),
+    (
+        b"limits 1 1\nseed 0a X\nseed 0a X",
+        b"limits 1 1\nOK 0\nNO 14 FULL 1\n",
+    ),
+    (b"limits 20000 50000", b"limits 20000 50000\n"),
 ];
 
 #[test]
@@ -196,7 +307,7 @@ fn lines_at_the_edge_of_a_form(rt: HostRuntime) -> Result<(), Fail> {
 }
 
 /// Lines that are no valid commands.
-const NO_FORMS: [&[u8]; 39] = [
+const NO_FORMS: [&[u8]; 47] = [
     b"seed 1a 01234567890123456789012345678901234567890",
     b"seed 1a \\1f\\1f\\1f\\1f\\1f\\1f\\1f\\1f\\1f\\1f\\1f\\1f\\1f\\1f\\1f\\1f\\1f\\1f\\1f\\1f\\1f\\1f\\1f\\1f\\1f\\1f\\1f\\1f\\1f\\1f\\1f\\1f\\1f\\1f\\1f\\1f\\1f\\1f\\1f\\1f\\1f",
     b"seed 1a",
@@ -236,6 +347,14 @@ const NO_FORMS: [&[u8]; 39] = [
     b"back 1 0",
     b"edit 0",
     b"edit 4 QUIT",
+    b"carry 1",
+    b"carry 0 0",
+    b"limits 1",
+    b"limits 0 1",
+    b"limits 1 0",
+    b"limits 20001 1",
+    b"limits 1 50001",
+    b"limits 4294967297 1",
 ];
 
 #[test]
@@ -243,6 +362,28 @@ fn lines_that_are_no_form(rt: HostRuntime) -> Result<(), Fail> {
     let wanted = Status::BadLine { line: 1 };
     for line in NO_FORMS {
         assert!(rt; comes_to(rt.alloc(), line, wanted, b"")?, "{line:?}");
+    }
+    Ok(())
+}
+
+#[test]
+fn limits_stand_on_the_first_line_alone(rt: HostRuntime) -> Result<(), Fail> {
+    let before: [&[u8]; 3] = [
+        b"\nlimits 2 5\n",
+        b";\nlimits 2 5\n",
+        b"limits 2 5\nlimits 2 5\n",
+    ];
+    for script in before {
+        let written: &[u8] = if script.starts_with(b"limits") {
+            b"limits 2 5\n"
+        } else {
+            b""
+        };
+        let wanted = Status::BadLine { line: 2 };
+        assert!(rt;
+            comes_to(rt.alloc(), script, wanted, written)?,
+            "{script:?}"
+        );
     }
     Ok(())
 }

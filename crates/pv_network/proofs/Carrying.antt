@@ -1,5 +1,5 @@
 -- The rounds of a carry: each that goes on makes a packet, so that the rounds end.
-use Rattle.std.proofs.Common.{◌≡◌, ℕ, zero, suc, ◌+◌, ◌-◌, ◌<◌, ◌≤◌, Bool, true, false, cond, leb, List, [], ◌∷◌, ◌++◌, length, set, Option, Some, None, refl, sym, ap, subst, ◌∙◌, arith}
+use Rattle.std.proofs.Common.{◌≡◌, ℕ, zero, suc, ◌+◌, ◌<◌, ◌≤◌, Bool, true, false, cond, List, [], ◌∷◌, length, set, Option, Some, None, refl, sym, ap, subst, ◌∙◌, arith}
 use Rattle.std.specs.Prelude.{slice_get}
 use Rattle.std.proofs.lemmas.Bool.{leb-false}
 use Rattle.std.proofs.lemmas.List.{length-append, length-set}
@@ -13,13 +13,15 @@ use Rattle.pv_network.specs.declared.packet.Packet.{Packet}
 use Rattle.pv_network.specs.declared.packet.TheConstants.{MAX_PACKETS}
 use Rattle.pv_network.specs.declared.round.Round.{Round}
 use Rattle.pv_network.specs.declared.round.Round.TheVariants as rounds
-use Rattle.pv_network.specs.Centre.{arrival_of}
-use Rattle.pv_network.specs.Link.{Link, new_link, is_packets_full, packet_count, number_to_send, with_packet, with_acknowledgement, heard_link}
+use Rattle.pv_network.specs.Link.{Link, new_link, is_packets_full, packet_count, number_to_send, with_packet, heard_link}
 use Rattle.pv_network.specs.Standing.{State, StandsFor, Performs}
-use Rattle.pv_network.specs.Traffic.{ack_in, packet_in, packet_room, with_ack_back, round_of_packet, step_of_round, after_round, carry_rounds, step_of_carry, step_of_packing, step_of_number, step_of_send, step_of_acknowledging, with_next_at, step_of_arrival, step_of_packet, step_of_deliver, step_of_heard, step_of_back}
+use Rattle.pv_network.specs.Traffic.{GoesOn, round_of_send, round_of_number, ack_in, packet_in, packet_room, with_ack_back, round_of_packet, step_of_round, after_round, carry_rounds, step_of_carry, step_of_packing, step_of_number, step_of_send, step_of_acknowledging, with_next_at, step_of_arrival, step_of_packet, step_of_deliver, step_of_heard, step_of_back}
 use Rattle.pv_network.specs.World.{World, centre_at, link_at, with_link}
-use Rattle.pv_network.proofs.Lists.{read_again}
 use Rattle.pv_network.proofs.Soundness.{choice}
+
+-- one more than a sum
+suc-add : (m n : ℕ) → suc m + n ≡ suc (m + n)
+suc-add m n = omega arith
 
 -- how many packets were made on a link
 abbrev size : Link → ℕ
@@ -133,6 +135,47 @@ module _ (w : World) (c : ℕ) (there : c < length w.links) where
       let more = grows_brought (step_of_send w c).0 c (omega (arith, made.2, there)) index in
       omega (arith, made.0, made.1, more.packets)
 
+module _ (w : World) (c : ℕ) (there : c < length w.links) where
+  -- a round before which another comes leaves less room for packets, and as many links
+  round_takes_room : GoesOn (step_of_round w c).1
+      → (packet_room (step_of_round w c).0.links < packet_room w.links) × (length (step_of_round w c).0.links ≡ length w.links)
+  round_takes_room = numbered (number_to_send (link_at w c).sending (length w.update.records))
+    where
+      sent : (packet : Option ℕ) → packet_in (step_of_send w c).1 ≡ packet
+          → GoesOn (round_of_send (step_of_send w c).0 c (step_of_send w c).1 packet).1
+          → (packet_room (round_of_send (step_of_send w c).0 c (step_of_send w c).1 packet).0.links < packet_room w.links)
+          × (length (round_of_send (step_of_send w c).0 c (step_of_send w c).1 packet).0.links ≡ length w.links)
+      sent None is none = absurd none
+      sent (Some index) is on =
+          let made = grows_sent w c there index is in
+          let more = grows_brought (step_of_send w c).0 c (omega (arith, made.2, there)) index in
+          (sent_takes_room w c there index is, more.links ∙ made.2)
+
+      numbered : (number : Option ℕ) → GoesOn (round_of_number w c number).1
+          → (packet_room (round_of_number w c number).0.links < packet_room w.links)
+          × (length (round_of_number w c number).0.links ≡ length w.links)
+      numbered None none = absurd none
+      numbered (Some number) on = sent (packet_in (step_of_send w c).1) refl on
+
+-- what comes after a round is the same if what comes after those that go on is
+same_after : (one other : World → ℕ → World × Outcome) (w : World) (taken : ℕ) (round : Round)
+    → (GoesOn round → (n : ℕ) → one w n ≡ other w n) → after_round one w taken round ≡ after_round other w taken round
+same_after one other w taken rounds.Idle same = refl
+same_after one other w taken rounds.Taken same = same tt (taken + 1)
+same_after one other w taken rounds.Again same = same tt taken
+same_after one other w taken (rounds.Stopped outcome) same = refl
+
+-- with as many rounds as there is room for packets and one, more rounds change nothing
+pub rounds_suffice : (more extra c : ℕ) (w : World) (taken : ℕ) → c < length w.links → packet_room w.links < more
+    → carry_rounds (more + extra) c w taken ≡ carry_rounds more c w taken
+unfolding carry_rounds
+rounds_suffice zero extra c w taken there room = absurd (omega (arith, room))
+rounds_suffice (suc more) extra c w taken there room =
+    ap (λ (n : ℕ). carry_rounds n c w taken) (suc-add more extra)
+    ∙ same_after (carry_rounds (more + extra) c) (carry_rounds more c) (step_of_round w c).0 taken (step_of_round w c).1
+    (λ on n. let less = round_takes_room w c there on in
+    rounds_suffice more extra c (step_of_round w c).0 n (omega (arith, less.1, there)) (omega (arith, less.0, room)))
+
 -- ---- the rest of a carry
 
 -- from a network that stands for the world so far, in which this many records were taken
@@ -195,7 +238,7 @@ module _ (c : ℕ) (w : World) where
     pub rest_after_again : packet_room new.links < packet_room old.links → RoundDone taken old new rounds.Again → Rest c w taken new
     rest_after_again less d = rest_after taken d.so_far d.more d.stands d.room less d.is
 
--- what a carry came to is what it is said to come to
+-- the world and the outcome after the last round are those of the carry
 pub carry_ends : (c : ℕ) (w v : World) (new : State) (outcome : Outcome) → StandsFor new v → step_of_carry w c ≡ (v, outcome)
     → StandsFor new (step_of_carry w c).0 × (outcome ≡ (step_of_carry w c).1)
 carry_ends c w v new outcome stands is =

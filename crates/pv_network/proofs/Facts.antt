@@ -1,9 +1,10 @@
 -- Worked examples of the network's rules, computed from the definitions.
-use Rattle.std.proofs.Common.{◌≡◌, ℕ, [], ◌∷◌, Some, None, codes, refl}
+use Rattle.std.proofs.Common.{lit<, lit≤, ◌≡◌, ℕ, Some, None, codes, refl}
 use Rattle.std.specs.Fmt.{digits}
 use Rattle.pv_outside.specs.declared.limits.Limits.{Limits}
 use Rattle.pv_node.specs.declared.decision.Decision.TheVariants.{Answer}
-use Rattle.pv_udc.specs.EditList.{EditList}
+use Rattle.pv_edits.specs.declared.record.Record.{Record}
+use Rattle.pv_udc.specs.EditList.{EditList, empty_list, with_record}
 use Rattle.pv_udc.specs.declared.reply.Code.{Code}
 use Rattle.pv_udc.specs.declared.reply.UdcReply.TheVariants.{Again, Refused}
 use Rattle.pv_editor.specs.Replies.{reply_of}
@@ -12,7 +13,7 @@ use Rattle.pv_network.specs.declared.centre.Arrival.TheVariants.{Taken, Old, Ear
 use Rattle.pv_network.specs.declared.outcome.Outcome.TheVariants as outcomes
 use Rattle.pv_network.specs.Centre.{arrival_of}
 use Rattle.pv_network.specs.Link.{number_to_send}
-use Rattle.pv_network.specs.Traffic.{step_of_send}
+use Rattle.pv_network.specs.Traffic.{carry_rounds, step_of_carry, step_of_send}
 use Rattle.pv_network.specs.Verdict.{verdict_by}
 use Rattle.pv_network.specs.World.{start}
 use Rattle.pv_network.specs.declared.verdict.TheConstants.{FULL}
@@ -43,6 +44,18 @@ refused_first u code = refl
 
 pub repeated_first : (u : EditList) (place : ℕ) → (verdict_by u (Answer (Again place))).reply ≡ told.Stored place
 repeated_first u place = refl
+
+-- ---- carry
+
+-- the limits of a small network
+abbrev small : Limits
+small = record { frames = 2; records = 5; frames_in_range = (lit< tt, lit≤ tt); records_in_range = (lit< tt, lit≤ tt) }
+
+-- a new centre gets both records of a list in two rounds, and then nothing is left to send
+pub two_are_carried : (one other : Record)
+    → (step_of_carry (record (start 1 small) { update = with_record (with_record (empty_list small) one) other }) 0).1 ≡ outcomes.Carried 2 0
+unfolding carry_rounds
+two_are_carried one other = refl
 
 -- there is nothing to send at the start
 pub idle_at_start : (limits : Limits) → (step_of_send (start 1 limits) 0).1 ≡ outcomes.Idle

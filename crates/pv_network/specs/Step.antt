@@ -5,7 +5,6 @@ use Rattle.pv_frame.specs.declared.layout.TheConstants.{FIRST_ROW}
 use Rattle.pv_frame.specs.Content.{Content, blank_frame, with_row}
 use Rattle.pv_screen.specs.Composing.{composed_grid}
 use Rattle.pv_screen.specs.declared.screen.Screen.TheVariants.{Whole}
-use Rattle.pv_edits.specs.declared.record.Record.{Record}
 use Rattle.pv_edits.specs.declared.room.TheConstants.{OPERATOR}
 use Rattle.pv_edits.specs.declared.wish.EditWish.{EditWish}
 use Rattle.pv_edits.specs.declared.wish.EditWish.TheVariants.{Put}

@@ -90,7 +90,7 @@ ack_in (outcomes.Old number ack) = ack
 ack_in (outcomes.Early number ack) = ack
 ack_in _ = None
 
--- the round whose delivery came to this
+-- the round whose delivery had this outcome
 abbrev pub round_by : Outcome → Round
 round_by (outcomes.Taken number ack) = rounds.Taken
 round_by (outcomes.Old number ack) = rounds.Again
@@ -137,7 +137,7 @@ after_round more w taken rounds.Taken = more w (taken + 1)
 after_round more w taken rounds.Again = more w taken
 after_round more w taken (rounds.Stopped outcome) = (w, outcome)
 
--- at most so many rounds, with this many records taken before them; after the last of them no packet can be made
+-- at most this many rounds, with this many records taken before them; after the last of them no packet can be made
 unfoldable pub carry_rounds : ℕ → ℕ → World → ℕ → World × Outcome
 carry_rounds zero c w taken = (w, outcomes.PacketsFull)
 carry_rounds (suc more) c w taken = let round = step_of_round w c in after_round (carry_rounds more c) round.0 taken round.1

@@ -1,5 +1,5 @@
 -- The world: the one edit list, what each centre has of it, and every packet that was ever made.
-use Rattle.std.specs.Prelude.{ℕ, Option, Some, None, List, [], ◌∷◌, ◌++◌, length, take, replicate, slice_index_or, slice_set}
+use Rattle.std.specs.Prelude.{ℕ, Option, Some, None, List, [], ◌∷◌, ◌++◌, take, replicate, slice_index_or, slice_set}
 use Rattle.pv_outside.specs.declared.limits.Limits.{Limits}
 use Rattle.pv_edits.specs.declared.record.Record.{Record}
 use Rattle.pv_udc.specs.EditList.{EditList, empty_list, with_record}

@@ -32,7 +32,7 @@ mod round;
 mod verdict;
 
 pub use event::{EDITORS, Event, MAX_CENTRES};
-pub use laws::every_reachable_world_is_sound;
+pub use laws::{a_carry_has_rounds_enough, every_reachable_world_is_sound};
 pub use network::Network;
 pub use outcome::{Outcome, Turn, Why};
 pub use pv_editor::Text;

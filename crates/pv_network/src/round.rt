@@ -3,7 +3,7 @@ ghost use Rattle.pv_network.specs.Traffic.{round_by};
 
 use crate::outcome::Outcome;
 
-/// What a round of a carry came to.
+/// What came of a round of a carry.
 #[derive(Debug, Drop)]
 pub enum Round {
     /// Nothing was left to send.
@@ -17,7 +17,7 @@ pub enum Round {
 }
 
 impl Round {
-    /// The round whose delivery came to this.
+    /// The round whose delivery had this outcome.
     pub(crate) fn of(arrived: Outcome) -> Round
         ensures { result ≡ round_by arrived }
     {

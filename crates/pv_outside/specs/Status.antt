@@ -16,7 +16,7 @@ number_of TooLong = 7
 -- the message of each end
 abbrev pub words_of : Status → List ℕ
 words_of Done = codes "done"
-words_of Usage = codes "usage: prestel play 1 < SCRIPT"
+words_of Usage = codes "usage: prestel play N < SCRIPT"
 words_of (BadLine line) = codes "line " ++ decimal line ++ codes ": not a valid command"
 words_of ReadFault = codes "the input could not be read"
 words_of WriteFault = codes "the output could not be written"

@@ -45,7 +45,7 @@ impl fmt::Display for Status {
     fn fmt<W: fmt::Write>(&self, f: &mut fmt::Formatter<W>) -> fmt::Result {
         match self {
             Status::Done => write!(f, "done"),
-            Status::Usage => write!(f, "usage: prestel play 1 < SCRIPT"),
+            Status::Usage => write!(f, "usage: prestel play N < SCRIPT"),
             Status::BadLine { line } => write!(f, "line {line}: not a valid command"),
             Status::ReadFault => write!(f, "the input could not be read"),
             Status::WriteFault => write!(f, "the output could not be written"),

@@ -1,4 +1,4 @@
-use Rattle.prestel.specs.Play.{first_world}
+use Rattle.pv_script.specs.Play.{first_world}
 use Rattle.prestel.proofs.Flushing.{flushed, out_of_memory, not_flushed}
 use Rattle.prestel.proofs.program.play_out.Goals as goal
 

@@ -6,7 +6,7 @@ use Rattle.prestel.specs.declared.about.About.{About}
 use Rattle.prestel.specs.declared.about.About.TheVariants.{Help, Version}
 use Rattle.prestel.specs.declared.streams.StandardOutput.{StandardOutput}
 use Rattle.prestel.specs.About.{about_words}
-use Rattle.prestel.specs.Play.{AskNoPlay}
+use Rattle.pv_script.specs.Play.{AskNoPlay}
 use Rattle.prestel.specs.Program.{WritesText}
 use Rattle.prestel.proofs.program.run_program.Goals as goal
 

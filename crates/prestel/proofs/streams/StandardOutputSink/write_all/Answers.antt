@@ -1,7 +1,7 @@
 use Rattle.std.proofs.Common.{◌-◌, ◌++◌, List, ℕ, length, take, drop, sym, ap, subst, ◌∙◌, arith, length-take}
 use Rattle.std.proofs.Math.Seq.{take-add, take-take}
 use Rattle.std.specs.Io.KnownBytes.{Appends}
-use Rattle.prestel.proofs.Reading.{Appends-more}
+use Rattle.pv_script.proofs.CallerLemmas.{Appends-more}
 use Rattle.prestel.proofs.streams.StandardOutputSink.write_all.Goals as goal
 
 -- what the writer took comes after what it had taken

@@ -1,4 +1,4 @@
-use Rattle.std.proofs.Common.{◌≡◌, List, set, ap, ◌∙◌}
+use Rattle.std.proofs.Common.{List, set, ap, ◌∙◌}
 use Rattle.pv_editor.specs.Say.{new_seat}
 use Rattle.pv_editor.specs.declared.seat.EditorSeat.{EditorSeat}
 use Rattle.pv_network.specs.declared.outcome.Outcome.TheVariants.{Reply}

@@ -1,9 +1,6 @@
-use Rattle.std.specs.Prelude.{replicate}
-use Rattle.std.proofs.Common.{◌≡◌, [], ◌∷◌, length, false, refl, sym, ◌∙◌, arith}
+use Rattle.std.proofs.Common.{[], ◌∷◌, false, refl, sym, ◌∙◌, arith}
 use Rattle.std.proofs.lemmas.List.{length-replicate}
 use Rattle.pv_udc.specs.EditList.{empty_list}
-use Rattle.pv_editor.specs.Say.{new_seat}
-use Rattle.pv_network.specs.declared.event.TheConstants.{EDITORS}
 use Rattle.pv_network.specs.Centre.{CentreStands, nothing_held, new_centre}
 use Rattle.pv_network.specs.Link.{new_link}
 use Rattle.pv_network.specs.Standing.{StandsFor}

@@ -1,4 +1,4 @@
-use Rattle.std.proofs.Common.{rules, ◌≡◌, List, length, get_or, set, refl, sym, ◌∙◌, subst, arith}
+use Rattle.std.proofs.Common.{rules, ◌≡◌, length, get_or, set, refl, arith}
 use Rattle.pv_udc.specs.EditList.{all_places}
 use Rattle.pv_editor.specs.Say.{new_seat, Says}
 use Rattle.pv_editor.specs.declared.seat.EditorSeat.{EditorSeat}

@@ -1,5 +1,4 @@
-use Rattle.std.proofs.Common.{Option, List, ap, ◌∙◌}
-use Rattle.pv_frame.specs.Content.{Content}
+use Rattle.std.proofs.Common.{List, ap, ◌∙◌}
 use Rattle.pv_frame.proofs.CallerLemmas.{HasRanges-valid}
 use Rattle.pv_edits.specs.declared.record.Record.{Record}
 use Rattle.pv_edits.specs.Edits.{frame_at}

@@ -1,0 +1,59 @@
+-- Worked examples of scripts and transcripts, computed from the definitions.
+use Rattle.std.proofs.Common.{lit≤, ◌≡◌, [], ◌∷◌, ◌*◌, true, Some, None, codes, refl}
+use Rattle.std.specs.Fmt.{digits}
+use Rattle.pv_network.specs.declared.event.Event.TheVariants.{Send, Deliver}
+use Rattle.pv_network.specs.declared.event.TheConstants.{MAX_CENTRES}
+use Rattle.pv_network.specs.declared.outcome.Outcome.TheVariants.{SentRecord, Taken, Old, Carried, NotHeld, Applied, Records}
+use Rattle.pv_script.specs.declared.grammar.Command.TheVariants.{Nothing, Do}
+use Rattle.pv_script.specs.declared.grammar.TheConstants.{COMMENT}
+use Rattle.pv_script.specs.declared.word.Word.TheVariants as words
+use Rattle.pv_script.specs.Play.{AskToPlay, first_world, longest_script, play_limits}
+use Rattle.pv_network.specs.Step.{Choice}
+use Rattle.pv_script.specs.Transcript.{answer_text, answers, limits_text}
+use Rattle.pv_script.specs.Words.{word_of_text}
+
+-- ---- scripts
+
+-- a comment begins with a semicolon
+pub comment : COMMENT ∷ [] ≡ codes ";"
+comment = refl
+
+-- a word is one of the script's as it stands, and with a letter more it is none
+pub names_of_words : (word_of_text (codes "deliver") ≡ Some words.Deliver) × (word_of_text (codes "views") ≡ None)
+names_of_words = (refl, refl)
+
+-- the words write how many centres there are, of which there are four at most
+pub words_of_a_play : AskToPlay (codes "play" ∷ codes "4" ∷ []) 4 × (MAX_CENTRES ≡ 4)
+unfolding digits
+words_of_a_play = (record { some = lit≤ tt; few = lit≤ tt; asked = refl }, refl)
+
+-- a script may have a mebibyte
+pub mebibyte : longest_script ≡ 1024 * 1024
+mebibyte = refl
+
+-- ---- transcripts
+
+-- The packet's number comes before the record's. A record that was taken has its acknowledgement beside it.
+-- A dash stands for one that could not be made, and for a frame that a centre does not have.
+pub lines : (answer_text (SentRecord 3 17) ≡ codes "sent 3 record 17\n")
+    × (answer_text (Taken 17 (Some 4)) ≡ codes "taken 17 ack 4\n")
+    × (answer_text (Old 17 None) ≡ codes "old 17 ack -\n")
+    × (answer_text NotHeld ≡ codes "-\n")
+    × (answer_text (Carried 3 0) ≡ codes "carried 3 0\n")
+    × (answer_text (Applied 2) ≡ codes "applied 2\n")
+    × (answer_text (Records 3) ≡ codes "records 3\n")
+unfolding digits
+lines = (refl, refl, refl, refl, refl, refl, refl)
+
+-- the limits of a play are answered with their numbers
+pub limits : limits_text play_limits ≡ codes "limits 2000 10000\n"
+unfolding digits
+limits = refl
+
+-- nothing is open in a command
+abbrev any : Choice
+any = record { kept = true; said = None }
+
+-- on a new network nothing is there to send or to deliver, and a comment has no answer
+pub new_network : answers (first_world 1) ((Do (Send 0), any) ∷ (Nothing, any) ∷ (Do (Deliver 0 0), any) ∷ []) ≡ codes "idle\nno packet\n"
+new_network = refl

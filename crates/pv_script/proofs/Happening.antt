@@ -1,0 +1,39 @@
+-- An event that a line asks for can happen on a network of as many centres as the world has that it stands for.
+use Rattle.std.proofs.Common.{◌≡◌, List, [], ◌∷◌, ℕ, suc, length, refl, ap, sym, subst}
+use Rattle.std.specs.List.{AllZip}
+use Rattle.pv_network.specs.declared.event.Event.{Event}
+use Rattle.pv_network.specs.Standing.{State, StandsFor, IsPossible}
+use Rattle.pv_network.specs.World.{World}
+use Rattle.pv_script.specs.declared.grammar.Command.TheVariants.{Do}
+use Rattle.pv_script.specs.declared.word.Word.{Word}
+use Rattle.pv_script.specs.declared.word.Word.TheVariants as words
+use Rattle.pv_script.specs.Grammar.{AsksAs}
+
+-- a command to let an event happen is of that event
+event_is : {event other : Event} → Do event ≡ Do other → event ≡ other
+event_is is = cc
+
+-- by the line's word: its centre is one that there is, or its row is a row of cells
+pub can_happen : (s : State) (word : Word) (tail : List ℕ) (event : Event) → AsksAs (length s.centres) word tail (Do event)
+    → IsPossible s event
+can_happen s words.Limits tail event asks = absurd cc
+can_happen s words.Seed tail event asks = subst (IsPossible s) (sym (event_is asks.is)) tt
+can_happen s words.Edit tail event asks = subst (IsPossible s) (sym (event_is asks.is)) asks.are.first.0
+can_happen s words.Send tail event asks = subst (IsPossible s) (sym (event_is asks.is)) asks.are.first.0
+can_happen s words.Deliver tail event asks = subst (IsPossible s) (sym (event_is asks.is)) asks.are.first.0
+can_happen s words.Back tail event asks = subst (IsPossible s) (sym (event_is asks.is)) asks.are.first.0
+can_happen s words.Carry tail event asks = subst (IsPossible s) (sym (event_is asks.is)) asks.are.first.0
+can_happen s words.View tail event asks = subst (IsPossible s) (sym (event_is asks.is)) asks.are.first.0
+can_happen s words.At tail event asks = subst (IsPossible s) (sym (event_is asks.is)) asks.are.first.0
+can_happen s words.List tail event asks = subst (IsPossible s) (sym (event_is asks.1)) tt
+
+-- two lists whose elements stand together have one length
+zip_length : {X Y : Type 0} (R : X → Y → Type 0) (xs : List X) (ys : List Y) → AllZip R xs ys → length xs ≡ length ys
+zip_length R [] [] all = refl
+zip_length R [] (y ∷ ys) all = absurd all
+zip_length R (x ∷ xs) [] all = absurd all
+zip_length R (x ∷ xs) (y ∷ ys) all = ap suc (zip_length R xs ys all.1)
+
+-- a network has as many centres as a world that it stands for
+pub count_stands : (s : State) (w : World) → StandsFor s w → length s.centres ≡ length w.centres
+count_stands s w stands = zip_length _ s.centres w.centres stands.centres

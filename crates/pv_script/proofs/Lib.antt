@@ -1,0 +1,7 @@
+pub mod CallerLemmas
+pub mod Ending
+pub mod Facts
+pub mod Happening
+pub mod Limits
+pub mod Reading
+pub mod Running

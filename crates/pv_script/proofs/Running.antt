@@ -1,0 +1,138 @@
+-- What was run and written, line by line.
+use Rattle.std.proofs.Common.{◌≡◌, ℕ, ◌+◌, ◌≤◌, ◌==◌, List, [], ◌∷◌, ◌++◌, length, take, Option, refl, sym, ap, subst, ◌∙◌, append_assoc, arith}
+use Rattle.std.specs.Io.KnownBytes.{Appends}
+use Rattle.std.proofs.lemmas.List.{append-nil, length-append}
+use Rattle.std.proofs.Math.Seq.{take-append-add}
+use Rattle.pv_words.specs.Lines.{lines_of}
+use Rattle.pv_network.specs.World.{World}
+use Rattle.pv_network.specs.Step.{Choice}
+use Rattle.pv_network.specs.Standing.{State, StandsFor}
+use Rattle.pv_script.specs.declared.ends.AnswerEnd.TheVariants as answering
+use Rattle.pv_script.specs.declared.ends.RunEnd.{RunEnd}
+use Rattle.pv_script.specs.declared.ends.RunEnd.TheVariants.{BadLine, Unanswered}
+use Rattle.pv_script.specs.declared.grammar.Command.{Command}
+use Rattle.pv_script.specs.Ends.{HasRun, IsLineEnd, IsRunEnd}
+use Rattle.pv_script.specs.Grammar.{ReadsLine, HasNoForm, IsCommandChoice, AreRead}
+use Rattle.pv_script.specs.Play.{IsTranscript, IsPlayed, StopsAfterLine}
+use Rattle.pv_script.specs.Transcript.{answer_to, answers, world_after, world_after_all}
+use Rattle.pv_script.proofs.CallerLemmas.{Appends-none, Appends-more}
+
+-- ---- one command more
+
+-- the world after one command more
+world_after-push : (w : World) (runs : List (Command × Choice)) (run : Command × Choice) → world_after_all w (runs ++ run ∷ []) ≡ world_after (world_after_all w runs) run.0 run.1
+world_after-push w [] run = refl
+world_after-push w (first ∷ runs) run = world_after-push (world_after w first.0 first.1) runs run
+
+-- what is written for one command more
+answers-push : (w : World) (runs : List (Command × Choice)) (run : Command × Choice) → answers w (runs ++ run ∷ []) ≡ answers w runs ++ answer_to (world_after_all w runs) run.0 run.1
+answers-push w [] run = append-nil (answer_to w run.0 run.1)
+answers-push w (first ∷ runs) run =
+    ap (λ (l : List ℕ). answer_to w first.0 first.1 ++ l) (answers-push (world_after w first.0 first.1) runs run)
+    ∙ sym (append_assoc (answer_to w first.0 first.1) _ _)
+
+-- one line more reads as one command more
+read-push : (centres number at : ℕ) (lines : List (List ℕ)) (runs : List (Command × Choice)) (line : List ℕ) (run : Command × Choice)
+    → at ≡ length lines + number → AreRead centres number lines runs → ReadsLine centres (at == 1) line run.0 → IsCommandChoice run.0 run.1
+    → AreRead centres number (lines ++ line ∷ []) (runs ++ run ∷ [])
+read-push centres number at [] [] line run is read reads choice =
+    let here : at ≡ number = omega (arith, is) in
+    (subst (λ (n : ℕ). ReadsLine centres (n == 1) line run.0) here reads, choice, tt)
+read-push centres number at [] (c ∷ cs) line run is read reads choice = absurd read
+read-push centres number at (l ∷ ls) [] line run is read reads choice = absurd read
+read-push centres number at (l ∷ ls) (c ∷ cs) line run is read reads choice =
+    (read.0, read.1, read-push centres (number + 1) at ls cs line run (omega (arith, is)) read.2 reads choice)
+
+-- ---- the run so far
+
+module _ (centres : ℕ) (first : World) (text : List ℕ) (before : Option (List ℕ)) where
+  -- the lines before the rest were run, the network stands for the world after them, and their answers were written
+  pub record Progress (rest : List ℕ) (number : ℕ) (network : State) (now : Option (List ℕ)) : Type 0 where
+    pub done : List (List ℕ)
+    pub lines : lines_of text ≡ done ++ lines_of rest
+    pub count : length done ≡ number
+    pub transcript : IsTranscript centres first done before now
+    pub stands : StandsFor network (world_after_all first transcript.runs)
+
+  -- no line has no answer
+  nothing_written : IsTranscript centres first [] before before
+  nothing_written = record { runs = []; read = tt; written = Appends-none before }
+
+  -- before the first line nothing was run or written
+  pub begins : (network : State) → StandsFor network first → Progress text 0 network before
+  unfolding nothing_written
+  begins network stands = record { done = []; lines = refl; count = refl; transcript = nothing_written; stands = stands }
+
+  -- nothing was run yet
+  pub stops_at_once : StopsAfterLine centres first text before before
+  stops_at_once = record { run = []; later = lines_of text; lines = refl; transcript = nothing_written }
+
+  -- no line is left
+  pub all_played : (rest : List ℕ) (number : ℕ) (network : State) (now : Option (List ℕ)) → Progress rest number network now → length rest ≡ 0 → IsPlayed centres first text network before now
+  all_played (byte ∷ rest) number network now p none = absurd (omega (arith, none))
+  all_played [] number network now p none =
+      let t = p.transcript in
+      let all : p.done ≡ lines_of text = sym (append-nil p.done) ∙ sym p.lines in
+      record {
+        transcript = record { runs = t.runs; read = subst (λ (l : List (List ℕ)). AreRead centres 1 l t.runs) all t.read; written = t.written };
+        stands = p.stands;
+        one_list = p.stands.sound.law;
+      }
+
+  module _ (rest line later : List ℕ) (number : ℕ) (old : State) (mid now : Option (List ℕ)) (p : Progress rest number old mid) (is : lines_of rest ≡ line ∷ lines_of later) where
+    -- the lines with the next one
+    longer : lines_of text ≡ (p.done ++ line ∷ []) ++ lines_of later
+    longer = p.lines ∙ ap (λ (l : List (List ℕ)). p.done ++ l) is ∙ sym (append_assoc p.done (line ∷ []) (lines_of later))
+
+    -- one line more was run
+    pub goes_on : (new : State) → HasRun centres (number + 1 == 1) line old new mid now → Progress later (number + 1) new now
+    goes_on new run =
+        let runs = p.transcript.runs in
+        let next : Command × Choice = (run.0, run.2.0) in
+        let step = run.2.2 (world_after_all first runs) p.stands in
+        record {
+          done = p.done ++ line ∷ [];
+          lines = longer;
+          count = omega (arith, length-append p.done (line ∷ []), p.count);
+          transcript = record {
+            runs = runs ++ next ∷ [];
+            read = read-push centres 1 (number + 1) p.done runs line next (omega (arith, p.count)) p.transcript.read run.1 run.2.1;
+            written = subst (λ (l : List ℕ). Appends before now l) (sym (answers-push first runs next)) (Appends-more before mid now (answers first runs) _ p.transcript.written step.1);
+          };
+          stands = subst (λ (w : World). StandsFor new w) (sym (world_after-push first runs next)) step.0;
+        }
+
+    -- the next line was not run
+    pub stops : (faults_before faults_mid faults_now : ℕ) (end : RunEnd) → faults_before ≤ faults_mid → IsLineEnd centres line (number + 1) old mid now faults_mid faults_now end
+        → IsRunEnd centres first text before now faults_before faults_now end
+    stops faults_before faults_mid faults_now (BadLine bad) counted end = record {
+      run = p.done;
+      bad = line;
+      later = lines_of later;
+      lines = p.lines ∙ ap (λ (l : List (List ℕ)). p.done ++ l) is;
+      place = omega (arith, p.count, end.0);
+      none = subst (λ (n : ℕ). HasNoForm centres (n == 1) line) (sym end.0) end.1;
+      transcript = subst (λ (k : Option (List ℕ)). IsTranscript centres first p.done before k) (sym end.2) p.transcript;
+    }
+    stops faults_before faults_mid faults_now (Unanswered answering.Fault) counted end =
+        let runs = p.transcript.runs in
+        let next : Command × Choice = (end.0, end.2.1.0) in
+        let step = end.2.1.2 (world_after_all first runs) p.stands in
+        let prefix = ap (take (length (answers first runs) + step.0)) (answers-push first runs next) ∙ take-append-add (answers first runs) _ step.0 in (
+          omega (arith, counted, end.2.0),
+          record {
+            run = p.done ++ line ∷ [];
+            later = lines_of later;
+            runs = runs ++ next ∷ [];
+            lines = longer;
+            read = read-push centres 1 (number + 1) p.done runs line next (omega (arith, p.count)) p.transcript.read end.1 end.2.1.1;
+            count = length (answers first runs) + step.0;
+            written = subst (λ (l : List ℕ). Appends before now l) (sym prefix) (Appends-more before mid now (answers first runs) _ p.transcript.written step.1);
+          },
+        )
+    stops faults_before faults_mid faults_now (Unanswered answering.Memory) counted end = record {
+      run = p.done;
+      later = line ∷ lines_of later;
+      lines = p.lines ∙ ap (λ (l : List (List ℕ)). p.done ++ l) is;
+      transcript = subst (λ (k : Option (List ℕ)). IsTranscript centres first p.done before k) (sym end.2) p.transcript;
+    }

@@ -1,0 +1,31 @@
+use Rattle.std.proofs.Common.{ℕ, ◌==◌, Bool, true, List, None, refl, sym, subst, inl, inr}
+use Rattle.pv_network.specs.declared.event.Event.{Event}
+use Rattle.pv_script.specs.declared.grammar.Command.TheVariants.{Nothing, Do}
+use Rattle.pv_script.proofs.CallerLemmas.{Appends-none}
+use Rattle.pv_script.specs.Grammar.{Asks, AsksAs, ReadsLine}
+use Rattle.pv_script.proofs.Happening.{can_happen}
+use Rattle.pv_script.proofs.playing.run_line.Goals as goal
+
+-- an event that a line reads as is one that it asks for
+asks_for : (centres : ℕ) (first : Bool) (line : List ℕ) (event : Event) → ReadsLine centres first line (Do event) → Asks centres line (Do event)
+asks_for centres first line event (inl nothing) = absurd cc
+asks_for centres first line event (inr asks) = asks.0
+
+-- its centre is one that there is
+pub run_event-requires : goal.run_event-requires
+run_event-requires g c =
+    let asks = asks_for _ (c.args.number == 1) _ c.in-Some-Do.event (rw c.in-Some-Do.field-0-is at c.in-Some-Do.ensures.found) in
+    can_happen c.args.network.now asks.2 asks.1 c.in-Some-Do.event
+    (subst (λ (centres : ℕ). AsksAs centres asks.2 asks.1 (Do c.in-Some-Do.event)) (sym c.requires.centres) asks.5)
+
+-- the line reads as nothing
+pub returns-in-None-clause-err : goal.returns-in-None-clause-err
+returns-in-None-clause-err g c = (refl, (λ command reads. let none = c.in-None.ensures.only command reads in absurd cc), refl)
+
+-- nothing is done, and nothing is open in it
+pub returns-in-Some-Nothing-clause-ok : goal.returns-in-Some-Nothing-clause-ok
+returns-in-Some-Nothing-clause-ok g c = (
+  Nothing,
+  rw c.in-Some-Nothing.field-0-is at c.in-Some-Nothing.ensures.found,
+  (record { kept = true; said = None }, tt, λ w stands. (stands, Appends-none (g.K.Sink.written c.args.out.now))),
+)

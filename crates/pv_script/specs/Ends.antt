@@ -1,0 +1,69 @@
+-- Why a part of a play ended before its end: reading the script, an answer, a line, all lines.
+use Rattle.std.specs.Prelude.{◌≡◌, ℕ, ◌+◌, ◌≤◌, ◌==◌, Bool, List, [], length, take, Option}
+use Rattle.std.specs.Io.KnownBytes.{Appends}
+use Rattle.pv_outside.specs.Counts.{Rose}
+use Rattle.pv_outside.specs.declared.status.Status.{Status}
+use Rattle.pv_outside.specs.declared.status.Status.TheVariants as statuses
+use Rattle.pv_network.specs.Standing.{State, StandsFor}
+use Rattle.pv_network.specs.World.{World}
+use Rattle.pv_network.specs.Step.{Choice}
+use Rattle.pv_script.specs.declared.ends.ReadEnd.{ReadEnd}
+use Rattle.pv_script.specs.declared.ends.ReadEnd.TheVariants as reads
+use Rattle.pv_script.specs.declared.ends.AnswerEnd.{AnswerEnd}
+use Rattle.pv_script.specs.declared.ends.AnswerEnd.TheVariants as answering
+use Rattle.pv_script.specs.declared.ends.RunEnd.{RunEnd}
+use Rattle.pv_script.specs.declared.ends.RunEnd.TheVariants.{BadLine, Unanswered}
+use Rattle.pv_script.specs.declared.grammar.Command.{Command}
+use Rattle.pv_script.specs.Grammar.{ReadsLine, HasNoForm, IsCommandChoice}
+use Rattle.pv_script.specs.Transcript.{answer_to, world_after}
+use Rattle.pv_script.specs.Play.{longest_script, StopsAtBadLine, StopsInAnswers, StopsAfterLine}
+
+-- the status of a play whose script was not read to its end
+abbrev pub read_status : ReadEnd → Status
+read_status reads.TooLong = statuses.TooLong
+read_status reads.Fault = statuses.ReadFault
+read_status reads.Memory = statuses.Memory
+
+-- the status of a play whose lines were not all run
+abbrev pub run_status : RunEnd → Status
+run_status (BadLine number) = statuses.BadLine number
+run_status (Unanswered answering.Fault) = statuses.WriteFault
+run_status (Unanswered answering.Memory) = statuses.Memory
+
+-- why a text was not read to its end
+abbrev pub IsReadEnd : List ℕ → ℕ → ℕ → ReadEnd → Type 0
+IsReadEnd text faults_before faults_now reads.TooLong = length text ≡ longest_script + 1
+IsReadEnd text faults_before faults_now reads.Fault = (length text ≤ longest_script) × Rose faults_before faults_now
+IsReadEnd text faults_before faults_now reads.Memory = text ≡ []
+
+-- a command was run: for each world that the network stood for it stands for the next, and the answer was written
+abbrev pub GivesAnswer : Command → State → State → Option (List ℕ) → Option (List ℕ) → Type 0
+GivesAnswer command old new before now = (choice : Choice) × IsCommandChoice command choice
+    × ((w : World) → StandsFor old w → StandsFor new (world_after w command choice) × Appends before now (answer_to w command choice))
+
+-- a command was begun: for each world that the network stood for a prefix of the answer was written
+abbrev pub HasBegun : Command → State → Option (List ℕ) → Option (List ℕ) → Type 0
+HasBegun command old before now = (choice : Choice) × IsCommandChoice command choice
+    × ((w : World) → StandsFor old w → (count : ℕ) × Appends before now (take count (answer_to w command choice)))
+
+-- why the answer to a command was not written
+abbrev pub IsAnswerEnd : Command → State → Option (List ℕ) → Option (List ℕ) → ℕ → ℕ → AnswerEnd → Type 0
+IsAnswerEnd command old before now faults_before faults_now answering.Fault = Rose faults_before faults_now × HasBegun command old before now
+IsAnswerEnd command old before now faults_before faults_now answering.Memory = now ≡ before
+
+-- a line was run: it reads as a command that was run
+abbrev pub HasRun : ℕ → Bool → List ℕ → State → State → Option (List ℕ) → Option (List ℕ) → Type 0
+HasRun centres first line old new before now = (command : Command) × ReadsLine centres first line command × GivesAnswer command old new before now
+
+-- why a line was not run
+abbrev pub IsLineEnd : ℕ → List ℕ → ℕ → State → Option (List ℕ) → Option (List ℕ) → ℕ → ℕ → RunEnd → Type 0
+IsLineEnd centres line number old before now faults_before faults_now (BadLine bad) = (bad ≡ number) × HasNoForm centres (number == 1) line × (now ≡ before)
+IsLineEnd centres line number old before now faults_before faults_now (Unanswered end) =
+    (command : Command) × ReadsLine centres (number == 1) line command × IsAnswerEnd command old before now faults_before faults_now end
+
+-- why a text's lines were not all run
+abbrev pub IsRunEnd : ℕ → World → List ℕ → Option (List ℕ) → Option (List ℕ) → ℕ → ℕ → RunEnd → Type 0
+IsRunEnd centres first text before now faults_before faults_now (BadLine number) = StopsAtBadLine centres first text number before now
+IsRunEnd centres first text before now faults_before faults_now (Unanswered answering.Fault) =
+    Rose faults_before faults_now × StopsInAnswers centres first text before now
+IsRunEnd centres first text before now faults_before faults_now (Unanswered answering.Memory) = StopsAfterLine centres first text before now

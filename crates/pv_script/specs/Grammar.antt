@@ -1,0 +1,62 @@
+-- The lines of the script, and what each of them asks for.
+use Rattle.std.specs.Prelude.{◌≡◌, ℕ, ◌+◌, ◌==◌, Bool, IsTrue, ◌⊎◌, List, [], ◌∷◌, Some}
+use Rattle.pv_words.specs.Numbers.{IsNumber, IsBelow}
+use Rattle.pv_words.specs.Parts.{IsPart, IsOne, AreTwo, Gives, GivesAlone}
+use Rattle.pv_words.specs.Split.{IsSplit}
+use Rattle.pv_network.specs.declared.event.Event.TheVariants as events
+use Rattle.pv_network.specs.declared.event.TheConstants.{EDITORS}
+use Rattle.pv_network.specs.Step.{Choice, IsChoice}
+use Rattle.pv_script.specs.declared.grammar.Command.{Command}
+use Rattle.pv_script.specs.declared.grammar.Command.TheVariants.{Nothing, Limits, Do}
+use Rattle.pv_script.specs.declared.grammar.TheConstants.{COMMENT}
+use Rattle.pv_script.specs.declared.word.Word.{Word}
+use Rattle.pv_script.specs.declared.word.Word.TheVariants as words
+use Rattle.pv_script.specs.Readers.{IsFrameText, IsRowText, IsLimitsText}
+use Rattle.pv_script.specs.Words.{word_of_text}
+
+-- a word and the tail after it ask for the command, in a play of this many centres: a row for each form
+abbrev pub AsksAs : ℕ → Word → List ℕ → Command → Type 0
+AsksAs centres words.Limits tail = Gives (IsOne IsLimitsText) (λ limits. Limits limits) tail
+AsksAs centres words.Seed tail = Gives (AreTwo IsFrameText IsRowText) (λ parts. Do (events.Seed parts.0 parts.1)) tail
+AsksAs centres words.Edit tail = Gives (AreTwo (IsBelow EDITORS) IsPart) (λ parts. Do (events.Edit parts.0 parts.1)) tail
+AsksAs centres words.Send tail = Gives (IsOne (IsBelow centres)) (λ centre. Do (events.Send centre)) tail
+AsksAs centres words.Deliver tail = Gives (AreTwo (IsBelow centres) IsNumber) (λ parts. Do (events.Deliver parts.0 parts.1)) tail
+AsksAs centres words.Back tail = Gives (AreTwo (IsBelow centres) IsNumber) (λ parts. Do (events.Back parts.0 parts.1)) tail
+AsksAs centres words.Carry tail = Gives (IsOne (IsBelow centres)) (λ centre. Do (events.Carry centre)) tail
+AsksAs centres words.View tail = Gives (AreTwo (IsBelow centres) IsFrameText) (λ parts. Do (events.View parts.0 parts.1)) tail
+AsksAs centres words.At tail = Gives (IsOne (IsBelow centres)) (λ centre. Do (events.At centre)) tail
+AsksAs centres words.List tail = GivesAlone (Do events.List) tail
+
+-- a line asks for the command, by its first word and its tail
+abbrev pub Asks : ℕ → List ℕ → Command → Type 0
+Asks centres line command = (first tail : List ℕ) × (word : Word) × IsSplit line first tail × (word_of_text first ≡ Some word) × AsksAs centres word tail command
+
+-- an empty line and a comment ask for nothing
+abbrev pub AsksNothing : List ℕ → Type 0
+AsksNothing line = (line ≡ []) ⊎ ((comment : List ℕ) × (line ≡ COMMENT ∷ comment))
+
+-- limits stand on the first line of a script alone
+abbrev pub MayStand : Bool → Command → Type 0
+MayStand first (Limits limits) = IsTrue first
+MayStand first _ = Unit {0}
+
+-- A line that asks for nothing reads as nothing, and any other as what its words ask for, if that may stand there.
+abbrev pub ReadsLine : ℕ → Bool → List ℕ → Command → Type 0
+ReadsLine centres first line command = (AsksNothing line × (command ≡ Nothing)) ⊎ (Asks centres line command × MayStand first command)
+
+-- the line is not a valid command
+abbrev pub HasNoForm : ℕ → Bool → List ℕ → Type 0
+HasNoForm centres first line = (command : Command) → ReadsLine centres first line command → ⊥
+
+-- what was open in a command: in that of an editor's line, what the line says
+abbrev pub IsCommandChoice : Command → Choice → Type 0
+IsCommandChoice (Do event) choice = IsChoice event choice
+IsCommandChoice _ choice = Unit {0}
+
+-- The lines, of which the first has this number, read as the commands that were run, one for each; beside a command stands
+-- what was open in it. A script's lines are counted from 1.
+abbrev pub AreRead : ℕ → ℕ → List (List ℕ) → List (Command × Choice) → Type 0
+AreRead centres number [] [] = Unit {0}
+AreRead centres number (line ∷ lines) (run ∷ runs) =
+    ReadsLine centres (number == 1) line run.0 × IsCommandChoice run.0 run.1 × AreRead centres (number + 1) lines runs
+AreRead centres number _ _ = ⊥

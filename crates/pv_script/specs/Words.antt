@@ -1,0 +1,24 @@
+-- The first words of lines.
+use Rattle.std.specs.Prelude.{ℕ, List, Bool, codes, nat_eq, Option, Some, None, if◌then◌else◌}
+use Rattle.std.specs.Cmp.Lexicographic.{pointwise}
+use Rattle.pv_script.specs.declared.word.Word.{Word}
+use Rattle.pv_script.specs.declared.word.Word.TheVariants as words
+
+-- the texts are the same
+abbrev pub is_text : List ℕ → List ℕ → Bool
+is_text a b = pointwise nat_eq a b
+
+-- the word that a text is
+abbrev pub word_of_text : List ℕ → Option Word
+word_of_text text =
+    if is_text text (codes "limits") then Some words.Limits else
+    if is_text text (codes "seed") then Some words.Seed else
+    if is_text text (codes "edit") then Some words.Edit else
+    if is_text text (codes "send") then Some words.Send else
+    if is_text text (codes "deliver") then Some words.Deliver else
+    if is_text text (codes "back") then Some words.Back else
+    if is_text text (codes "carry") then Some words.Carry else
+    if is_text text (codes "view") then Some words.View else
+    if is_text text (codes "at") then Some words.At else
+    if is_text text (codes "list") then Some words.List else
+    None

@@ -1,0 +1,120 @@
+ghost use Rattle.std.specs.Prelude.{◌≡◌, ◌++◌, OnOk, decimal};
+ghost use Rattle.pv_script.specs.Transcript.{answer_text, limits_text, ack_text, end_text, newline};
+
+use itoa::Buffer;
+use pv_cells::push_notation;
+use pv_network::{Outcome, Turn, Why};
+use pv_outside::Limits;
+use pv_screen::BUFFER;
+use std::alloc::AllocError;
+
+/// Appends the line or lines of an outcome.
+pub fn push_answer(text: &mut Vec<u8>, outcome: &Outcome) -> Result<(), AllocError>
+    ensures { OnOk result (text.new.items ≡ text.old.items ++ answer_text outcome.now) }
+{
+    match outcome {
+        Outcome::Reply(reply) => {
+            text.extend_from_slice(reply.bytes())?;
+            push_words(text, b"\n")
+        }
+        Outcome::Shown(turn) => push_turn(text, turn),
+        Outcome::Idle => push_words(text, b"idle\n"),
+        Outcome::PacketsFull => push_words(text, b"packets full\n"),
+        Outcome::NoPacket => push_words(text, b"no packet\n"),
+        Outcome::SentRecord { index, number } => {
+            push_number(text, b"sent ", *index)?;
+            push_number(text, b" record ", *number)?;
+            push_words(text, b"\n")
+        }
+        Outcome::Taken { number, ack } => push_arrival(text, b"taken ", *number, *ack),
+        Outcome::Old { number, ack } => push_arrival(text, b"old ", *number, *ack),
+        Outcome::Early { number, ack } => push_arrival(text, b"early ", *number, *ack),
+        Outcome::Heard { number } => push_line(text, b"heard ", *number),
+        Outcome::Full { count } => push_line(text, b"full ", *count),
+        Outcome::Carried { records, items } => {
+            push_number(text, b"carried ", *records)?;
+            push_number(text, b" ", *items)?;
+            push_words(text, b"\n")
+        }
+        Outcome::NotHeld => push_words(text, b"-\n"),
+        Outcome::Applied { count } => push_line(text, b"applied ", *count),
+        Outcome::Records { count } => push_line(text, b"records ", *count),
+    }
+}
+
+/// Appends the line that answers limits.
+pub fn push_limits(text: &mut Vec<u8>, limits: Limits) -> Result<(), AllocError>
+    ensures { OnOk result (text.new.items ≡ text.old.items ++ limits_text limits) }
+{
+    push_number(text, b"limits ", limits.frames as u64)?;
+    push_number(text, b" ", limits.records as u64)?;
+    push_words(text, b"\n")
+}
+
+/// Appends words.
+fn push_words(text: &mut Vec<u8>, words: &[u8]) -> Result<(), AllocError>
+    ensures { OnOk result (text.new.items ≡ text.old.items ++ words.now) }
+{
+    text.extend_from_slice(words)
+}
+
+/// Appends words and then a number in decimal.
+fn push_number(text: &mut Vec<u8>, words: &[u8], number: u64) -> Result<(), AllocError>
+    ensures { OnOk result (text.new.items ≡ text.old.items ++ (words.now ++ decimal number)) }
+{
+    text.extend_from_slice(words)?;
+    text.extend_from_slice(Buffer::new().format(number).as_bytes())
+}
+
+/// Appends a line of words and then a number in decimal.
+fn push_line(text: &mut Vec<u8>, words: &[u8], number: u64) -> Result<(), AllocError>
+    ensures { OnOk result (text.new.items ≡ text.old.items ++ (words.now ++ decimal number ++ newline)) }
+{
+    push_number(text, words, number)?;
+    push_words(text, b"\n")
+}
+
+/// Appends what happened to a record that arrived, and its acknowledgement.
+fn push_arrival(
+    text: &mut Vec<u8>,
+    words: &[u8],
+    number: u64,
+    ack: Option<u64>,
+) -> Result<(), AllocError>
+    ensures { OnOk result (text.new.items
+        ≡ text.old.items ++ (words.now ++ decimal number ++ ack_text ack ++ newline)) }
+{
+    push_number(text, words, number)?;
+    match ack {
+        Some(index) => push_number(text, b" ack ", index)?,
+        None => push_words(text, b" ack -")?,
+    }
+    push_words(text, b"\n")
+}
+
+/// Appends a screen, and the end of the call if it ended. Its buffer is large, so that it stays apart from the answers that
+/// need none.
+#[inline(never)]
+fn push_turn(text: &mut Vec<u8>, turn: &Turn) -> Result<(), AllocError>
+    ensures { OnOk result (text.new.items ≡ text.old.items ++ answer_text (Outcome.Shown turn.now)) }
+{
+    let mut bytes = [0; BUFFER];
+    let count = turn.screen.bytes(&mut bytes);
+    push_words(text, b"screen ")?;
+    push_notation(&bytes[..count], text)?;
+    push_words(text, b"\n")?;
+    push_end(text, turn.ended)
+}
+
+/// Appends why a call ended, if it did.
+fn push_end(text: &mut Vec<u8>, ended: Option<Why>) -> Result<(), AllocError>
+    ensures { OnOk result (text.new.items ≡ text.old.items ++ end_text ended) }
+{
+    match ended {
+        None => Ok(()),
+        Some(Why::Finished) => push_words(text, b"ended finished\n"),
+        Some(Why::Refused) => push_words(text, b"ended refused\n"),
+        Some(Why::Spent) => push_words(text, b"ended spent\n"),
+        Some(Why::Full) => push_words(text, b"ended full\n"),
+    }
+}

@@ -1,0 +1,106 @@
+ghost use Rattle.std.specs.Prelude.{◌≡◌, ◌↔◌, Some, IfSome, IsTrue};
+ghost use Rattle.pv_words.specs.Parts.{Exactly};
+ghost use Rattle.pv_script.specs.Grammar.{Asks, AsksAs, MayStand, ReadsLine};
+
+use crate::readers::{FrameText, LimitsText, RowText};
+use crate::word::{Word, word_of};
+use pv_network::{EDITORS, Event};
+use pv_outside::Limits;
+use pv_words::{AllOf, Below, Number, none_as, one_as, split_word, two_as};
+
+/// The byte that begins a comment.
+pub const COMMENT: u8 = b';';
+
+/// What a line of a script asks for.
+#[derive(Debug, Drop)]
+pub enum Command<'a> {
+    /// Nothing: the line is empty or a comment.
+    Nothing,
+    /// That the play begins with these limits.
+    Limits(Limits),
+    /// That an event happens.
+    Do(Event<'a>),
+}
+
+impl<'a> Command<'a> {
+    /// Whether it may stand on the first line of a script, or on another line.
+    fn may_stand(&self, first: bool) -> bool
+        ensures { IsTrue result ↔ MayStand first self.now }
+    {
+        match self {
+            Command::Limits(_) => first,
+            Command::Nothing | Command::Do(_) => true,
+        }
+    }
+}
+
+/// What a line asks for in a play of this many centres, if it is the first of its script or if it is not. `None`
+/// exactly when it is not a valid command there.
+pub fn parse(line: &[u8], first: bool, centres: u8) -> Option<Command<'_>>
+    ensures found { IfSome result (ReadsLine centres first line.now) }
+    ensures only { (command : Command) → ReadsLine centres first line.now command → result ≡ Some command }
+{
+    if line.is_empty() || line[0] == COMMENT {
+        return Some(Command::Nothing);
+    }
+    let command = command_of(line, centres)?;
+    if command.may_stand(first) {
+        Some(command)
+    } else {
+        None
+    }
+}
+
+/// What the words of a line ask for. `None` exactly when they ask for nothing.
+fn command_of(line: &[u8], centres: u8) -> Option<Command<'_>>
+    ensures found { IfSome result (Asks centres line.now) }
+    ensures only { (command : Command) → Asks centres line.now command → result ≡ Some command }
+{
+    let (first, tail) = split_word(line);
+    let word = word_of(first)?;
+    asked_command(word, tail, centres)
+}
+
+/// What a word and the tail after it ask for. `None` exactly when they ask for nothing.
+fn asked_command(word: Word, tail: &[u8], centres: u8) -> Option<Command<'_>>
+    ensures { Exactly (AsksAs centres word tail.now) result }
+{
+    let centre = Below(centres);
+    match word {
+        Word::Limits => one_as(&LimitsText, tail, |limits| Command::Limits(limits)),
+        Word::Seed => two_as(
+            &FrameText,
+            &RowText,
+            tail,
+            |(name, row)| Command::Do(Event::Seed { name, row }),
+        ),
+        Word::Edit => two_as(
+            &Below(EDITORS),
+            &AllOf,
+            tail,
+            |(port, line)| Command::Do(Event::Edit { port, line }),
+        ),
+        Word::Send => one_as(&centre, tail, |centre| Command::Do(Event::Send { centre })),
+        Word::Deliver => two_as(
+            &centre,
+            &Number,
+            tail,
+            |(centre, index)| Command::Do(Event::Deliver { centre, index }),
+        ),
+        Word::Back => two_as(
+            &centre,
+            &Number,
+            tail,
+            |(centre, index)| Command::Do(Event::Back { centre, index }),
+        ),
+        Word::Carry => one_as(&centre, tail, |centre| Command::Do(Event::Carry { centre })),
+        Word::View => two_as(
+            &centre,
+            &FrameText,
+            tail,
+            |(centre, name)| Command::Do(Event::View { centre, name }),
+        ),
+        Word::At => one_as(&centre, tail, |centre| Command::Do(Event::At { centre })),
+        Word::List => none_as(tail, Command::Do(Event::List)),
+    }
+}

@@ -1,0 +1,29 @@
+//! The script of a play, its transcript, and the play that turns the one into the other.
+//!
+//! A script is a text of lines. [`parse`] reads a line as a [`Command`]: nothing, limits for the play, or an event of
+//! the network. [`play`] takes the words of the command line, a source and a sink: it reads a whole script, lets its
+//! events happen to a new network, and writes an answer to each. Sources and sinks are handed in, so that nothing
+//! here touches the outside.
+//!
+//! ```text
+//! seed 1a HELLO      ->  OK 0
+//! send 0             ->  sent 0 record 0
+//! deliver 0 0        ->  taken 0 ack 0
+//! view 0 1a          ->  screen \0c ..
+//! ```
+//!
+//! The lines are defined in `specs/Grammar.antt`, a row for each, the answers in `specs/Transcript.antt`, and how a play
+//! may end in `specs/Play.antt`.
+#![tactic(auto)]
+
+mod answer;
+mod ends;
+mod grammar;
+mod playing;
+mod readers;
+mod script;
+mod word;
+
+pub use grammar::{Command, parse};
+pub use playing::{FRAMES, Played, RECORDS, play};
+pub use script::LONGEST_SCRIPT;

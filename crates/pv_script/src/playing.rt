@@ -1,0 +1,265 @@
+ghost use Rattle.std.specs.Prelude.{◌≡◌, ℕ, ◌+◌, ◌<◌, ◌≤◌, ◌==◌, ◌↔◌, List, [], ◌∷◌, map, length, Some, None, IfOk, IfErr, IfSome, OnOk, IsSome, string_bytes};
+ghost use Rattle.pv_outside.specs.Counts.{Rose};
+ghost use Rattle.pv_network.specs.declared.event.TheConstants.{MAX_CENTRES};
+ghost use Rattle.pv_network.specs.Standing.{StandsFor, IsPossible};
+ghost use Rattle.pv_script.specs.declared.grammar.Command.TheVariants.{Do};
+ghost use Rattle.pv_script.specs.declared.grammar.Command.TheVariants as commands;
+ghost use Rattle.pv_script.specs.Ends.{GivesAnswer, HasRun, IsAnswerEnd, IsLineEnd, IsRunEnd};
+ghost use Rattle.pv_script.specs.Play.{AskToPlay, AskNoPlay, HasRead, IsPlayOf, IsPlayed, IsNotRun, first_world};
+
+use crate::answer::{push_answer, push_limits};
+use crate::ends::{AnswerEnd, RunEnd};
+use crate::grammar::{Command, parse};
+use crate::script::{LONGEST_SCRIPT, read_script};
+use pv_network::{Event, MAX_CENTRES, Network};
+use pv_outside::{Limits, Sink, Source, Status};
+use pv_words::{first_line, number_of};
+use std::alloc::Global;
+
+/// How many frames a node of a play may have, unless its script says otherwise.
+pub const FRAMES: u32 = 2_000;
+
+/// How many records a node of a play may have, unless its script says otherwise.
+pub const RECORDS: u32 = 10_000;
+
+/// How a play ended, and the network after it, which is there exactly when all was done.
+#[derive(Debug, Drop)]
+pub struct Played {
+    /// How it ended.
+    pub status: Status,
+    /// The network after all lines.
+    pub network: Option<Network>,
+}
+
+/// Reads a whole script, runs it on a network of as many centres as the words ask for, on which nothing
+/// has happened, and writes the transcript.
+pub fn play<S: Source, K: Sink>(
+    alloc: Global,
+    words: &[String],
+    script: &mut S,
+    out: &mut K,
+) -> Played
+    // If the words ask for a play, what was read is a text, and what was made of it is the play of that text.
+    ensures plays { (centres : ℕ) → AskToPlay (map string_bytes words.now) centres → (text : List ℕ)
+        × HasRead (S.taken script.old) (S.taken script.new) (S.left script.old) (S.left script.new) text
+        × IsPlayOf centres (first_world centres) text result.network (S.left script.old) (S.ended script.new) (K.written out.old) (K.written out.new) result.status }
+
+    // The words are refused exactly when they ask for no play, and then nothing is read.
+    ensures usage { (result.status ≡ Status.Usage) ↔ AskNoPlay (map string_bytes words.now) }
+    ensures unread { result.status ≡ Status.Usage → script.new ≡ script.old }
+
+    // Nothing is run, and nothing written, if the words, the reading or the length is at fault.
+    ensures not_run { IsNotRun result.status → out.new ≡ out.old }
+
+    // A fault of the outside comes only if its count rose.
+    ensures read_fault { result.status ≡ Status.ReadFault
+        → Rose (S.read_faults script.old) (S.read_faults script.new) }
+    ensures write_fault { result.status ≡ Status.WriteFault
+        → Rose (K.write_faults out.old) (K.write_faults out.new) }
+    ensures counted { (S.read_faults script.old ≤ S.read_faults script.new)
+        × (K.write_faults out.old ≤ K.write_faults out.new) }
+
+    // The network is there exactly when all was done.
+    ensures network { IsSome result.network ↔ (result.status ≡ Status.Done) }
+{
+    let Some(centres) = centres_asked(words) else {
+        return ended(Status::Usage);
+    };
+    let text = match read_script(alloc, script) {
+        Ok(text) => text,
+        Err(end) => return ended(end.status()),
+    };
+    match run(alloc, centres, &text, out) {
+        Ok(network) => Played {
+            status: Status::Done,
+            network: Some(network),
+        },
+        Err(end) => ended(end.status()),
+    }
+}
+
+/// A play that ended without a network.
+fn ended(status: Status) -> Played
+    ensures status { result.status ≡ status }
+    ensures network { result.network ≡ None }
+{
+    Played {
+        status,
+        network: None,
+    }
+}
+
+/// How many centres the words ask for a play of. `None` exactly when they ask for no play.
+fn centres_asked(words: &[String]) -> Option<u8>
+    ensures found { IfSome result (AskToPlay (map string_bytes words.now)) }
+    ensures only { (centres : ℕ) → AskToPlay (map string_bytes words.now) centres → result ≡ Some centres }
+{
+    match words {
+        [first, second] => centres_of(first.as_bytes(), second.as_bytes()),
+        _ => None,
+    }
+}
+
+/// How many centres these two words ask for a play of. `None` exactly when they ask for no play.
+fn centres_of(first: &[u8], second: &[u8]) -> Option<u8>
+    ensures found { IfSome result (AskToPlay (first.now ∷ second.now ∷ [])) }
+    ensures only { (centres : ℕ) → AskToPlay (first.now ∷ second.now ∷ []) centres → result ≡ Some centres }
+{
+    if first != b"play".as_slice() {
+        return None;
+    }
+    match number_of(second) {
+        Some(centres) if 1 <= centres && centres <= MAX_CENTRES as u64 => Some(centres as u8),
+        _ => None,
+    }
+}
+
+/// Runs a script's text on a new network.
+fn run<K: Sink>(alloc: Global, centres: u8, text: &[u8], out: &mut K) -> Result<Network, RunEnd>
+    requires short { length text.now ≤ LONGEST_SCRIPT }
+    requires some { 1 ≤ centres }
+    requires few { centres ≤ MAX_CENTRES }
+    ensures ok { IfOk result (λ network. IsPlayed centres (first_world centres) text.now network (K.written out.old)
+        (K.written out.new)) }
+    ensures err { IfErr result (IsRunEnd centres (first_world centres) text.now
+        (K.written out.old) (K.written out.new) (K.write_faults out.old) (K.write_faults out.new)) }
+    ensures counted { K.write_faults out.old ≤ K.write_faults out.new }
+{
+    let limits = Limits {
+        frames: FRAMES,
+        records: RECORDS,
+    };
+    let Ok(mut network) = Network::open(alloc, centres, limits) else {
+        return Err(RunEnd::Unanswered(AnswerEnd::Memory));
+    };
+    run_lines(alloc, centres, text, &mut network, out)?;
+    Ok(network)
+}
+
+/// Runs the lines of a text, one after another.
+fn run_lines<K: Sink>(
+    alloc: Global,
+    centres: u8,
+    text: &[u8],
+    network: &mut Network,
+    out: &mut K,
+) -> Result<(), RunEnd>
+    requires short { length text.now ≤ LONGEST_SCRIPT }
+    requires centres { length network.old.centres ≡ centres }
+    requires some { 1 ≤ centres }
+    requires few { centres ≤ MAX_CENTRES }
+    requires new { StandsFor network.old (first_world centres) }
+    ensures ok { OnOk result (IsPlayed centres (first_world centres) text.now network.new (K.written out.old)
+        (K.written out.new)) }
+    ensures err { IfErr result (IsRunEnd centres (first_world centres) text.now
+        (K.written out.old) (K.written out.new) (K.write_faults out.old) (K.write_faults out.new)) }
+    ensures counted { K.write_faults out.old ≤ K.write_faults out.new }
+{
+    let mut answer = Vec::new(alloc);
+    let mut rest = text;
+    let mut number = 0;
+    while !rest.is_empty() {
+        let (line, later) = first_line(rest);
+        number += 1;
+        run_line(alloc, centres, line, number, network, &mut answer, out)?;
+        rest = later;
+    }
+    Ok(())
+}
+
+/// Runs one line, of this number, in a play of this many centres.
+fn run_line<K: Sink>(
+    alloc: Global,
+    centres: u8,
+    line: &[u8],
+    number: u32,
+    network: &mut Network,
+    answer: &mut Vec<u8>,
+    out: &mut K,
+) -> Result<(), RunEnd>
+    requires centres { length network.old.centres ≡ centres }
+    requires some { 1 ≤ centres }
+    requires few { centres ≤ MAX_CENTRES }
+    ensures ok { OnOk result (HasRun centres (number == 1) line.now network.old network.new (K.written out.old)
+        (K.written out.new)) }
+    ensures err { IfErr result (IsLineEnd centres line.now number network.old
+        (K.written out.old) (K.written out.new) (K.write_faults out.old) (K.write_faults out.new)) }
+    ensures counted { K.write_faults out.old ≤ K.write_faults out.new }
+    ensures centres { length network.new.centres ≡ length network.old.centres }
+{
+    match parse(line, number == 1, centres) {
+        None => Err(RunEnd::BadLine { line: number }),
+        Some(Command::Nothing) => Ok(()),
+        Some(Command::Limits(limits)) => {
+            match begin_again(alloc, centres, limits, network, answer, out) {
+                Ok(()) => Ok(()),
+                Err(end) => Err(RunEnd::Unanswered(end)),
+            }
+        }
+        Some(Command::Do(event)) => match run_event(&event, network, answer, out) {
+            Ok(()) => Ok(()),
+            Err(end) => Err(RunEnd::Unanswered(end)),
+        },
+    }
+}
+
+/// Begins the play again with these limits, and writes the answer. Nothing has happened yet.
+fn begin_again<K: Sink>(
+    alloc: Global,
+    centres: u8,
+    limits: Limits,
+    network: &mut Network,
+    answer: &mut Vec<u8>,
+    out: &mut K,
+) -> Result<(), AnswerEnd>
+    requires centres { length network.old.centres ≡ centres }
+    requires some { 1 ≤ centres }
+    requires few { centres ≤ MAX_CENTRES }
+    ensures ok { OnOk result (GivesAnswer (commands.Limits limits) network.old network.new (K.written out.old)
+        (K.written out.new)) }
+    ensures err { IfErr result (IsAnswerEnd (commands.Limits limits) network.old
+        (K.written out.old) (K.written out.new) (K.write_faults out.old) (K.write_faults out.new)) }
+    ensures counted { K.write_faults out.old ≤ K.write_faults out.new }
+    ensures centres { length network.new.centres ≡ length network.old.centres }
+{
+    let Ok(fresh) = Network::open(alloc, centres, limits) else {
+        return Err(AnswerEnd::Memory);
+    };
+    *network = fresh;
+    answer.clear();
+    if push_limits(answer, limits).is_err() {
+        return Err(AnswerEnd::Memory);
+    }
+    if out.write_all(answer).is_err() {
+        return Err(AnswerEnd::Fault);
+    }
+    Ok(())
+}
+
+/// Lets an event happen, and writes the answer by one write.
+fn run_event<K: Sink>(
+    event: &Event,
+    network: &mut Network,
+    answer: &mut Vec<u8>,
+    out: &mut K,
+) -> Result<(), AnswerEnd>
+    requires { IsPossible network.old event.now }
+    ensures ok { OnOk result (GivesAnswer (Do event.now) network.old network.new (K.written out.old)
+        (K.written out.new)) }
+    ensures err { IfErr result (IsAnswerEnd (Do event.now) network.old
+        (K.written out.old) (K.written out.new) (K.write_faults out.old) (K.write_faults out.new)) }
+    ensures counted { K.write_faults out.old ≤ K.write_faults out.new }
+    ensures centres { length network.new.centres ≡ length network.old.centres }
+{
+    let Ok(outcome) = network.step(event) else {
+        return Err(AnswerEnd::Memory);
+    };
+    answer.clear();
+    if push_answer(answer, &outcome).is_err() {
+        return Err(AnswerEnd::Memory);
+    }
+    if out.write_all(answer).is_err() {
+        return Err(AnswerEnd::Fault);
+    }
+    Ok(())
+}

@@ -1,0 +1,67 @@
+ghost use Rattle.std.specs.Prelude.{◌≡◌, Some, IfSome};
+ghost use Rattle.pv_words.specs.Parts.{Exactly};
+ghost use Rattle.pv_outside.specs.declared.limits.Limits.{Limits};
+ghost use Rattle.pv_script.specs.Readers.{IsFrameText, IsRowText, IsLimitsText, AreOf};
+
+use pv_cells::{ROW_LENGTH, row_of};
+use pv_outside::{Limits, MAX_FRAMES, MAX_RECORDS};
+use pv_page::FrameName;
+use pv_words::{Number, Reader, number_of, one, split_word};
+
+/// The part of a line that is the name of a frame.
+#[derive(Clone, Copy, Debug)]
+pub struct FrameText;
+
+impl<'a> Reader<'a> for FrameText {
+    type Value = FrameName;
+
+    ghost Writes = { λ _. IsFrameText };
+
+    fn read(&self, text: &'a [u8]) -> Option<FrameName> {
+        FrameName::of_text(text)
+    }
+}
+
+/// The part of a line that is a row in notation.
+#[derive(Clone, Copy, Debug)]
+pub struct RowText;
+
+impl<'a> Reader<'a> for RowText {
+    type Value = [u8; ROW_LENGTH];
+
+    ghost Writes = { λ _. IsRowText };
+
+    fn read(&self, text: &'a [u8]) -> Option<[u8; ROW_LENGTH]> {
+        row_of(text).ok()
+    }
+}
+
+/// The part of a line that is the limits of a node: how many frames it may have, a space, and how many records.
+#[derive(Clone, Copy, Debug)]
+pub struct LimitsText;
+
+impl<'a> Reader<'a> for LimitsText {
+    type Value = Limits;
+
+    ghost Writes = { λ _. IsLimitsText };
+
+    fn read(&self, text: &'a [u8]) -> Option<Limits> {
+        let (word, later) = split_word(text);
+        let frames = number_of(word)?;
+        let records = one(&Number, later)?;
+        limits_of(frames, records)
+    }
+}
+
+/// The limits of these numbers. `None` exactly when they are out of the range of limits.
+fn limits_of(frames: u64, records: u64) -> Option<Limits>
+    ensures { Exactly (AreOf frames records) result }
+{
+    if frames < 1 || frames > MAX_FRAMES as u64 || records < 1 || records > MAX_RECORDS as u64 {
+        return None;
+    }
+    Some(Limits {
+        frames: frames as u32,
+        records: records as u32,
+    })
+}

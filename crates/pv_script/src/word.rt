@@ -1,0 +1,56 @@
+ghost use Rattle.std.specs.Prelude.{◌≡◌};
+ghost use Rattle.pv_script.specs.Words.{word_of_text};
+
+/// The first word of a line.
+#[derive(Clone, Copy, Debug, PartialEq, Eq)]
+pub enum Word {
+    /// `limits FRAMES RECORDS`
+    Limits,
+    /// `seed NAME TEXT`
+    Seed,
+    /// `edit E LINE`
+    Edit,
+    /// `send C`
+    Send,
+    /// `deliver C K`
+    Deliver,
+    /// `back C K`
+    Back,
+    /// `carry C`
+    Carry,
+    /// `view C NAME`
+    View,
+    /// `at C`
+    At,
+    /// `list`
+    List,
+}
+
+/// The word that a text is. `None` exactly when it is none of them.
+pub fn word_of(text: &[u8]) -> Option<Word>
+    ensures { result ≡ word_of_text text.now }
+{
+    if text == b"limits".as_slice() {
+        Some(Word::Limits)
+    } else if text == b"seed".as_slice() {
+        Some(Word::Seed)
+    } else if text == b"edit".as_slice() {
+        Some(Word::Edit)
+    } else if text == b"send".as_slice() {
+        Some(Word::Send)
+    } else if text == b"deliver".as_slice() {
+        Some(Word::Deliver)
+    } else if text == b"back".as_slice() {
+        Some(Word::Back)
+    } else if text == b"carry".as_slice() {
+        Some(Word::Carry)
+    } else if text == b"view".as_slice() {
+        Some(Word::View)
+    } else if text == b"at".as_slice() {
+        Some(Word::At)
+    } else if text == b"list".as_slice() {
+        Some(Word::List)
+    } else {
+        None
+    }
+}
