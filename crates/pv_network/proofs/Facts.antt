@@ -18,10 +18,10 @@ use Rattle.pv_network.specs.Verdict.{verdict_by}
 use Rattle.pv_network.specs.World.{start}
 use Rattle.pv_network.specs.declared.verdict.TheConstants.{FULL}
 
--- The next record is taken, one that was taken is old, one after the next is early. At the limit the next one finds the centre
--- full, and an old one is old there too.
-pub arrivals : (arrival_of 3 10 3 ≡ Taken) × (arrival_of 3 10 2 ≡ Old) × (arrival_of 3 10 4 ≡ Early) × (arrival_of 10 10 10 ≡ Full) ×
-    (arrival_of 10 10 9 ≡ Old)
+-- The next record is taken, one that was taken is old, one after the next is early. At the limit, of which the log-ons are a part,
+-- the next one finds the centre full, and an old one is old there too.
+pub arrivals : (arrival_of 3 9 10 3 ≡ Taken) × (arrival_of 3 9 10 2 ≡ Old) × (arrival_of 3 9 10 4 ≡ Early)
+    × (arrival_of 3 10 10 3 ≡ Full) × (arrival_of 3 10 10 2 ≡ Old)
 arrivals = (refl, refl, refl, refl, refl)
 
 -- An end sends in turn, begins again after the last record with the first that is not acknowledged, and sends nothing if all

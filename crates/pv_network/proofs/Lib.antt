@@ -1,9 +1,14 @@
+pub mod Calling
 pub mod Carried
 pub mod Carrying
 pub mod Counts
 pub mod Facts
+pub mod KeptSerials
+pub mod KeyTurns
+pub mod Keying
 pub mod Lists
 pub mod Packets
 pub mod Performing
+pub mod SoundCalls
 pub mod Soundness
 pub mod Standing

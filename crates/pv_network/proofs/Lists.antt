@@ -17,6 +17,12 @@ set_at P (y ∷ xs) zero x d all here (suc k) = all (suc k)
 set_at P (y ∷ xs) (suc i) x d all here zero = all zero
 set_at P (y ∷ xs) (suc i) x d all here (suc k) = set_at (λ n. P (suc n)) xs i x d (λ n. all (suc n)) here k
 
+-- an element that replaces another takes its place
+pub set_again : {X : Type 0} (xs : List X) (i : ℕ) (x y : X) → set (set xs i x) i y ≡ set xs i y
+set_again [] i x y = refl
+set_again (z ∷ xs) zero x y = refl
+set_again (z ∷ xs) (suc i) x y = ap (λ (l : List _). z ∷ l) (set_again xs i x y)
+
 -- the same of two lists, where both have another in that place
 pub zip_set : {X Y : Type 0} (R : X → Y → Type 0) (xs : List X) (ys : List Y) (i : ℕ) (x : X) (y : Y) → AllZip R xs ys → R x y
     → AllZip R (set xs i x) (set ys i y)

@@ -17,7 +17,7 @@ use Rattle.pv_network.specs.declared.outcome.Outcome.{Outcome}
 use Rattle.pv_udc.specs.declared.request.UdcRequest.TheVariants.{Edit}
 use Rattle.pv_editor.specs.Replies.{reply_of}
 use Rattle.pv_editor.specs.declared.replies.UdcReplyView.{UdcReplyView}
-use Rattle.pv_network.specs.Centre.{CentreStands, Held, arrival_of, with_next}
+use Rattle.pv_network.specs.Centre.{CentreStands, Held, arrival_of, with_next, record_count, held_count}
 use Rattle.pv_network.specs.Link.{Link, link_in, is_packets_full, number_to_send, with_packet, with_acknowledgement, heard_link}
 use Rattle.pv_network.specs.Sound.{IsGenuine}
 use Rattle.pv_network.specs.Standing.{State, StandsFor}
@@ -27,7 +27,7 @@ use Rattle.pv_network.specs.Verdict.{verdict_of, list_after}
 use Rattle.pv_network.specs.World.{World, seat_at, link_at, centre_at}
 use Rattle.pv_network.proofs.Lists.{all_get}
 use Rattle.pv_network.proofs.Soundness.{sound_request, sound_packet, sound_count, sound_heard, sound_applied, taken_is_next}
-use Rattle.pv_network.proofs.Standing.{request_stands, seat_replaced, centre_count, centre_takes, centre_has_room, centre_stands, centre_replaced, link_replaced}
+use Rattle.pv_network.proofs.Standing.{request_stands, seat_replaced, centre_count, centre_takes, centre_has_room, held_there, centre_stands, centre_replaced, link_replaced}
 
 -- an editor's request is judged
 pub asks : (s : State) (w : World) → StandsFor s w → (editor q : ℕ) (wish : EditWish) (here : EditList) (told : UdcReplyView)
@@ -116,14 +116,14 @@ module _ (s : State) (w : World) (stands : StandsFor s w) (c : ℕ) where
         )
 
     module _ (index : ℕ) (packet : Packet) (found : slice_get (link_in s.links c).down index ≡ Some packet) (arrival : Arrival)
-        (how : arrival_of (length here.records) here.limits.records packet.number ≡ arrival) where
+        (how : arrival_of (length here.records) (held_count here) here.limits.records packet.number ≡ arrival) where
       -- the packet is the world's
       found_there : slice_get (link_at w c).down index ≡ Some packet
       found_there = rw stands.links at found
 
       -- what the centre makes of it is what the world's does
-      how_there : arrival_of (centre_at w c).applied w.update.limits.records packet.number ≡ arrival
-      how_there = rw (count_there, stood.limits) at how
+      how_there : arrival_of (centre_at w c).applied (record_count (centre_at w c)) w.update.limits.records packet.number ≡ arrival
+      how_there = rw (held_there w.update here (centre_at w c) stood, count_there, stood.limits) at how
 
       -- what is delivered is that packet
       pub delivers : step_of_deliver w c index ≡ step_of_arrival w c packet.number arrival
@@ -136,7 +136,7 @@ module _ (s : State) (w : World) (stands : StandsFor s w) (c : ℕ) where
 
         -- that is the one that comes next
         next : packet.number ≡ (centre_at w c).applied
-        next = taken_is_next (centre_at w c).applied w.update.limits.records packet.number (how_there ∙ is)
+        next = taken_is_next (centre_at w c).applied (record_count (centre_at w c)) w.update.limits.records packet.number (how_there ∙ is)
 
         -- the list has it there
         next_there : slice_get w.update.records (centre_at w c).applied ≡ Some packet.edit

@@ -16,6 +16,7 @@ use Rattle.pv_edits.specs.declared.wish.EditWish.{EditWish}
 use Rattle.pv_edits.specs.declared.wish.EditWish.TheVariants.{Put}
 use Rattle.pv_edits.specs.declared.room.TheConstants.{OPERATOR}
 use Rattle.pv_edits.specs.Edits.{is_edit_of, number_in}
+use Rattle.pv_fields.specs.Reading.{◌>>=◌}
 use Rattle.pv_node.specs.declared.decision.Decision.{Decision}
 use Rattle.pv_node.specs.declared.decision.Decision.TheVariants.{Answer, Store}
 use Rattle.pv_udc.specs.Judgement.{next_number, judge}
@@ -34,20 +35,28 @@ use Rattle.pv_network.specs.declared.centre.Arrival.TheVariants as arrivals
 use Rattle.pv_network.specs.declared.event.Event.{Event}
 use Rattle.pv_network.specs.declared.event.Event.TheVariants as events
 use Rattle.pv_network.specs.declared.outcome.Outcome.{Outcome}
+use Rattle.pv_network.specs.declared.outcome.Turn.{Turn}
 use Rattle.pv_network.specs.declared.packet.Packet.{Packet}
 use Rattle.pv_network.specs.declared.round.Round.{Round}
 use Rattle.pv_network.specs.declared.round.Round.TheVariants as rounds
 use Rattle.pv_network.specs.declared.verdict.TheConstants.{FULL}
-use Rattle.pv_network.specs.Centre.{Centre, new_centre, arrival_of}
+use Rattle.pv_network.specs.declared.event.TheConstants.{PORTS}
+use Rattle.pv_network.specs.Call.{Call, serial_of}
+use Rattle.pv_session.specs.declared.entry.Entry.{Entry}
+use Rattle.pv_network.specs.Calling.{calls_at, call_at, view_at, with_calls, step_of_press, step_of_store, step_of_show}
+use Rattle.pv_network.specs.Keying.{Keyed, first_entry, is_owes, is_stored, step_of_payment, step_of_key, screens_in, is_over, keys_from, keys_refusal, step_of_taken_keys}
+use Rattle.pv_network.specs.Calls.{Calls, no_calls}
+use Rattle.pv_network.specs.Centre.{Centre, new_centre, record_count, arrival_of}
 use Rattle.pv_network.specs.Link.{End, Link, new_link, is_packets_full, number_to_send, with_packet, with_acknowledgement, with_heard, heard_link}
 use Rattle.pv_network.specs.OneList.{IsNextOfEditor, HasNumbersInOrder, StandsAt, HasOnePlaceEach, MatchesReceipt}
 use Rattle.pv_network.specs.Run.{EachFollows, MayFollow}
-use Rattle.pv_network.specs.Sound.{IsGenuine, IsSoundLink, IsSound}
+use Rattle.pv_network.specs.Sound.{IsGenuine, serial_in, IsSoundLink, IsSoundCalls, IsSound}
 use Rattle.pv_network.specs.Step.{Choice, with_verdict, step_of_request, seeded_frame, step_of_line, step_of_said, step_of_edit, happens, after}
 use Rattle.pv_network.specs.Traffic.{packet_room, with_ack_back, round_of_send, round_of_number, step_of_round, after_round, carry_rounds, step_of_packing, step_of_number, step_of_send, step_of_acknowledging, with_next_at, step_of_arrival, step_of_packet, step_of_deliver, step_of_heard, step_of_back}
 use Rattle.pv_network.specs.Verdict.{view_of, verdict_by}
 use Rattle.pv_network.specs.World.{World, Receipt, start, with_seat, centre_at, link_at, with_centre, with_link, with_edit, with_receipt}
 use Rattle.pv_network.proofs.Counts.{count_by-grows, frame_count-none, frames_within}
+use Rattle.pv_network.proofs.SoundCalls.{dial_sound, hang_sound, press_sound, store_sound, show_sound}
 use Rattle.pv_network.proofs.Lists.{set_at, all_get, get_prefix, get_push, get_last}
 
 -- what holds of the world on each side of a test holds of the one that it chooses
@@ -69,8 +78,8 @@ sound_new edits = record {
 module _ (w : World) (c : ℕ) (sound : IsSound w) where
   -- another centre in the place of one, which has applied a prefix and has a sound link
   sound_with_centre : (centre : Centre) → centre.applied ≤ length w.update.records → IsSoundLink w.update.records centre (link_at w c)
-      → IsSound (with_centre w c centre)
-  sound_with_centre centre within here = record {
+      → IsSoundCalls centre.calls → IsSound (with_centre w c centre)
+  sound_with_centre centre within here calls = record {
     law = record {
       run = sound.law.run;
       one_place = sound.law.one_place;
@@ -82,7 +91,17 @@ module _ (w : World) (c : ℕ) (sound : IsSound w) where
     records = sound.records;
     frames = sound.frames;
     links = set_at (λ k centre. IsSoundLink w.update.records centre (link_at w k)) w.centres c centre new_centre sound.links here;
+    calls = set_at (λ k centre. IsSoundCalls centre.calls) w.centres c centre new_centre sound.calls calls;
   }
+
+  -- other sound calls at a centre
+  pub sound_with_calls : (calls : Calls) → IsSoundCalls calls → IsSound (with_calls w c calls)
+  sound_with_calls calls here =
+      sound_with_centre (record (centre_at w c) { calls = calls }) (sound.law.prefixes c) (record {
+        packets = (sound.links c).packets;
+        acknowledged = (sound.links c).acknowledged;
+        heard = (sound.links c).heard;
+      }) here
 
   -- another sound link in the place of one
   sound_with_link : (link : Link) → IsSoundLink w.update.records (centre_at w c) link → IsSound (with_link w c link)
@@ -92,6 +111,7 @@ module _ (w : World) (c : ℕ) (sound : IsSound w) where
     records = sound.records;
     frames = sound.frames;
     links = set_at (λ k link. IsSoundLink w.update.records (centre_at w k) link) w.links c link new_link sound.links here;
+    calls = sound.calls;
   }
 
 -- ---- an edit that is stored
@@ -202,6 +222,7 @@ sound_stored w edit sound follows =
       records = omega (arith, follows.record_room, length-append edits (edit ∷ []));
       frames = frames_within limits edits edit sound.frames room;
       links = λ c. link_longer edits (edit ∷ []) (centre_at w c) (link_at w c) (sound.links c);
+      calls = sound.calls;
     }
 
 -- a sound world stays sound with the receipt of an edit that stands at its place
@@ -219,6 +240,7 @@ sound_receipt w editor q place sound stands = record {
   records = sound.records;
   frames = sound.frames;
   links = sound.links;
+  calls = sound.calls;
 }
 
 -- ---- an editor's request
@@ -263,7 +285,7 @@ module _ (w : World) (editor q : ℕ) (wish : EditWish) (sound : IsSound w) wher
 
 -- a sound world stays sound with another seat
 pub sound_seat : (w : World) (port : ℕ) (seat : EditorSeat) → IsSound w → IsSound (with_seat w port seat)
-sound_seat w port seat sound = record { law = sound.law; next = sound.next; records = sound.records; frames = sound.frames; links = sound.links }
+sound_seat w port seat sound = record { law = sound.law; next = sound.next; records = sound.records; frames = sound.frames; links = sound.links; calls = sound.calls }
 
 -- a sound world stays sound whatever an editor says
 sound_edit : (w : World) (port : ℕ) (said : Option EditLine) → IsSound w → IsSound (step_of_edit w port said).0
@@ -329,21 +351,21 @@ sound_applied w c packet sound is next =
       packets = here.packets;
       acknowledged = λ k d within. let le = here.acknowledged k d within in omega (arith, le);
       heard = omega (arith, here.heard);
-    })
+    }) (sound.calls c)
 
 -- what is taken is the next one
-pub taken_is_next : (applied limit number : ℕ) → arrival_of applied limit number ≡ arrivals.Taken → number ≡ applied
-taken_is_next applied limit number is = grind (arith, nat_tests)
+pub taken_is_next : (applied count limit number : ℕ) → arrival_of applied count limit number ≡ arrivals.Taken → number ≡ applied
+taken_is_next applied count limit number is = grind (arith, nat_tests)
 
 -- a sound world stays sound whatever packet arrives
 pub sound_deliver : (w : World) (c index : ℕ) → IsSound w → IsSound (step_of_deliver w c index).0
 sound_deliver w c index sound = arrives (slice_get (link_at w c).down index) refl
   where
     by : (packet : Packet) (arrival : Arrival) → IsGenuine w.update.records packet
-        → arrival_of (centre_at w c).applied w.update.limits.records packet.number ≡ arrival
+        → arrival_of (centre_at w c).applied (record_count (centre_at w c)) w.update.limits.records packet.number ≡ arrival
         → IsSound (step_of_arrival w c packet.number arrival).0
     by packet arrivals.Taken is how = sound_acknowledged (with_next_at w c) c
-        (sound_applied w c packet sound is (taken_is_next (centre_at w c).applied w.update.limits.records packet.number how))
+        (sound_applied w c packet sound is (taken_is_next (centre_at w c).applied (record_count (centre_at w c)) w.update.limits.records packet.number how))
     by packet arrivals.Old is how = sound_acknowledged w c sound
     by packet arrivals.Early is how = sound_acknowledged w c sound
     by packet arrivals.Full is how = sound
@@ -420,6 +442,49 @@ sound_rounds (suc more) c w taken sound =
     sound_after_round (carry_rounds more c) (sound_rounds more c) (step_of_round w c).0 taken (step_of_round w c).1
     (sound_round w c sound)
 
+-- ---- keys
+
+sound_press : (w : World) (c port key : ℕ) (entry : Option Entry) → IsSound w → IsSound (step_of_press w c port key entry).0
+sound_press w c port key entry sound =
+    sound_with_calls w c sound _ (press_sound (calls_at w c) port (sound.calls c) key (view_at w c port) entry (call_at w c port) refl)
+
+sound_store : (w : World) (c port : ℕ) → IsSound w → IsSound (step_of_store w c port).0
+sound_store w c port sound = sound_with_calls w c sound _ (store_sound (calls_at w c) port (sound.calls c) _ _ (call_at w c port))
+
+sound_show : (w : World) (c port : ℕ) → IsSound w → IsSound (step_of_show w c port).0
+sound_show w c port sound = sound_with_calls w c sound _ (show_sound (calls_at w c) port (sound.calls c) (call_at w c port) refl)
+
+-- a sound world stays sound with a key and the payment of what it owes
+sound_key : (w : World) (c port : ℕ) (key : Keyed) → IsSound w → IsSound (step_of_key w c port key).0
+sound_key w c port key sound = choice IsSound (is_owes (step_of_press w c port key.byte key.entry).1) _ _ (λ _. paid) (λ _. pressed)
+  where
+    pressed : IsSound (step_of_press w c port key.byte key.entry).0
+    pressed = sound_press w c port key.byte key.entry sound
+
+    stored : IsSound (step_of_store (step_of_press w c port key.byte key.entry).0 c port).0
+    stored = sound_store (step_of_press w c port key.byte key.entry).0 c port pressed
+
+    paid : IsSound (step_of_payment (step_of_press w c port key.byte key.entry).0 c port).0
+    paid = choice IsSound (is_stored (step_of_store (step_of_press w c port key.byte key.entry).0 c port).1) _ _
+        (λ _. sound_show (step_of_store (step_of_press w c port key.byte key.entry).0 c port).0 c port stored) (λ _. stored)
+
+-- a sound world stays sound however many keys there are
+sound_keys_from : (w : World) (c port : ℕ) (keys : List Keyed) → IsSound w → IsSound (keys_from w c port keys).0
+sound_keys_from w c port [] sound = sound
+sound_keys_from w c port (key ∷ keys) sound =
+    by (is_over (step_of_key w c port key).1) (sound_keys_from (step_of_key w c port key).0 c port keys (sound_key w c port key sound))
+  where
+    by : (over : Bool) → IsSound (keys_from (step_of_key w c port key).0 c port keys).0
+        → IsSound (cond {A = World × List Turn} over ((step_of_key w c port key).0, screens_in (step_of_key w c port key).1)
+        ((keys_from (step_of_key w c port key).0 c port keys).0, screens_in (step_of_key w c port key).1 ++ (keys_from (step_of_key w c port key).0 c port keys).1)).0
+    by true rest = sound_key w c port key sound
+    by false rest = rest
+
+sound_keys : (w : World) (c port : ℕ) (keys : List Keyed) (refusal : Option Outcome) → IsSound w
+    → IsSound (step_of_taken_keys w c port keys refusal).0
+sound_keys w c port keys (Some refusal) sound = sound
+sound_keys w c port keys None sound = sound_keys_from w c port keys sound
+
 -- ---- all
 
 -- a sound world stays sound whatever event happens, whatever is open in it
@@ -427,6 +492,15 @@ sound_happens : (w : World) (event : Event) (choice : Choice) → IsSound w → 
 sound_happens w (events.Seed name row) choice sound =
     sound_request w OPERATOR (next_number w.update.records OPERATOR) (Put name (seeded_frame row)) sound
 sound_happens w (events.Edit port line) choice sound = sound_edit w port choice.said sound
+sound_happens w (events.Dial centre port) choice sound =
+    sound_with_calls w centre sound _ (dial_sound (calls_at w centre) port (sound.calls centre) (call_at w centre port))
+sound_happens w (events.Press centre port key) choice sound = sound_press w centre port key (first_entry choice.keyed) sound
+sound_happens w (events.Keys centre port keys) choice sound =
+    sound_keys w centre port choice.keyed (keys_refusal (call_at w centre port)) sound
+sound_happens w (events.Store centre port) choice sound = sound_store w centre port sound
+sound_happens w (events.Show centre port) choice sound = sound_show w centre port sound
+sound_happens w (events.Hang centre port) choice sound =
+    sound_with_calls w centre sound _ (hang_sound (calls_at w centre) port (sound.calls centre) (call_at w centre port))
 sound_happens w (events.Send centre) choice sound = sound_send w centre sound
 sound_happens w (events.Deliver centre index) choice sound = sound_deliver w centre index sound
 sound_happens w (events.Back centre index) choice sound = sound_back w centre index sound
@@ -446,6 +520,18 @@ copy_at x zero c = refl
 copy_at x (suc n) zero = refl
 copy_at x (suc n) (suc c) = copy_at x n c
 
+-- nobody has called yet
+sound_no_calls : IsSoundCalls no_calls
+sound_no_calls = record {
+  ports = refl;
+  below = λ port serial is. absurd (no_serial port serial is);
+  differ = λ port other serial is there. absurd (no_serial port serial is);
+  owed = λ port. rw (copy_at {X = Option Call} None PORTS port) tt;
+}
+  where
+    no_serial : (port serial : ℕ) → serial_in no_calls port ≡ Some serial → ⊥
+    no_serial port serial is = let none = ap (λ (call : Option Call). call >>= serial_of) (copy_at {X = Option Call} None PORTS port) in absurd cc
+
 -- the start is sound
 pub sound_start : (centres : ℕ) (limits : Limits) → IsSound (start centres limits)
 sound_start centres limits = record {
@@ -460,4 +546,5 @@ sound_start centres limits = record {
   records = omega arith;
   frames = omega (arith, frame_count-none);
   links = λ c. rw (copy_at new_centre centres c, copy_at new_link centres c) (sound_new []);
+  calls = λ c. rw (copy_at new_centre centres c) sound_no_calls;
 }

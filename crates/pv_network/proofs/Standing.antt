@@ -10,7 +10,8 @@ use Rattle.pv_udc.specs.EditList.{EditList, with_record}
 use Rattle.pv_udc.proofs.CallerLemmas.{has_room-judged}
 use Rattle.pv_editor.specs.declared.replies.UdcReplyView.{UdcReplyView}
 use Rattle.pv_editor.specs.declared.replies.UdcReplyView.TheVariants.{Stored, Refused}
-use Rattle.pv_network.specs.Centre.{Centre, CentreStands, Held, new_centre, with_next}
+use Rattle.pv_network.specs.Calls.{Calls}
+use Rattle.pv_network.specs.Centre.{Centre, CentreStands, Held, new_centre, with_next, record_count, held_count}
 use Rattle.pv_network.specs.Link.{Link}
 use Rattle.pv_network.specs.Run.{IsRun}
 use Rattle.pv_editor.specs.declared.seat.EditorSeat.{EditorSeat}
@@ -34,7 +35,12 @@ module _ (u : EditList) (here : Held) (centre : Centre) (stands : CentreStands u
     within = omega (arith, stands.within, length-append u.records (edit ∷ []));
     prefix = stands.prefix ∙ sym (take-append-le centre.applied u.records (edit ∷ []) stands.within);
     limits = stands.limits;
+    calls = stands.calls;
   }
+
+  -- it has as many records in all
+  pub held_there : held_count here ≡ record_count centre
+  held_there = omega (arith, centre_count, ap (λ (calls : Calls). calls.log_ons) stands.calls)
 
   module _ (edit : Record) (next : slice_get u.records centre.applied ≡ Some edit) where
     -- with the list's next record it stands for the longer prefix
@@ -48,6 +54,7 @@ module _ (u : EditList) (here : Held) (centre : Centre) (stands : CentreStands u
           within = omega (arith, below);
           prefix = ap (λ (l : List Record). l ++ edit ∷ []) stands.prefix ∙ sym more;
           limits = stands.limits;
+          calls = stands.calls;
         }
 
     -- if the list is a run, it has room for that record

@@ -1,4 +1,8 @@
+pub mod Call
+pub mod Calling
+pub mod Calls
 pub mod Centre
+pub mod Keying
 pub mod Link
 pub mod OneList
 pub mod Run

@@ -1,14 +1,22 @@
 -- Which worlds a network stands for, part by part.
-use Rattle.std.specs.Prelude.{◌≡◌, ◌<◌, Bool, List, length}
+use Rattle.std.specs.Prelude.{◌≡◌, ℕ, ◌<◌, Bool, true, false, List, ◌++◌, length, Option}
 use Rattle.std.specs.List.{AllZip}
 use Rattle.pv_network.specs.declared.event.Event.{Event}
 use Rattle.pv_network.specs.declared.event.Event.TheVariants as events
 use Rattle.pv_udc.specs.EditList.{EditList}
 use Rattle.pv_editor.specs.declared.seat.EditorSeat.{EditorSeat}
-use Rattle.pv_network.specs.declared.event.TheConstants.{EDITORS}
+use Rattle.pv_network.specs.declared.event.TheConstants.{EDITORS, PORTS}
+use Rattle.pv_session.specs.declared.entry.Entry.{Entry}
+use Rattle.pv_network.specs.Calling.{call_at, step_of_press}
+use Rattle.pv_network.specs.Calls.{IsEntryOf}
 use Rattle.pv_network.specs.Centre.{Held, CentreStands}
+use Rattle.pv_network.specs.Keying.{Keyed, bytes_of, step_of_key, keys_from, AreKeyed, step_of_keys, AreKeyedAt}
 use Rattle.pv_network.specs.Link.{Link}
 use Rattle.pv_network.specs.Sound.{IsSound}
+use Rattle.pv_cells.specs.Notation.{ReadsAs}
+use Rattle.pv_network.specs.declared.outcome.Outcome.{Outcome}
+use Rattle.pv_network.specs.declared.outcome.Turn.{Turn}
+use Rattle.pv_network.specs.Step.{Choice, IsChoice, happens}
 use Rattle.pv_network.specs.World.{World}
 
 -- what is seen of a network: its parts, and whether it once was out of memory
@@ -35,10 +43,58 @@ IsStanding s = (w : World) × StandsFor s w
 abbrev pub Performs : {A : Type 0} → State → State → A → (World → World × A) → Type 0
 Performs old new outcome step = (w : World) → StandsFor old w → StandsFor new (step w).0 × (outcome ≡ (step w).1)
 
+-- the same of a key at a port, with the entry that it makes in that world
+abbrev pub Presses : State → State → Outcome → ℕ → ℕ → ℕ → Type 0
+Presses old new outcome c port key = (w : World) → StandsFor old w
+    → (entry : Option Entry) × IsEntryOf (call_at w c port) key entry
+    × StandsFor new (step_of_press w c port key entry).0 × (outcome ≡ (step_of_press w c port key entry).1)
+
+-- the same of one key, with the store and the show of what it owes
+abbrev pub PaysKey : State → State → Outcome → ℕ → ℕ → ℕ → Type 0
+PaysKey old new outcome c port byte = (w : World) → StandsFor old w
+    → (entry : Option Entry) × IsEntryOf (call_at w c port) byte entry
+    × StandsFor new (step_of_key w c port (record { byte = byte; entry = entry })).0
+    × (outcome ≡ (step_of_key w c port (record { byte = byte; entry = entry })).1)
+
+-- the same of all keys of a notation, and the screens that they add
+abbrev pub TakesKeys : State → State → List Turn → List Turn → ℕ → ℕ → List ℕ → Type 0
+TakesKeys old new before after c port text = (w : World) → StandsFor old w
+    → (keyed : List Keyed) × ReadsAs text (bytes_of keyed) × AreKeyed w c port keyed
+    × StandsFor new (keys_from w c port keyed).0 × (after ≡ before ++ (keys_from w c port keyed).1)
+
+-- the same of keys at a port
+abbrev pub AnswersKeys : State → State → Outcome → ℕ → ℕ → List ℕ → Type 0
+AnswersKeys old new outcome c port text = (w : World) → StandsFor old w
+    → (keyed : List Keyed) × ReadsAs text (bytes_of keyed) × AreKeyedAt w c port keyed
+    × StandsFor new (step_of_keys w c port keyed).0 × (outcome ≡ (step_of_keys w c port keyed).1)
+
+-- the text is the notation of at least one byte
+pub record IsNotation (text : List ℕ) : Type 0 where
+  pub bytes : List ℕ
+  pub some : 0 < length bytes
+  pub reads : ReadsAs text bytes
+
+-- no other event takes memory
+abbrev pub takes_memory : Event → Bool
+takes_memory (events.Keys centre port keys) = true
+takes_memory _ = false
+
+-- What an event leaves open is chosen in the world in which it happens: whatever world the network stood for, there is such a
+-- choice, it stands afterwards for the next world by it, and what it answers is that answer.
+abbrev pub LetsHappen : Event → State → State → Outcome → Type 0
+LetsHappen event old new outcome = (w : World) → StandsFor old w
+    → (choice : Choice) × IsChoice w event choice × StandsFor new (happens w event choice).0 × (outcome ≡ (happens w event choice).1)
+
 -- an event at a centre or at a port is at one that there is
 abbrev pub IsPossible : State → Event → Type 0
 IsPossible s (events.Seed name row) = Unit {0}
 IsPossible s (events.Edit port line) = port < EDITORS
+IsPossible s (events.Dial centre port) = (centre < length s.centres) × (port < PORTS)
+IsPossible s (events.Press centre port key) = (centre < length s.centres) × (port < PORTS)
+IsPossible s (events.Store centre port) = (centre < length s.centres) × (port < PORTS)
+IsPossible s (events.Show centre port) = (centre < length s.centres) × (port < PORTS)
+IsPossible s (events.Keys centre port keys) = (centre < length s.centres) × (port < PORTS) × IsNotation keys
+IsPossible s (events.Hang centre port) = (centre < length s.centres) × (port < PORTS)
 IsPossible s (events.Send centre) = centre < length s.centres
 IsPossible s (events.Deliver centre index) = centre < length s.centres
 IsPossible s (events.Back centre index) = centre < length s.centres

@@ -19,10 +19,14 @@ use Rattle.pv_editor.specs.Say.{new_seat, turn_of}
 use Rattle.pv_editor.specs.declared.line.EditLine.{EditLine}
 use Rattle.pv_editor.specs.declared.step.EditStep.{EditStep}
 use Rattle.pv_editor.specs.declared.step.EditStep.TheVariants as steps
+use Rattle.pv_cells.specs.Notation.{ReadsAs}
 use Rattle.pv_network.specs.declared.event.Event.{Event}
 use Rattle.pv_network.specs.declared.event.Event.TheVariants as events
 use Rattle.pv_network.specs.declared.outcome.Outcome.{Outcome}
 use Rattle.pv_network.specs.declared.outcome.Outcome.TheVariants as outcomes
+use Rattle.pv_network.specs.Calling.{call_at, step_of_dial, step_of_press, step_of_store, step_of_show, step_of_hang}
+use Rattle.pv_network.specs.Calls.{IsEntryOf}
+use Rattle.pv_network.specs.Keying.{Keyed, bytes_of, first_entry, step_of_keys, AreKeyedAt}
 use Rattle.pv_network.specs.Traffic.{step_of_send, step_of_deliver, step_of_back, step_of_carry}
 use Rattle.pv_network.specs.Verdict.{Verdict, verdict_of, reply_found}
 use Rattle.pv_network.specs.World.{World, seat_at, with_seat, centre_at, with_edit, with_receipt, page_base}
@@ -87,21 +91,31 @@ step_of_list w = (w, outcomes.Records (length w.update.records))
 
 -- ---- all
 
--- What the definitions leave open in an event: whether a stop within a write kept the record that was being written, and what
--- an editor's line says. No event stops a node yet, so that none depends on the first.
+-- What the definitions leave open in an event: whether a stop within a write kept the record that was being written, what an
+-- editor's line says, and what a caller's keys say. No event stops a node yet, so that none depends on the first.
 pub record Choice : Type 0 where
   pub kept : Bool
   pub said : Option EditLine
+  pub keyed : List Keyed
 
--- what a line says is read from it, and is nothing if it is none of an editor's lines
-abbrev pub IsChoice : Event → Choice → Type 0
-IsChoice (events.Edit port line) choice = Exactly (IsLine line) choice.said
-IsChoice _ choice = Unit {0}
+-- What a line says is read from it, and is nothing if it is none of an editor's lines. What a key says is read from those that
+-- the caller has keyed in this world.
+abbrev pub IsChoice : World → Event → Choice → Type 0
+IsChoice w (events.Edit port line) choice = Exactly (IsLine line) choice.said
+IsChoice w (events.Press centre port key) choice = IsEntryOf (call_at w centre port) key (first_entry choice.keyed)
+IsChoice w (events.Keys centre port keys) choice = ReadsAs keys (bytes_of choice.keyed) × AreKeyedAt w centre port choice.keyed
+IsChoice w _ choice = Unit {0}
 
 -- the world after an event, and the answer
 abbrev pub happens : World → Event → Choice → World × Outcome
 happens w (events.Seed name row) choice = step_of_seeding w name row
 happens w (events.Edit port line) choice = step_of_edit w port choice.said
+happens w (events.Dial centre port) choice = step_of_dial w centre port
+happens w (events.Press centre port key) choice = step_of_press w centre port key (first_entry choice.keyed)
+happens w (events.Keys centre port keys) choice = step_of_keys w centre port choice.keyed
+happens w (events.Store centre port) choice = step_of_store w centre port
+happens w (events.Show centre port) choice = step_of_show w centre port
+happens w (events.Hang centre port) choice = step_of_hang w centre port
 happens w (events.Send centre) choice = step_of_send w centre
 happens w (events.Deliver centre index) choice = step_of_deliver w centre index
 happens w (events.Back centre index) choice = step_of_back w centre index

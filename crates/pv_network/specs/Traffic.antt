@@ -9,7 +9,7 @@ use Rattle.pv_network.specs.declared.packet.Packet.{Packet}
 use Rattle.pv_network.specs.declared.packet.TheConstants.{MAX_PACKETS}
 use Rattle.pv_network.specs.declared.round.Round.{Round}
 use Rattle.pv_network.specs.declared.round.Round.TheVariants as rounds
-use Rattle.pv_network.specs.Centre.{with_next, arrival_of}
+use Rattle.pv_network.specs.Centre.{with_next, record_count, arrival_of}
 use Rattle.pv_network.specs.Link.{Link, is_packets_full, packet_count, number_to_send, with_packet, with_acknowledgement, heard_link}
 use Rattle.pv_network.specs.World.{World, centre_at, link_at, with_centre, with_link}
 
@@ -52,13 +52,13 @@ abbrev pub step_of_arrival : World → ℕ → ℕ → Arrival → World × Outc
 step_of_arrival w c number arrivals.Taken = let a = step_of_acknowledging (with_next_at w c) c in (a.0, outcomes.Taken number a.1)
 step_of_arrival w c number arrivals.Old = let a = step_of_acknowledging w c in (a.0, outcomes.Old number a.1)
 step_of_arrival w c number arrivals.Early = let a = step_of_acknowledging w c in (a.0, outcomes.Early number a.1)
-step_of_arrival w c number arrivals.Full = (w, outcomes.Full (centre_at w c).applied)
+step_of_arrival w c number arrivals.Full = (w, outcomes.Full (record_count (centre_at w c)))
 
 -- a packet that was made arrives
 abbrev pub step_of_packet : World → ℕ → Option Packet → World × Outcome
 step_of_packet w c None = (w, outcomes.NoPacket)
 step_of_packet w c (Some packet) = step_of_arrival w c packet.number
-    (arrival_of (centre_at w c).applied w.update.limits.records packet.number)
+    (arrival_of (centre_at w c).applied (record_count (centre_at w c)) w.update.limits.records packet.number)
 
 -- the packet of an index arrives at a centre
 abbrev pub step_of_deliver : World → ℕ → ℕ → World × Outcome

@@ -1,10 +1,16 @@
-ghost use Rattle.std.specs.Prelude.{◌≡◌, ◌<◌, ◌≤◌, List, [], ◌∷◌, ◌++◌, length, option_copied, replicate, IfOk, IfSome, IsTrue};
+ghost use Rattle.std.specs.Prelude.{◌≡◌, ◌<◌, ◌≤◌, nat_le, List, [], ◌∷◌, ◌++◌, length, option_copied, replicate, IfOk, IfSome, IsTrue};
 ghost use Rattle.pv_frame.specs.Errors.{IsValid};
 ghost use Rattle.pv_edits.specs.Edits.{frame_at};
 ghost use Rattle.pv_edits.specs.Room.{has_room};
-ghost use Rattle.pv_network.specs.Centre.{nothing_held, arrival_of};
+ghost use Rattle.pv_network.specs.declared.event.TheConstants.{PORTS};
+ghost use Rattle.pv_network.specs.Calls.{call_in, dial_at, hang_at, store_at, show_at};
+ghost use Rattle.pv_network.specs.Keying.{keys_refusal};
+ghost use Rattle.pv_network.specs.Centre.{nothing_held, held_count, arrival_of, Comes, Pressed};
 
-use pv_edits::{Base, Record};
+use crate::calls::Calls;
+use crate::event::PORTS;
+use crate::outcome::Outcome;
+use pv_edits::{Base, Record, Sight};
 use pv_frame::Frame;
 use pv_outside::Limits;
 use pv_page::FrameName;
@@ -24,22 +30,23 @@ pub enum Arrival {
     Full,
 }
 
-/// A retrieval centre: the base of the records that it has applied.
+/// A retrieval centre: the base of the records that it has applied, and its calls.
 #[derive(Debug, Drop)]
 pub struct Centre {
     base: Base,
+    calls: Calls,
 }
 
 impl Model for Centre {
-    ghost use Rattle.std.specs.Prelude.{◌≤◌, length};
+    ghost use Rattle.std.specs.Prelude.{◌≤◌, ◌+◌, length};
     ghost use Rattle.pv_edits.specs.Standing.{records_of, limits_of};
     ghost use Rattle.pv_network.specs.Centre.{Held};
 
     ghost Value = { Held };
 
-    ghost view = { λ c. record { records = records_of c.base; limits = limits_of c.base } };
+    ghost view = { λ c. record { records = records_of c.base; limits = limits_of c.base; calls = c.calls } };
 
-    ghost invariant = { λ c. length (records_of c.base) ≤ (limits_of c.base).records };
+    ghost invariant = { λ c. length (records_of c.base) + c.calls.log_ons ≤ (limits_of c.base).records };
 }
 
 impl Centre {
@@ -49,15 +56,31 @@ impl Centre {
     {
         Ok(Centre {
             base: Base::open(alloc, limits)?,
+            calls: Calls::open(alloc)?,
         })
     }
 
     /// How many records it has applied.
-    pub(crate) fn count(&self) -> u64
+    pub(crate) fn applied(&self) -> u64
         ensures value { result ≡ length self.now.records }
         ensures within { length self.now.records ≤ self.now.limits.records }
     {
         self.base.count()
+    }
+
+    /// How many records it has: those that it has applied, and its log-ons.
+    pub(crate) fn count(&self) -> u64
+        ensures value { result ≡ held_count self.now }
+        ensures within { held_count self.now ≤ self.now.limits.records }
+    {
+        self.base.count() + self.calls.log_ons()
+    }
+
+    /// Whether it has as many records as it may.
+    pub(crate) fn is_full(&self) -> bool
+        ensures { result ≡ nat_le self.now.limits.records (held_count self.now) }
+    {
+        self.base.limits().records as u64 <= self.count()
     }
 
     /// The frame that a name has in the records that the centre has applied.
@@ -70,16 +93,16 @@ impl Centre {
 
     /// What the centre does with the record of a number.
     pub(crate) fn arrival(&self, number: u64) -> Arrival
-        ensures { result ≡ arrival_of (length self.now.records) self.now.limits.records number }
+        ensures { result ≡ arrival_of (length self.now.records) (held_count self.now) self.now.limits.records number }
     {
-        let count = self.base.count();
-        if number == count {
-            if self.base.limits().records as u64 <= count {
+        let applied = self.base.count();
+        if number == applied {
+            if self.is_full() {
                 Arrival::Full
             } else {
                 Arrival::Taken
             }
-        } else if number < count {
+        } else if number < applied {
             Arrival::Old
         } else {
             Arrival::Early
@@ -88,12 +111,64 @@ impl Centre {
 
     /// Takes a record, which is the next one. There is room for it.
     pub(crate) fn take(&mut self, edit: &Record)
-        requires fits { length self.old.records < self.old.limits.records }
+        requires fits { held_count self.old < self.old.limits.records }
         requires room { IsTrue (has_room self.old.limits self.old.records edit.now) }
         ensures { self.new ≡ record self.old { records = self.old.records ++ edit.now ∷ [] } }
     {
         let place = self.base.count();
         self.base.absorb(edit, place);
+    }
+
+    /// Begins a call at a port.
+    pub(crate) fn dial(&mut self, port: usize) -> Outcome
+        requires { port < PORTS }
+        ensures { Comes self.old self.new result (dial_at self.old.calls port (call_in self.old.calls port)) }
+    {
+        self.calls.dial(port)
+    }
+
+    /// Why no key is taken at a port. `None` if keys are taken there.
+    pub(crate) fn refusal(&self, port: usize) -> Option<Outcome>
+        requires { port < PORTS }
+        ensures { result ≡ keys_refusal (call_in self.now.calls port) }
+    {
+        self.calls.refusal(port)
+    }
+
+    /// Takes a key at a port. The centre has this number.
+    pub(crate) fn press(&mut self, number: u8, port: usize, key: u8) -> Outcome
+        requires { port < PORTS }
+        ensures { Pressed self.old self.new number port key result }
+    {
+        let account = self.calls.account(port);
+        self.calls
+            .press(port, key, &Sight::new(&self.base, number, account))
+    }
+
+    /// Stores what the call at a port owes, unless the centre is full.
+    pub(crate) fn store(&mut self, port: usize) -> Outcome
+        requires { port < PORTS }
+        ensures { Comes self.old self.new result
+            (store_at (nat_le self.old.limits.records (held_count self.old)) (held_count self.old) self.old.calls port (call_in self.old.calls port)) }
+    {
+        let (is_full, count) = (self.is_full(), self.count());
+        self.calls.store(port, is_full, count)
+    }
+
+    /// Shows the caller at a port what his call was stored for.
+    pub(crate) fn show(&mut self, port: usize) -> Outcome
+        requires { port < PORTS }
+        ensures { Comes self.old self.new result (show_at self.old.calls port (call_in self.old.calls port)) }
+    {
+        self.calls.show(port)
+    }
+
+    /// Ends the call at a port.
+    pub(crate) fn hang(&mut self, port: usize) -> Outcome
+        requires { port < PORTS }
+        ensures { Comes self.old self.new result (hang_at self.old.calls port (call_in self.old.calls port)) }
+    {
+        self.calls.hang(port)
     }
 }
 

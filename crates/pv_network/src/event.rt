@@ -7,25 +7,83 @@ pub const EDITORS: u8 = 4;
 /// How many retrieval centres a network has at most.
 pub const MAX_CENTRES: u8 = 4;
 
-/// What can happen to a network. Centres, ports and packets are counted from 0. An event borrows the line of an editor.
+/// How many callers' ports a centre has.
+pub const PORTS: u8 = 16;
+
+/// What can happen to a network. Centres, ports and packets are counted from 0. An event borrows the line
+/// of an editor and the keys of a caller.
 #[derive(Debug, Drop)]
 pub enum Event<'a> {
     /// The operator's next number puts a frame that is blank but for row 2 under a name.
-    Seed { name: FrameName, row: [u8; 40] },
+    Seed {
+        name: FrameName,
+        row: [u8; 40],
+    },
     /// A line of an editor arrives at his port.
-    Edit { port: u8, line: Part<'a> },
+    Edit {
+        port: u8,
+        line: Part<'a>,
+    },
+    /// Somebody calls a centre at a port.
+    Dial {
+        centre: u8,
+        port: u8,
+    },
+    /// The caller at a port keys this byte.
+    Press {
+        centre: u8,
+        port: u8,
+        key: u8,
+    },
+    /// A centre stores what the call at a port owes.
+    Store {
+        centre: u8,
+        port: u8,
+    },
+    /// The caller at a port is shown what his call was stored for.
+    Show {
+        centre: u8,
+        port: u8,
+    },
+    /// The caller at a port keys the bytes of which this is the notation, at least one. Each is pressed, and what it
+    /// owes is stored and shown at once.
+    Keys {
+        centre: u8,
+        port: u8,
+        keys: Part<'a>,
+    },
+    /// The caller at a port hangs up.
+    Hang {
+        centre: u8,
+        port: u8,
+    },
     /// The Update Centre packs the next record for a centre.
-    Send { centre: u8 },
+    Send {
+        centre: u8,
+    },
     /// The packet of this index, of those that were made for a centre, arrives there.
-    Deliver { centre: u8, index: u64 },
+    Deliver {
+        centre: u8,
+        index: u64,
+    },
     /// The packet of this index, of those that a centre made, arrives at the Update Centre.
-    Back { centre: u8, index: u64 },
+    Back {
+        centre: u8,
+        index: u64,
+    },
     /// Record after record is sent to a centre and delivered there, and its acknowledgement arrives.
-    Carry { centre: u8 },
+    Carry {
+        centre: u8,
+    },
     /// Somebody reads a frame as a centre holds it.
-    View { centre: u8, name: FrameName },
+    View {
+        centre: u8,
+        name: FrameName,
+    },
     /// Somebody asks how many records a centre has applied.
-    At { centre: u8 },
+    At {
+        centre: u8,
+    },
     /// Somebody asks how many records the edit list has.
     List,
 }

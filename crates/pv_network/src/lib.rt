@@ -20,6 +20,8 @@
 //! so. What holds of every world that can be reached is the law [`every_reachable_world_is_sound`].
 #![tactic(auto)]
 
+mod call;
+mod calls;
 mod centre;
 mod event;
 mod laws;
@@ -29,12 +31,15 @@ mod network;
 mod outcome;
 mod packet;
 mod round;
+mod turns;
 mod verdict;
 
-pub use event::{EDITORS, Event, MAX_CENTRES};
+pub use event::{EDITORS, Event, MAX_CENTRES, PORTS};
 pub use laws::{
     a_carried_centre_has_every_record, a_carry_has_rounds_enough, every_reachable_world_is_sound,
 };
 pub use network::Network;
-pub use outcome::{Outcome, Turn, Why};
+pub use outcome::{Outcome, Turn};
 pub use pv_editor::Text;
+pub use pv_session::Why;
+pub use turns::Turns;

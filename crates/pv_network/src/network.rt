@@ -6,8 +6,11 @@ ghost use Rattle.pv_editor.specs.declared.step.EditStep.TheVariants as steps;
 ghost use Rattle.pv_network.specs.declared.event.TheConstants.{MAX_CENTRES};
 ghost use Rattle.pv_network.specs.Traffic.{step_of_send, step_of_deliver, step_of_back, step_of_acknowledging, GoesOn, packet_room, with_ack_back, round_of_packet, step_of_round, step_of_carry};
 ghost use Rattle.pv_network.specs.World.{World, start};
-ghost use Rattle.pv_network.specs.Standing.{StandsFor, Performs, IsPossible};
-ghost use Rattle.pv_network.specs.Step.{Choice, IsChoice, happens, step_of_request, step_of_seeding, step_of_line, step_of_said, step_of_edit, step_of_view, step_of_at, step_of_list};
+ghost use Rattle.pv_network.specs.Standing.{StandsFor, Performs, LetsHappen, IsPossible, takes_memory};
+ghost use Rattle.pv_network.specs.Step.{step_of_request, step_of_seeding, step_of_line, step_of_said, step_of_edit, step_of_view, step_of_at, step_of_list};
+
+mod calling;
+mod keying;
 
 use crate::centre::{Arrival, Centre, open_centres};
 use crate::event::{EDITORS, Event};
@@ -80,18 +83,19 @@ impl Network {
     }
 
     /// Lets an event happen, and returns what came of it. The event's centre is one of the network's, and
-    /// its port is below [`EDITORS`]. The only error is that memory ran out: after it, every later step
-    /// returns it too. No event so far takes memory.
+    /// its port is below [`EDITORS`], or below [`PORTS`](crate::PORTS) at a centre. The only error is that memory ran out: after it, every later step
+    /// returns it too. No event but [`Event::Keys`] takes memory.
     pub fn step(&mut self, event: &Event) -> Result<Outcome, AllocError>
         requires { IsPossible self.old event.now }
 
         // Whatever world the network stood for, it stands for the next one, and the outcome is that answer.
-        ensures performs { IfOk result (λ outcome. (choice : Choice) × IsChoice event.now choice
-            × Performs self.old self.new outcome (λ w. happens w event.now choice)) }
+        ensures performs { IfOk result (LetsHappen event.now self.old self.new) }
         ensures centres { length self.new.centres ≡ length self.old.centres }
 
-        // A network that is not out of memory succeeds. One that is out of memory stays so.
-        ensures succeeds { self.old.is_out ≡ false → IsOk result × (self.new.is_out ≡ false) }
+        // A network that is not out of memory succeeds, unless the event takes memory. One that is out of memory
+        // stays so.
+        ensures succeeds { takes_memory event.now ≡ false → self.old.is_out ≡ false
+            → IsOk result × (self.new.is_out ≡ false) }
         ensures out { IsTrue self.old.is_out → IsErr result }
         ensures stays_out { IsErr result → IsTrue self.new.is_out }
     {
@@ -106,14 +110,19 @@ impl Network {
     /// Lets an event happen.
     fn happen(&mut self, event: &Event) -> Result<Outcome, AllocError>
         requires { IsPossible self.old event.now }
-        ensures performs { IfOk result (λ outcome. (choice : Choice) × IsChoice event.now choice
-            × Performs self.old self.new outcome (λ w. happens w event.now choice)) }
+        ensures performs { IfOk result (LetsHappen event.now self.old self.new) }
         ensures centres { length self.new.centres ≡ length self.old.centres }
-        ensures succeeds { IsOk result }
+        ensures succeeds { takes_memory event.now ≡ false → IsOk result }
     {
         Ok(match event {
             Event::Seed { name, row } => self.seed(*name, row),
             Event::Edit { port, line } => self.edit(*port as usize, line.bytes()),
+            Event::Dial { centre, port } => self.dial(*centre as usize, *port as usize),
+            Event::Press { centre, port, key } => self.press(*centre, *port as usize, *key),
+            Event::Store { centre, port } => self.store(*centre as usize, *port as usize),
+            Event::Show { centre, port } => self.show(*centre as usize, *port as usize),
+            Event::Keys { centre, port, keys } => self.keys(*centre, *port as usize, keys.bytes())?,
+            Event::Hang { centre, port } => self.hang(*centre as usize, *port as usize),
             Event::Send { centre } => self.send(*centre as usize),
             Event::Deliver { centre, index } => self.deliver(*centre as usize, *index),
             Event::Back { centre, index } => self.back(*centre as usize, *index),
@@ -333,7 +342,7 @@ impl Network {
         requires { centre < length self.now.centres }
         ensures { Performs self.now self.now result (λ w. step_of_at w centre) }
     {
-        let count = self.centres[centre].count();
+        let count = self.centres[centre].applied();
         Outcome::Applied { count }
     }
 
@@ -355,6 +364,7 @@ impl Network {
         if self.links.is_full() {
             return None;
         }
-        Some(self.links.acknowledge(centre, self.centres[centre].count()))
+        let count = self.centres[centre].applied();
+        Some(self.links.acknowledge(centre, count))
     }
 }

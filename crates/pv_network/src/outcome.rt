@@ -1,21 +1,12 @@
 ghost use Rattle.std.specs.Prelude.{◌≡◌};
+ghost use Rattle.pv_network.specs.Calls.{away_answer};
+ghost use Rattle.pv_network.specs.Keying.{is_owes, is_stored, is_over};
 ghost use Rattle.pv_network.specs.Traffic.{packet_in, ack_in};
 
+use crate::turns::Turns;
 use pv_editor::Text;
 use pv_screen::Screen;
-
-/// Why a call ended.
-#[derive(Clone, Copy, Debug, PartialEq, Eq)]
-pub enum Why {
-    /// The caller ended it.
-    Finished,
-    /// He was not let in.
-    Refused,
-    /// He had as many keys or entries as a call may have.
-    Spent,
-    /// The centre was full.
-    Full,
-}
+use pv_session::{Step, Why};
 
 /// A screen that is shown, and whether the call ended with it.
 #[derive(Clone, Copy, Debug, PartialEq, Eq)]
@@ -24,13 +15,33 @@ pub struct Turn {
     pub ended: Option<Why>,
 }
 
-/// What came of an event. A later outcome may own a list, so that an outcome is not `Copy`.
-#[derive(Debug, Drop, PartialEq, Eq)]
+/// What came of an event. One owns a list, so that an outcome is not `Copy`.
+#[derive(Debug, Drop)]
 pub enum Outcome {
     /// The reply to an editor.
     Reply(Text),
     /// A screen is shown.
     Shown(Turn),
+    /// A call is at the port already.
+    Busy,
+    /// A key shows nothing, and nothing is owed for it.
+    Quiet,
+    /// Something is to be stored before the next screen.
+    Owes,
+    /// The call takes no key until what it owes was stored and shown.
+    Owing,
+    /// There is no call at the port.
+    NoCall,
+    /// Nothing is owed, or nothing was stored that is to be shown.
+    Nothing,
+    /// The call is over.
+    Hung,
+    /// What was owed was stored.
+    Stored,
+    /// The centre has this many records, which is its limit, and turned the caller away with a screen.
+    StoreFull { count: u64, screen: Screen },
+    /// The keys of a caller showed him these screens, at least one. If the call ended, it ended with the last.
+    Turns(Turns),
     /// There was nothing to send.
     Idle,
     /// As many packets were made as may be.
@@ -61,6 +72,41 @@ pub enum Outcome {
 }
 
 impl Outcome {
+    /// Whether something is owed.
+    pub(crate) fn is_owes(&self) -> bool
+        ensures { result ≡ is_owes self.now }
+    {
+        matches!(self, Outcome::Owes)
+    }
+
+    /// Whether what was owed was stored.
+    pub(crate) fn is_stored(&self) -> bool
+        ensures { result ≡ is_stored self.now }
+    {
+        matches!(self, Outcome::Stored)
+    }
+
+    /// Whether the call ended with a screen.
+    pub(crate) fn is_over(&self) -> bool
+        ensures { result ≡ is_over self.now }
+    {
+        match self {
+            Outcome::Shown(turn) => turn.ended.is_some(),
+            Outcome::StoreFull { .. } => true,
+            _ => false,
+        }
+    }
+
+    /// The answer of a full centre of this many records, by the step with which the seat ends.
+    pub(crate) fn away(count: u64, step: Step) -> Outcome
+        ensures { result ≡ away_answer count step }
+    {
+        match step {
+            Step::Ended(_, screen) => Outcome::StoreFull { count, screen },
+            _ => Outcome::Nothing,
+        }
+    }
+
     /// The index of the packet that was made, if one was.
     pub(crate) fn packet(&self) -> Option<u64>
         ensures { result ≡ packet_in self.now }

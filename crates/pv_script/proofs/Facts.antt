@@ -52,7 +52,7 @@ limits = refl
 
 -- nothing is open in a command
 abbrev any : Choice
-any = record { kept = true; said = None }
+any = record { kept = true; said = None; keyed = [] }
 
 -- on a new network nothing is there to send or to deliver, and a comment has no answer
 pub new_network : answers (first_world 1) ((Do (Send 0), any) ∷ (Nothing, any) ∷ (Do (Deliver 0 0), any) ∷ []) ≡ codes "idle\nno packet\n"

@@ -12,9 +12,9 @@ use Rattle.pv_script.specs.declared.ends.RunEnd.{RunEnd}
 use Rattle.pv_script.specs.declared.ends.RunEnd.TheVariants.{BadLine, Unanswered}
 use Rattle.pv_script.specs.declared.grammar.Command.{Command}
 use Rattle.pv_script.specs.Ends.{HasRun, IsLineEnd, IsRunEnd}
-use Rattle.pv_script.specs.Grammar.{ReadsLine, HasNoForm, IsCommandChoice, AreRead}
+use Rattle.pv_script.specs.Grammar.{ReadsLine, HasNoForm, IsCommandChoice}
 use Rattle.pv_script.specs.Play.{IsTranscript, IsPlayed, StopsAfterLine}
-use Rattle.pv_script.specs.Transcript.{answer_to, answers, world_after, world_after_all}
+use Rattle.pv_script.specs.Transcript.{AreRead, answer_to, answers, world_after, world_after_all}
 use Rattle.pv_script.proofs.CallerLemmas.{Appends-none, Appends-more}
 
 -- ---- one command more
@@ -32,16 +32,16 @@ answers-push w (first ∷ runs) run =
     ∙ sym (append_assoc (answer_to w first.0 first.1) _ _)
 
 -- one line more reads as one command more
-read-push : (centres number at : ℕ) (lines : List (List ℕ)) (runs : List (Command × Choice)) (line : List ℕ) (run : Command × Choice)
-    → at ≡ length lines + number → AreRead centres number lines runs → ReadsLine centres (at == 1) line run.0 → IsCommandChoice run.0 run.1
-    → AreRead centres number (lines ++ line ∷ []) (runs ++ run ∷ [])
-read-push centres number at [] [] line run is read reads choice =
+read-push : (w : World) (centres number at : ℕ) (lines : List (List ℕ)) (runs : List (Command × Choice)) (line : List ℕ) (run : Command × Choice)
+    → at ≡ length lines + number → AreRead w centres number lines runs → ReadsLine centres (at == 1) line run.0
+    → IsCommandChoice (world_after_all w runs) run.0 run.1 → AreRead w centres number (lines ++ line ∷ []) (runs ++ run ∷ [])
+read-push w centres number at [] [] line run is read reads choice =
     let here : at ≡ number = omega (arith, is) in
     (subst (λ (n : ℕ). ReadsLine centres (n == 1) line run.0) here reads, choice, tt)
-read-push centres number at [] (c ∷ cs) line run is read reads choice = absurd read
-read-push centres number at (l ∷ ls) [] line run is read reads choice = absurd read
-read-push centres number at (l ∷ ls) (c ∷ cs) line run is read reads choice =
-    (read.0, read.1, read-push centres (number + 1) at ls cs line run (omega (arith, is)) read.2 reads choice)
+read-push w centres number at [] (c ∷ cs) line run is read reads choice = absurd read
+read-push w centres number at (l ∷ ls) [] line run is read reads choice = absurd read
+read-push w centres number at (l ∷ ls) (c ∷ cs) line run is read reads choice =
+    (read.0, read.1, read-push (world_after w c.0 c.1) centres (number + 1) at ls cs line run (omega (arith, is)) read.2 reads choice)
 
 -- ---- the run so far
 
@@ -74,7 +74,7 @@ module _ (centres : ℕ) (first : World) (text : List ℕ) (before : Option (Lis
       let t = p.transcript in
       let all : p.done ≡ lines_of text = sym (append-nil p.done) ∙ sym p.lines in
       record {
-        transcript = record { runs = t.runs; read = subst (λ (l : List (List ℕ)). AreRead centres 1 l t.runs) all t.read; written = t.written };
+        transcript = record { runs = t.runs; read = subst (λ (l : List (List ℕ)). AreRead first centres 1 l t.runs) all t.read; written = t.written };
         stands = p.stands;
         one_list = p.stands.sound.law;
       }
@@ -88,18 +88,18 @@ module _ (centres : ℕ) (first : World) (text : List ℕ) (before : Option (Lis
     pub goes_on : (new : State) → HasRun centres (number + 1 == 1) line old new mid now → Progress later (number + 1) new now
     goes_on new run =
         let runs = p.transcript.runs in
-        let next : Command × Choice = (run.0, run.2.0) in
-        let step = run.2.2 (world_after_all first runs) p.stands in
+        let step = run.2 (world_after_all first runs) p.stands in
+        let next : Command × Choice = (run.0, step.0) in
         record {
           done = p.done ++ line ∷ [];
           lines = longer;
           count = omega (arith, length-append p.done (line ∷ []), p.count);
           transcript = record {
             runs = runs ++ next ∷ [];
-            read = read-push centres 1 (number + 1) p.done runs line next (omega (arith, p.count)) p.transcript.read run.1 run.2.1;
-            written = subst (λ (l : List ℕ). Appends before now l) (sym (answers-push first runs next)) (Appends-more before mid now (answers first runs) _ p.transcript.written step.1);
+            read = read-push first centres 1 (number + 1) p.done runs line next (omega (arith, p.count)) p.transcript.read run.1 step.1;
+            written = subst (λ (l : List ℕ). Appends before now l) (sym (answers-push first runs next)) (Appends-more before mid now (answers first runs) _ p.transcript.written step.3);
           };
-          stands = subst (λ (w : World). StandsFor new w) (sym (world_after-push first runs next)) step.0;
+          stands = subst (λ (w : World). StandsFor new w) (sym (world_after-push first runs next)) step.2;
         }
 
     -- the next line was not run
@@ -116,18 +116,18 @@ module _ (centres : ℕ) (first : World) (text : List ℕ) (before : Option (Lis
     }
     stops faults_before faults_mid faults_now (Unanswered answering.Fault) counted end =
         let runs = p.transcript.runs in
-        let next : Command × Choice = (end.0, end.2.1.0) in
-        let step = end.2.1.2 (world_after_all first runs) p.stands in
-        let prefix = ap (take (length (answers first runs) + step.0)) (answers-push first runs next) ∙ take-append-add (answers first runs) _ step.0 in (
+        let step = end.2.1 (world_after_all first runs) p.stands in
+        let next : Command × Choice = (end.0, step.0) in
+        let prefix = ap (take (length (answers first runs) + step.2)) (answers-push first runs next) ∙ take-append-add (answers first runs) _ step.2 in (
           omega (arith, counted, end.2.0),
           record {
             run = p.done ++ line ∷ [];
             later = lines_of later;
             runs = runs ++ next ∷ [];
             lines = longer;
-            read = read-push centres 1 (number + 1) p.done runs line next (omega (arith, p.count)) p.transcript.read end.1 end.2.1.1;
-            count = length (answers first runs) + step.0;
-            written = subst (λ (l : List ℕ). Appends before now l) (sym prefix) (Appends-more before mid now (answers first runs) _ p.transcript.written step.1);
+            read = read-push first centres 1 (number + 1) p.done runs line next (omega (arith, p.count)) p.transcript.read end.1 step.1;
+            count = length (answers first runs) + step.2;
+            written = subst (λ (l : List ℕ). Appends before now l) (sym prefix) (Appends-more before mid now (answers first runs) _ p.transcript.written step.3);
           },
         )
     stops faults_before faults_mid faults_now (Unanswered answering.Memory) counted end = record {

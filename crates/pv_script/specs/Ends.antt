@@ -38,13 +38,13 @@ IsReadEnd text faults_before faults_now reads.Memory = text ≡ []
 
 -- a command was run: for each world that the network stood for it stands for the next, and the answer was written
 abbrev pub GivesAnswer : Command → State → State → Option (List ℕ) → Option (List ℕ) → Type 0
-GivesAnswer command old new before now = (choice : Choice) × IsCommandChoice command choice
-    × ((w : World) → StandsFor old w → StandsFor new (world_after w command choice) × Appends before now (answer_to w command choice))
+GivesAnswer command old new before now = (w : World) → StandsFor old w → (choice : Choice) × IsCommandChoice w command choice
+    × StandsFor new (world_after w command choice) × Appends before now (answer_to w command choice)
 
 -- a command was begun: for each world that the network stood for a prefix of the answer was written
 abbrev pub HasBegun : Command → State → Option (List ℕ) → Option (List ℕ) → Type 0
-HasBegun command old before now = (choice : Choice) × IsCommandChoice command choice
-    × ((w : World) → StandsFor old w → (count : ℕ) × Appends before now (take count (answer_to w command choice)))
+HasBegun command old before now = (w : World) → StandsFor old w → (choice : Choice) × IsCommandChoice w command choice
+    × (count : ℕ) × Appends before now (take count (answer_to w command choice))
 
 -- why the answer to a command was not written
 abbrev pub IsAnswerEnd : Command → State → Option (List ℕ) → Option (List ℕ) → ℕ → ℕ → AnswerEnd → Type 0

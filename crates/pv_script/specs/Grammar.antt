@@ -6,6 +6,7 @@ use Rattle.pv_words.specs.Split.{IsSplit}
 use Rattle.pv_network.specs.declared.event.Event.TheVariants as events
 use Rattle.pv_network.specs.declared.event.TheConstants.{EDITORS}
 use Rattle.pv_network.specs.Step.{Choice, IsChoice}
+use Rattle.pv_network.specs.World.{World}
 use Rattle.pv_script.specs.declared.grammar.Command.{Command}
 use Rattle.pv_script.specs.declared.grammar.Command.TheVariants.{Nothing, Limits, Do}
 use Rattle.pv_script.specs.declared.grammar.TheConstants.{COMMENT}
@@ -48,15 +49,7 @@ ReadsLine centres first line command = (AsksNothing line × (command ≡ Nothing
 abbrev pub HasNoForm : ℕ → Bool → List ℕ → Type 0
 HasNoForm centres first line = (command : Command) → ReadsLine centres first line command → ⊥
 
--- what was open in a command: in that of an editor's line, what the line says
-abbrev pub IsCommandChoice : Command → Choice → Type 0
-IsCommandChoice (Do event) choice = IsChoice event choice
-IsCommandChoice _ choice = Unit {0}
-
--- The lines, of which the first has this number, read as the commands that were run, one for each; beside a command stands
--- what was open in it. A script's lines are counted from 1.
-abbrev pub AreRead : ℕ → ℕ → List (List ℕ) → List (Command × Choice) → Type 0
-AreRead centres number [] [] = Unit {0}
-AreRead centres number (line ∷ lines) (run ∷ runs) =
-    ReadsLine centres (number == 1) line run.0 × IsCommandChoice run.0 run.1 × AreRead centres (number + 1) lines runs
-AreRead centres number _ _ = ⊥
+-- what was open in a command, in the world in which it is run: in that of an editor's line, what the line says
+abbrev pub IsCommandChoice : World → Command → Choice → Type 0
+IsCommandChoice w (Do event) choice = IsChoice w event choice
+IsCommandChoice w _ choice = Unit {0}

@@ -12,8 +12,8 @@ use Rattle.pv_network.specs.Standing.{State, StandsFor}
 use Rattle.pv_network.specs.World.{World, start}
 use Rattle.pv_network.specs.Step.{Choice}
 use Rattle.pv_script.specs.declared.grammar.Command.{Command}
-use Rattle.pv_script.specs.Grammar.{AreRead, HasNoForm}
-use Rattle.pv_script.specs.Transcript.{answers, world_after_all}
+use Rattle.pv_script.specs.Grammar.{HasNoForm}
+use Rattle.pv_script.specs.Transcript.{AreRead, answers, world_after_all}
 
 -- the words ask for a play of this many centres, which are one to four
 pub record AskToPlay (words : List (List ℕ)) (centres : ℕ) : Type 0 where
@@ -54,7 +54,7 @@ IsAllLeft (Some left) text = left ≡ text
 -- every one of the lines was read as a command and run, and what was written is the answers to them
 pub record IsTranscript (centres : ℕ) (first : World) (lines : List (List ℕ)) (written_before written_now : Option (List ℕ)) : Type 0 where
   pub runs : List (Command × Choice)
-  pub read : AreRead centres 1 lines runs
+  pub read : AreRead first centres 1 lines runs
   pub written : Appends written_before written_now (answers first runs)
 
 -- Every line of the text was run: what was written is the answers, and the network stands for the world after them, in which
@@ -81,7 +81,7 @@ pub record StopsInAnswers (centres : ℕ) (first : World) (text : List ℕ) (wri
   pub later : List (List ℕ)
   pub runs : List (Command × Choice)
   pub lines : lines_of text ≡ run ++ later
-  pub read : AreRead centres 1 run runs
+  pub read : AreRead first centres 1 run runs
   pub count : ℕ
   pub written : Appends written_before written_now (take count (answers first runs))
 

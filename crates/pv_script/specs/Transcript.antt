@@ -1,15 +1,18 @@
 -- What is written for what came of a script's commands.
-use Rattle.std.specs.Prelude.{ℕ, List, [], ◌∷◌, ◌++◌, length, Option, Some, None, codes, decimal}
+use Rattle.std.specs.Prelude.{ℕ, ◌+◌, ◌==◌, List, [], ◌∷◌, ◌++◌, length, Option, Some, None, codes, decimal}
 use Rattle.pv_outside.specs.declared.limits.Limits.{Limits}
 use Rattle.pv_cells.specs.Notation.{notation_of}
 use Rattle.pv_screen.specs.Painting.{screen_bytes}
-use Rattle.pv_network.specs.declared.outcome.Why.{Why}
-use Rattle.pv_network.specs.declared.outcome.Why.TheVariants.{Finished, Refused, Spent}
-use Rattle.pv_network.specs.declared.outcome.Why.TheVariants as why
+use Rattle.std.specs.List.{flat_map}
+use Rattle.pv_session.specs.declared.step.Why.{Why}
+use Rattle.pv_session.specs.declared.step.Why.TheVariants.{Finished, Refused, Spent}
+use Rattle.pv_session.specs.declared.step.Why.TheVariants as why
+use Rattle.pv_network.specs.declared.outcome.Turn.{Turn}
 use Rattle.pv_network.specs.declared.outcome.Outcome.{Outcome}
 use Rattle.pv_network.specs.declared.outcome.Outcome.TheVariants as outcomes
 use Rattle.pv_network.specs.World.{World, start}
 use Rattle.pv_network.specs.Step.{Choice, happens}
+use Rattle.pv_script.specs.Grammar.{ReadsLine, IsCommandChoice}
 use Rattle.pv_script.specs.declared.grammar.Command.{Command}
 use Rattle.pv_script.specs.declared.grammar.Command.TheVariants.{Nothing, Do}
 use Rattle.pv_script.specs.declared.grammar.Command.TheVariants as commands
@@ -31,10 +34,29 @@ abbrev pub ack_text : Option ℕ → List ℕ
 ack_text None = codes " ack -"
 ack_text (Some index) = codes " ack " ++ decimal index
 
+-- a screen, and why the call ended with it, if it did
+abbrev pub turn_text : Turn → List ℕ
+turn_text turn = codes "screen " ++ notation_of (screen_bytes turn.screen) ++ newline ++ end_text turn.ended
+
+-- screens, one after another
+abbrev pub turns_text : List Turn → List ℕ
+turns_text turns = flat_map turn_text turns
+
 -- what is written for an outcome
 abbrev pub answer_text : Outcome → List ℕ
 answer_text (outcomes.Reply text) = text ++ newline
-answer_text (outcomes.Shown turn) = codes "screen " ++ notation_of (screen_bytes turn.screen) ++ newline ++ end_text turn.ended
+answer_text (outcomes.Shown turn) = turn_text turn
+answer_text outcomes.Busy = codes "busy" ++ newline
+answer_text outcomes.Quiet = codes "quiet" ++ newline
+answer_text outcomes.Owes = codes "owes" ++ newline
+answer_text outcomes.Owing = codes "owing" ++ newline
+answer_text outcomes.NoCall = codes "no call" ++ newline
+answer_text outcomes.Nothing = codes "nothing" ++ newline
+answer_text outcomes.Hung = codes "hung" ++ newline
+answer_text outcomes.Stored = codes "stored" ++ newline
+answer_text (outcomes.StoreFull count screen) =
+    (codes "full " ++ decimal count ++ newline) ++ turn_text (record { screen = screen; ended = Some why.Full })
+answer_text (outcomes.Turns turns) = turns_text turns
 answer_text outcomes.Idle = codes "idle" ++ newline
 answer_text outcomes.PacketsFull = codes "packets full" ++ newline
 answer_text outcomes.NoPacket = codes "no packet" ++ newline
@@ -76,3 +98,12 @@ world_after_all w (run ∷ runs) = world_after_all (world_after w run.0 run.1) r
 abbrev pub answers : World → List (Command × Choice) → List ℕ
 answers w [] = []
 answers w (run ∷ runs) = answer_to w run.0 run.1 ++ answers (world_after w run.0 run.1) runs
+
+-- The lines, of which the first has this number, read as the commands that were run in this world, one for each; beside a
+-- command stands what was open in it. A script's lines are counted from 1.
+abbrev pub AreRead : World → ℕ → ℕ → List (List ℕ) → List (Command × Choice) → Type 0
+AreRead w centres number [] [] = Unit {0}
+AreRead w centres number (line ∷ lines) (run ∷ runs) =
+    ReadsLine centres (number == 1) line run.0 × IsCommandChoice w run.0 run.1
+    × AreRead (world_after w run.0 run.1) centres (number + 1) lines runs
+AreRead w centres number _ _ = ⊥

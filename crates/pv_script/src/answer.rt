@@ -1,5 +1,5 @@
 ghost use Rattle.std.specs.Prelude.{◌≡◌, ◌++◌, OnOk, decimal};
-ghost use Rattle.pv_script.specs.Transcript.{answer_text, limits_text, ack_text, end_text, newline};
+ghost use Rattle.pv_script.specs.Transcript.{answer_text, turn_text, turns_text, limits_text, ack_text, end_text, newline};
 
 use itoa::Buffer;
 use pv_cells::push_notation;
@@ -18,6 +18,25 @@ pub fn push_answer(text: &mut Vec<u8>, outcome: &Outcome) -> Result<(), AllocErr
             push_words(text, b"\n")
         }
         Outcome::Shown(turn) => push_turn(text, turn),
+        Outcome::Busy => push_words(text, b"busy\n"),
+        Outcome::Quiet => push_words(text, b"quiet\n"),
+        Outcome::Owes => push_words(text, b"owes\n"),
+        Outcome::Owing => push_words(text, b"owing\n"),
+        Outcome::NoCall => push_words(text, b"no call\n"),
+        Outcome::Nothing => push_words(text, b"nothing\n"),
+        Outcome::Hung => push_words(text, b"hung\n"),
+        Outcome::Stored => push_words(text, b"stored\n"),
+        Outcome::StoreFull { count, screen } => {
+            push_line(text, b"full ", *count)?;
+            push_turn(
+                text,
+                &Turn {
+                    screen: *screen,
+                    ended: Some(Why::Full),
+                },
+            )
+        }
+        Outcome::Turns(turns) => push_turns(text, turns.all()),
         Outcome::Idle => push_words(text, b"idle\n"),
         Outcome::PacketsFull => push_words(text, b"packets full\n"),
         Outcome::NoPacket => push_words(text, b"no packet\n"),
@@ -92,11 +111,21 @@ fn push_arrival(
     push_words(text, b"\n")
 }
 
+/// Appends screens, one after another.
+fn push_turns(text: &mut Vec<u8>, turns: &[Turn]) -> Result<(), AllocError>
+    ensures { OnOk result (text.new.items ≡ text.old.items ++ turns_text turns.now) }
+{
+    for turn in turns {
+        push_turn(text, turn)?;
+    }
+    Ok(())
+}
+
 /// Appends a screen, and the end of the call if it ended. Its buffer is large, so that it stays apart from the answers that
 /// need none.
 #[inline(never)]
 fn push_turn(text: &mut Vec<u8>, turn: &Turn) -> Result<(), AllocError>
-    ensures { OnOk result (text.new.items ≡ text.old.items ++ answer_text (Outcome.Shown turn.now)) }
+    ensures { OnOk result (text.new.items ≡ text.old.items ++ turn_text turn.now) }
 {
     let mut bytes = [0; BUFFER];
     let count = turn.screen.bytes(&mut bytes);

@@ -1,4 +1,4 @@
-use Rattle.std.proofs.Common.{rules, ◌≡◌, ℕ, true, false, List, take, None, sym, subst, ◌∙◌}
+use Rattle.std.proofs.Common.{rules, ◌≡◌, ℕ, true, false, List, [], take, None, sym, subst, ◌∙◌}
 use Rattle.std.specs.Prelude.{is_err}
 use Rattle.std.specs.Io.KnownBytes.{Appends}
 use Rattle.pv_network.specs.Standing.{StandsFor}
@@ -13,13 +13,12 @@ pub returns-clause-ok : goal.returns-clause-ok
 returns-clause-ok g c =
     let text : c.deref.result.now ≡ limits_text c.args.limits = search rules in
     let passed : is_err c.write_all.result ≡ false = sym c.is_err-2.ensures.value ∙ c.if-is_err-2.false in
-    let whole = whole_written c.write_all.result (g.K.Sink.written c.args.out.now) (g.K.Sink.written c.write_all.new.self) c.deref.result.now c.write_all.ensures.written passed in (
-      record { kept = true; said = None },
+    let whole = whole_written c.write_all.result (g.K.Sink.written c.args.out.now) (g.K.Sink.written c.write_all.new.self) c.deref.result.now c.write_all.ensures.written passed in
+    λ w stands. (
+      record { kept = true; said = None; keyed = [] },
       tt,
-      λ w stands. (
-        subst (λ (n : ℕ). StandsFor c.in-Ok.fresh (start n c.args.limits)) (sym c.requires.centres ∙ count_stands c.args.network.now w stands) c.in-Ok.ensures.ok,
-        subst (λ (l : List ℕ). Appends (g.K.Sink.written c.args.out.now) (g.K.Sink.written c.write_all.new.self) l) text whole,
-      ),
+      subst (λ (n : ℕ). StandsFor c.in-Ok.fresh (start n c.args.limits)) (sym c.requires.centres ∙ count_stands c.args.network.now w stands) c.in-Ok.ensures.ok,
+      subst (λ (l : List ℕ). Appends (g.K.Sink.written c.args.out.now) (g.K.Sink.written c.write_all.new.self) l) text whole,
     )
 
 -- the answer could not be written
@@ -29,10 +28,10 @@ returns-then-is_err-2-clause-err g c =
     let failed : is_err c.write_all.result ≡ true = sym c.is_err-2.ensures.value ∙ c.if-is_err-2.true in
     let prefix = prefix_written c.write_all.result (g.K.Sink.written c.args.out.now) (g.K.Sink.written c.write_all.new.self) c.deref.result.now c.write_all.ensures.written failed in (
       c.write_all.ensures.failed failed,
-      (
-        record { kept = true; said = None },
+      λ w stands. (
+        record { kept = true; said = None; keyed = [] },
         tt,
-        λ w stands.
-            (prefix.0, subst (λ (l : List ℕ). Appends (g.K.Sink.written c.args.out.now) (g.K.Sink.written c.write_all.new.self) (take prefix.0 l)) text prefix.1),
+        prefix.0,
+        subst (λ (l : List ℕ). Appends (g.K.Sink.written c.args.out.now) (g.K.Sink.written c.write_all.new.self) (take prefix.0 l)) text prefix.1,
       ),
     )

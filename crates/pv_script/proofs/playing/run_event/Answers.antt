@@ -13,10 +13,11 @@ returns-then-is_err-2-clause-err g c =
     let failed : is_err c.write_all.result ≡ true = sym c.is_err-2.ensures.value ∙ c.if-is_err-2.true in
     let prefix = prefix_written c.write_all.result (g.K.Sink.written c.args.out.now) (g.K.Sink.written c.write_all.new.self) c.deref.result.now c.write_all.ensures.written failed in (
       c.write_all.ensures.failed failed,
-      (
-        step.0,
-        step.1,
-        λ w stands.
-            (prefix.0, subst (λ (l : List ℕ). Appends (g.K.Sink.written c.args.out.now) (g.K.Sink.written c.write_all.new.self) (take prefix.0 l)) (text ∙ ap answer_text (step.2 w stands).1) prefix.1),
-      ),
+      λ w stands.
+          let done = step w stands in (
+            done.0,
+            done.1,
+            prefix.0,
+            subst (λ (l : List ℕ). Appends (g.K.Sink.written c.args.out.now) (g.K.Sink.written c.write_all.new.self) (take prefix.0 l)) (text ∙ ap answer_text done.3) prefix.1,
+          ),
     )

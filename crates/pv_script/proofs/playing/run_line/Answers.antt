@@ -1,4 +1,4 @@
-use Rattle.std.proofs.Common.{ℕ, ◌==◌, Bool, true, List, None, refl, sym, subst, inl, inr}
+use Rattle.std.proofs.Common.{ℕ, ◌==◌, Bool, true, List, [], None, refl, sym, subst, inl, inr}
 use Rattle.pv_network.specs.declared.event.Event.{Event}
 use Rattle.pv_script.specs.declared.grammar.Command.TheVariants.{Nothing, Do}
 use Rattle.pv_script.proofs.CallerLemmas.{Appends-none}
@@ -27,5 +27,5 @@ pub returns-in-Some-Nothing-clause-ok : goal.returns-in-Some-Nothing-clause-ok
 returns-in-Some-Nothing-clause-ok g c = (
   Nothing,
   rw c.in-Some-Nothing.field-0-is at c.in-Some-Nothing.ensures.found,
-  (record { kept = true; said = None }, tt, λ w stands. (stands, Appends-none (g.K.Sink.written c.args.out.now))),
+  λ w stands. (record { kept = true; said = None; keyed = [] }, tt, stands, Appends-none (g.K.Sink.written c.args.out.now)),
 )

@@ -8,4 +8,4 @@ pub returns : goal.returns
 returns c = λ w stands.
     let here = centre_stands _ w (rw (← c.self.view_is) at stands) c.args.centre c.index.result.now
     (rw (← c.self.view_is) at c.requires) c.index.ensures in
-    (stands, ap Applied (c.count-count.ensures.value ∙ centre_count w.update _ (centre_at w c.args.centre) here))
+    (stands, ap Applied (c.applied-count.ensures.value ∙ centre_count w.update _ (centre_at w c.args.centre) here))

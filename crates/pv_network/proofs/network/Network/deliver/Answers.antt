@@ -8,7 +8,7 @@ use Rattle.pv_network.specs.Standing.{State, StandsFor}
 use Rattle.pv_network.specs.Traffic.{with_next_at, step_of_arrival, step_of_deliver}
 use Rattle.pv_network.specs.World.{World, centre_at}
 use Rattle.pv_network.proofs.Performing.{delivers, room_there, takes}
-use Rattle.pv_network.proofs.Standing.{centre_count, centre_stands}
+use Rattle.pv_network.proofs.Standing.{held_there, centre_stands}
 use Rattle.pv_network.proofs.network.Network.deliver.Goals as goal
 use Rattle.pv_network.proofs.network.Network.deliver.Goals.{After-arrival, After-take}
 
@@ -36,7 +36,7 @@ returns-in-Full-clause-performs c = λ w stands.
     let stood = centre_stands _ w (rw (← c.self.view_is) at stands) c.args.centre c.index-in-Full.result.now
     (rw (← c.self.view_is) at c.requires) c.index-in-Full.ensures in
     rw (arrives (goal.at.returns-in-Full-clause-performs c).After-arrival arrivals.Full c.in-Full.is w stands)
-    (stands, ap Full (c.count-count.ensures.value ∙ centre_count w.update _ (centre_at w c.args.centre) stood))
+    (stands, ap Full (c.count-count.ensures.value ∙ held_there w.update _ (centre_at w c.args.centre) stood))
 
 -- the network as it was
 abbrev before : After-take → State

@@ -21,7 +21,7 @@ started c =
       seats = rw c.new.ensures refl;
       centres = rw c.in_ok-open_centres.ensures
           (zip_replicate (CentreStands (empty_list limits)) c.args.centres (nothing_held limits) new_centre
-          (record { within = omega arith; prefix = refl; limits = refl }));
+          (record { within = omega arith; prefix = refl; limits = refl; calls = refl }));
       links = c.in_ok-open-2.ensures;
     }
 

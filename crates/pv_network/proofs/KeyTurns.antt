@@ -1,0 +1,34 @@
+-- A key at a seat, with the entry that it makes.
+use Rattle.std.proofs.Common.{◌≡◌, ℕ, Bool, true, false, cond, Option, None}
+use Rattle.pv_edits.specs.Sight.{View}
+use Rattle.pv_session.specs.declared.entry.Entry.{Entry}
+use Rattle.pv_session.specs.declared.message.Message.TheVariants.{CallEnded}
+use Rattle.pv_session.specs.declared.step.Phase.{Phase}
+use Rattle.pv_session.specs.declared.step.Phase.TheVariants.{Listening, Owing, Over}
+use Rattle.pv_session.specs.declared.step.Step.{Step}
+use Rattle.pv_session.specs.declared.step.Why.TheVariants.{Spent}
+use Rattle.pv_session.specs.Fetching.{ending_turn}
+use Rattle.pv_session.specs.State.{CallState}
+use Rattle.pv_session.specs.Turns.{Goes, Listens, IsTurnIn, IsTurn, is_spent, byte_turn}
+use Rattle.pv_network.specs.Call.{IsEntryUnless, IsEntryIn, IsEntryAt, key_turn, key_turn_in}
+
+module _ (seat after : CallState) (byte : ℕ) (view : View) (step : Step) where
+  -- the turn of a seat that listens
+  abbrev listening : Bool → Option Entry → CallState × Step
+  listening spent entry = cond spent (ending_turn seat Spent CallEnded) (byte_turn seat byte view entry)
+
+  listens_by : (spent : Bool) → Listens spent seat byte view after step
+      → (entry : Option Entry) × IsEntryUnless spent seat byte entry × Goes (listening spent entry) after step
+  listens_by true goes = (None, tt, goes)
+  listens_by false hears = (hears.entry, hears.says, hears.goes)
+
+  turns_by : (phase : Phase) → IsTurnIn phase seat byte view after step
+      → (entry : Option Entry) × IsEntryIn phase seat byte entry × Goes (key_turn_in phase seat byte view entry) after step
+  turns_by Listening turns = listens_by (is_spent seat) turns
+  turns_by (Owing wish) goes = (None, tt, goes)
+  turns_by Over goes = (None, tt, goes)
+
+  -- a turn is that of some entry
+  pub turn_by_entry : IsTurn seat byte view after step
+      → (entry : Option Entry) × IsEntryAt seat byte entry × Goes (key_turn seat byte view entry) after step
+  turn_by_entry turns = turns_by seat.phase turns

@@ -1,0 +1,21 @@
+use Rattle.std.proofs.Common.{refl, ap}
+use Rattle.pv_edits.specs.Standing.{records_of, limits_of, places_of}
+use Rattle.pv_network.specs.Calls.{Calls}
+use Rattle.pv_network.specs.Centre.{Held}
+use Rattle.pv_network.proofs.centre.Centre.press.Goals as goal
+
+-- the caller is shown what the centre's records have for him
+pub returns : goal.returns
+returns c =
+    let base = c.self.inside.base in
+    let shown = c.new.ensures (records_of base) (places_of base) (record { records = refl; places = refl }) in
+    let pressed = c.press.ensures.pressed in
+    let held : Calls → Held = λ calls. record { records = records_of base; limits = limits_of base; calls = calls } in
+    rw (← c.self.view_is) (record {
+      entry = pressed.0;
+      says = pressed.1;
+      comes = record {
+        after = ap held (rw (shown, c.account-account.ensures) at pressed.2);
+        answer = rw (shown, c.account-account.ensures) at pressed.3;
+      };
+    })

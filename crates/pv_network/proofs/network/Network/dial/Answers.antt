@@ -1,0 +1,32 @@
+use Rattle.std.proofs.Common.{◌≡◌, set, sym, ◌∙◌}
+use Rattle.std.proofs.lemmas.List.{length-set}
+use Rattle.pv_network.specs.Calling.{step_of_dial}
+use Rattle.pv_network.specs.Standing.{State, StandsFor}
+use Rattle.pv_network.specs.World.{World}
+use Rattle.pv_network.proofs.Calling.{dials}
+use Rattle.pv_network.proofs.network.Network.dial.Goals as goal
+use Rattle.pv_network.proofs.network.Network.dial.Goals.{After-dial}
+
+-- the network as it was
+abbrev before : After-dial → State
+before c =
+    let n = c.self.inside in
+    record { update = n.update; seats = n.seats; centres = n.centres.items; links = n.links; is_out = n.is_out }
+
+-- the call begins in the world too
+done : (c : After-dial) (w : World) → StandsFor (before c) w
+    → StandsFor (record (before c) { centres = set c.self.inside.centres.items c.args.centre c.dial.new.self })
+    (step_of_dial w c.args.centre c.args.port).0 × (c.dial.result ≡ (step_of_dial w c.args.centre c.args.port).1)
+done c w stands =
+    dials _ w stands c.args.centre c.index_mut.result.now (rw (← c.self.view_is) at c.requires.centre) c.index_mut.ensures.value
+    c.args.port c.dial.new.self c.dial.result c.dial.ensures
+
+pub invariant_of-self : goal.invariant_of-self
+invariant_of-self c =
+    let stands = c.self.invariant.1 in (
+      c.self.invariant.0 ∙ sym (length-set c.self.inside.centres.items c.args.centre c.dial.new.self),
+      ((step_of_dial stands.0 c.args.centre c.args.port).0, (done (goal.at.invariant_of-self c).After-dial stands.0 stands.1).0),
+    )
+
+pub returns-clause-performs : goal.returns-clause-performs
+returns-clause-performs c = λ w stands. done (goal.at.returns-clause-performs c).After-dial w (rw (← c.self.view_is) at stands)

@@ -1,0 +1,48 @@
+-- Calls in the world: what each event at a port makes of it.
+use Rattle.std.specs.Prelude.{ℕ, nat_le, Option}
+use Rattle.pv_edits.specs.Sight.{View, sight_of}
+use Rattle.pv_session.specs.declared.entry.Entry.{Entry}
+use Rattle.pv_network.specs.declared.outcome.Outcome.{Outcome}
+use Rattle.pv_network.specs.Call.{Call}
+use Rattle.pv_network.specs.Calls.{Calls, account_given, call_in, dial_at, hang_at, press_at, store_at, show_at}
+use Rattle.pv_network.specs.Centre.{record_count}
+use Rattle.pv_network.specs.World.{World, centre_at, with_centre, page_base}
+
+-- the calls at a centre
+abbrev pub calls_at : World → ℕ → Calls
+calls_at w c = (centre_at w c).calls
+
+-- the call at a port of a centre
+abbrev pub call_at : World → ℕ → ℕ → Option Call
+call_at w c port = call_in (calls_at w c) port
+
+-- the world with other calls at a centre
+abbrev pub with_calls : World → ℕ → Calls → World
+with_calls w c calls = with_centre w c (record (centre_at w c) { calls = calls })
+
+-- what is done with a centre's calls is done in the world
+abbrev pub at_calls : World → ℕ → Calls × Outcome → World × Outcome
+at_calls w c done = (with_calls w c done.0, done.1)
+
+abbrev pub step_of_dial : World → ℕ → ℕ → World × Outcome
+step_of_dial w c port = at_calls w c (dial_at (calls_at w c) port (call_at w c port))
+
+abbrev pub step_of_hang : World → ℕ → ℕ → World × Outcome
+step_of_hang w c port = at_calls w c (hang_at (calls_at w c) port (call_at w c port))
+
+-- what a centre shows to the caller at a port: what its page base has for his account
+abbrev pub view_at : World → ℕ → ℕ → View
+view_at w c port = sight_of (page_base w c) c (account_given (call_at w c port))
+
+-- a key, with the entry that it makes
+abbrev pub step_of_press : World → ℕ → ℕ → ℕ → Option Entry → World × Outcome
+step_of_press w c port key entry = at_calls w c (press_at (calls_at w c) port key (view_at w c port) entry (call_at w c port))
+
+-- a centre is full if it has as many records as it may: those that it has applied, and the log-ons
+abbrev pub step_of_store : World → ℕ → ℕ → World × Outcome
+step_of_store w c port =
+    let count = record_count (centre_at w c) in
+    at_calls w c (store_at (nat_le w.update.limits.records count) count (calls_at w c) port (call_at w c port))
+
+abbrev pub step_of_show : World → ℕ → ℕ → World × Outcome
+step_of_show w c port = at_calls w c (show_at (calls_at w c) port (call_at w c port))

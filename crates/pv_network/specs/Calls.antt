@@ -1,0 +1,124 @@
+-- The calls at a centre's ports: what each event makes of them, and the answer to it.
+use Rattle.std.specs.Prelude.{ℕ, ◌+◌, Bool, true, false, List, replicate, slice_index_or, slice_set, Option, Some, None, if◌then◌else◌}
+use Rattle.pv_edits.specs.Sight.{View}
+use Rattle.pv_session.specs.declared.entry.Entry.{Entry}
+use Rattle.pv_session.specs.declared.message.Message.TheVariants.{KeyAccount}
+use Rattle.pv_session.specs.declared.step.Paid.{Paid}
+use Rattle.pv_session.specs.declared.step.Paid.TheVariants.{Serial}
+use Rattle.pv_session.specs.declared.step.Step.{Step}
+use Rattle.pv_session.specs.declared.step.Step.TheVariants as steps
+use Rattle.pv_session.specs.Messages.{blank_screen}
+use Rattle.pv_session.specs.State.{CallState}
+use Rattle.pv_session.specs.Turns.{storing_turn, full_turn}
+use Rattle.pv_network.specs.declared.event.TheConstants.{PORTS}
+use Rattle.pv_network.specs.declared.outcome.Outcome.{Outcome}
+use Rattle.pv_network.specs.declared.outcome.Outcome.TheVariants as outcomes
+use Rattle.pv_network.specs.Call.{Call, call_of, first_call, is_waiting, is_to_store, key_turn, IsEntryAt}
+
+-- the calls of a centre: how many of its callers have logged on, and the call at each port
+pub record Calls : Type 0 where
+  pub log_ons : ℕ
+  pub ports : List (Option Call)
+
+-- a centre that nobody has called
+abbrev pub no_calls : Calls
+no_calls = record { log_ons = 0; ports = replicate PORTS None }
+
+-- the call at a port; after the last port there is none
+abbrev pub call_in : Calls → ℕ → Option Call
+call_in calls port = slice_index_or calls.ports port None
+
+-- the account that a caller gave, if there is a call
+abbrev pub account_given : Option Call → Option ℕ
+account_given None = None
+account_given (Some call) = call.seat.account
+
+-- another call at a port, or none
+abbrev pub with_call : Calls → ℕ → Option Call → Calls
+with_call calls port call = record calls { ports = slice_set calls.ports port call }
+
+-- ---- what a step at a seat comes to
+
+-- the answer to a step
+abbrev pub step_answer : Step → Outcome
+step_answer steps.Quiet = outcomes.Quiet
+step_answer (steps.Show screen) = outcomes.Shown (record { screen = screen; ended = None })
+step_answer (steps.Owe wish) = outcomes.Owes
+step_answer (steps.Ended why screen) = outcomes.Shown (record { screen = screen; ended = Some why })
+
+-- the call after a step: there is none after its end
+abbrev pub call_after : CallState → Step → Option Call
+call_after seat steps.Quiet = Some (call_of seat)
+call_after seat (steps.Show screen) = Some (call_of seat)
+call_after seat (steps.Owe wish) = Some (call_of seat)
+call_after seat (steps.Ended why screen) = None
+
+-- a turn at a port
+abbrev pub turn_at : Calls → ℕ → CallState × Step → Calls × Outcome
+turn_at calls port turn = (with_call calls port (call_after turn.0 turn.1), step_answer turn.1)
+
+-- ---- dial, hang
+
+abbrev pub dial_at : Calls → ℕ → Option Call → Calls × Outcome
+dial_at calls port None = (
+  with_call calls port (Some first_call),
+  outcomes.Shown
+      (record { screen = blank_screen KeyAccount; ended = None }),
+)
+dial_at calls port (Some call) = (calls, outcomes.Busy)
+
+abbrev pub hang_at : Calls → ℕ → Option Call → Calls × Outcome
+hang_at calls port None = (calls, outcomes.NoCall)
+hang_at calls port (Some call) = (with_call calls port None, outcomes.Hung)
+
+-- ---- press
+
+-- a key at a port, with the entry that it makes; a call that waits takes no key
+abbrev pub press_at : Calls → ℕ → ℕ → View → Option Entry → Option Call → Calls × Outcome
+press_at calls port key view entry None = (calls, outcomes.NoCall)
+press_at calls port key view entry (Some call) =
+    if is_waiting call then (calls, outcomes.Owing) else turn_at calls port (key_turn call.seat key view entry)
+
+-- the entry that a key makes at a port, if it is read at all
+abbrev pub IsEntryUnlessWaiting : Bool → Call → ℕ → Option Entry → Type 0
+IsEntryUnlessWaiting true call key entry = Unit {0}
+IsEntryUnlessWaiting false call key entry = IsEntryAt call.seat key entry
+
+abbrev pub IsEntryOf : Option Call → ℕ → Option Entry → Type 0
+IsEntryOf None key entry = Unit {0}
+IsEntryOf (Some call) key entry = IsEntryUnlessWaiting (is_waiting call) call key entry
+
+-- ---- store, show
+
+-- the call's serial is the count of the log-ons before it
+abbrev pub with_log_on : Calls → ℕ → Call → Calls
+with_log_on calls port call = record {
+  log_ons = calls.log_ons + 1;
+  ports = slice_set calls.ports port (Some (record call { stored = Some (Serial calls.log_ons) }));
+}
+
+-- the answer of a full centre with this many records, by the step with which the seat ends
+abbrev pub away_answer : ℕ → Step → Outcome
+away_answer count (steps.Ended why screen) = outcomes.StoreFull count screen
+away_answer count _ = outcomes.Nothing
+
+-- what a call owes is stored, if the centre has room; a full centre turns the caller away
+abbrev pub storing_at : Bool → ℕ → Calls → ℕ → Call → Calls × Outcome
+storing_at is_full count calls port call =
+    if is_full then (with_call calls port None, away_answer count (full_turn call.seat call.seat.phase).1)
+    else (with_log_on calls port call, outcomes.Stored)
+
+-- nothing is stored for a call that owes nothing, or for which it was stored
+abbrev pub store_at : Bool → ℕ → Calls → ℕ → Option Call → Calls × Outcome
+store_at is_full count calls port None = (calls, outcomes.NoCall)
+store_at is_full count calls port (Some call) =
+    if is_to_store call then storing_at is_full count calls port call else (calls, outcomes.Nothing)
+
+-- the reply to what was stored is shown
+abbrev pub showing_at : Calls → ℕ → CallState → Option Paid → Calls × Outcome
+showing_at calls port seat None = (calls, outcomes.Nothing)
+showing_at calls port seat (Some reply) = turn_at calls port (storing_turn seat seat.phase reply)
+
+abbrev pub show_at : Calls → ℕ → Option Call → Calls × Outcome
+show_at calls port None = (calls, outcomes.NoCall)
+show_at calls port (Some call) = showing_at calls port call.seat call.stored

@@ -1,0 +1,102 @@
+ghost use Rattle.std.specs.Prelude.{◌≡◌, Option};
+ghost use Rattle.pv_edits.specs.Sight.{view_of};
+ghost use Rattle.pv_session.specs.declared.entry.Entry.{Entry};
+ghost use Rattle.pv_session.specs.declared.step.Paid.TheVariants.{Serial};
+ghost use Rattle.pv_session.specs.Turns.{storing_turn, full_turn};
+
+use pv_edits::Sight;
+use pv_page::AccountNo;
+use pv_screen::Screen;
+use pv_session::{Paid, Seat, Step};
+use std::marker::Model;
+
+/// A call at a port: its seat, and the reply to what was stored for it until the caller is shown it.
+#[derive(Debug, Drop)]
+pub struct Call {
+    seat: Seat,
+    stored: Option<Paid>,
+}
+
+impl Model for Call {
+    ghost use Rattle.pv_session.specs.Seat.{state_of};
+    ghost use Rattle.pv_network.specs.Call as Spec;
+
+    ghost Value = { Spec.Call };
+
+    ghost view = { λ c. record { seat = state_of c.seat; stored = c.stored } };
+}
+
+impl Call {
+    ghost use Rattle.pv_session.specs.Messages.{blank_screen};
+    ghost use Rattle.pv_session.specs.declared.message.Message.TheVariants.{KeyAccount};
+    ghost use Rattle.pv_network.specs.Call.{first_call, is_waiting, is_to_store, key_turn, IsEntryAt};
+
+    /// A call that begins, and its first screen.
+    pub(crate) fn dial() -> (Call, Screen)
+        ensures call { result.0 ≡ first_call }
+        ensures screen { result.1 ≡ blank_screen KeyAccount }
+    {
+        let (seat, screen) = Seat::dial();
+        (Call { seat, stored: None }, screen)
+    }
+
+    /// The account that the caller gave.
+    pub(crate) fn account(&self) -> Option<AccountNo>
+        ensures { result ≡ self.now.seat.account }
+    {
+        self.seat.account()
+    }
+
+    /// Whether something is to be stored, or was stored and is to be shown.
+    pub(crate) fn is_waiting(&self) -> bool
+        ensures { result ≡ is_waiting self.now }
+    {
+        self.seat.owes() || self.stored.is_some()
+    }
+
+    /// Whether something is to be stored.
+    pub(crate) fn is_to_store(&self) -> bool
+        ensures { result ≡ is_to_store self.now }
+    {
+        self.seat.owes() && self.stored.is_none()
+    }
+
+    /// Takes a byte.
+    pub(crate) fn key(&mut self, byte: u8, sight: &Sight) -> Step
+        ensures turn { (entry : Option Entry) × IsEntryAt self.old.seat byte entry
+            × (self.new ≡ record self.old { seat = (key_turn self.old.seat byte (view_of sight.now) entry).0 })
+            × (result ≡ (key_turn self.old.seat byte (view_of sight.now) entry).1) }
+    {
+        self.seat.key(byte, sight)
+    }
+
+    /// Notes that a log-on was stored, and its serial.
+    pub(crate) fn store(&mut self, serial: u64)
+        ensures { self.new ≡ record self.old { stored = Some (Serial serial) } }
+    {
+        self.stored = Some(Paid::Serial(serial));
+    }
+
+    /// The seat ends the call, since the centre is full.
+    pub(crate) fn turn_away(&mut self) -> Step
+        ensures { result ≡ (full_turn self.old.seat self.old.seat.phase).1 }
+    {
+        self.seat.turned_away()
+    }
+
+    /// The reply to what was stored, if the caller is still to be shown it.
+    pub(crate) fn stored(&self) -> Option<Paid>
+        ensures { result ≡ self.now.stored }
+    {
+        self.stored
+    }
+
+    /// Goes on with the reply to what was stored.
+    pub(crate) fn show(&mut self, reply: Paid) -> Step
+        ensures after { self.new ≡ record { seat = (storing_turn self.old.seat self.old.seat.phase reply).0; stored = None } }
+        ensures step { result ≡ (storing_turn self.old.seat self.old.seat.phase reply).1 }
+    {
+        self.stored = None;
+        self.seat.paid(reply)
+    }
+}

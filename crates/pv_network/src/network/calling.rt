@@ -1,0 +1,59 @@
+ghost use Rattle.std.specs.Prelude.{◌≡◌, ◌<◌, length};
+ghost use Rattle.pv_network.specs.declared.event.TheConstants.{PORTS};
+ghost use Rattle.pv_network.specs.Calling.{step_of_dial, step_of_store, step_of_show, step_of_hang};
+ghost use Rattle.pv_network.specs.Standing.{Performs, Presses};
+
+use crate::network::Network;
+use crate::outcome::Outcome;
+
+impl Network {
+    /// Somebody calls a centre at a port.
+    pub(super) fn dial(&mut self, centre: usize, port: usize) -> Outcome
+        requires centre { centre < length self.old.centres }
+        requires port { port < PORTS }
+        ensures performs { Performs self.old self.new result (λ w. step_of_dial w centre port) }
+        ensures centres { length self.new.centres ≡ length self.old.centres }
+    {
+        self.centres[centre].dial(port)
+    }
+
+    /// The caller at a port of a centre keys a byte.
+    pub(super) fn press(&mut self, centre: u8, port: usize, key: u8) -> Outcome
+        requires centre { centre < length self.old.centres }
+        requires port { port < PORTS }
+        ensures performs { Presses self.old self.new result centre port key }
+        ensures centres { length self.new.centres ≡ length self.old.centres }
+    {
+        self.centres[centre as usize].press(centre, port, key)
+    }
+
+    /// A centre stores what the call at a port owes.
+    pub(super) fn store(&mut self, centre: usize, port: usize) -> Outcome
+        requires centre { centre < length self.old.centres }
+        requires port { port < PORTS }
+        ensures performs { Performs self.old self.new result (λ w. step_of_store w centre port) }
+        ensures centres { length self.new.centres ≡ length self.old.centres }
+    {
+        self.centres[centre].store(port)
+    }
+
+    /// The caller at a port is shown what his call was stored for.
+    pub(super) fn show(&mut self, centre: usize, port: usize) -> Outcome
+        requires centre { centre < length self.old.centres }
+        requires port { port < PORTS }
+        ensures performs { Performs self.old self.new result (λ w. step_of_show w centre port) }
+        ensures centres { length self.new.centres ≡ length self.old.centres }
+    {
+        self.centres[centre].show(port)
+    }
+
+    /// The caller at a port hangs up.
+    pub(super) fn hang(&mut self, centre: usize, port: usize) -> Outcome
+        requires centre { centre < length self.old.centres }
+        requires port { port < PORTS }
+        ensures performs { Performs self.old self.new result (λ w. step_of_hang w centre port) }
+        ensures centres { length self.new.centres ≡ length self.old.centres }
+    {
+        self.centres[centre].hang(port)
+    }
+}

@@ -1,0 +1,91 @@
+ghost use Rattle.std.specs.Prelude.{◌≡◌, ◌<◌, Some, None, length, IfOk, IfSome, OnOk};
+ghost use Rattle.pv_network.specs.declared.event.TheConstants.{PORTS};
+ghost use Rattle.pv_network.specs.Keying.{step_of_payment};
+ghost use Rattle.pv_network.specs.Standing.{Performs, IsNotation, PaysKey, TakesKeys, AnswersKeys};
+
+use crate::network::Network;
+use crate::outcome::Outcome;
+use crate::turns::Turns;
+use pv_cells::first_byte;
+use std::alloc::AllocError;
+
+impl Network {
+    /// The caller at a port of a centre keys bytes, which this text is the notation of. Each is pressed, and what it
+    /// owes is stored and shown at once. After the end of the call no byte is read. The only error is that memory ran
+    /// out for the list of screens.
+    pub(super) fn keys(
+        &mut self,
+        centre: u8,
+        port: usize,
+        text: &[u8],
+    ) -> Result<Outcome, AllocError>
+        requires centre { centre < length self.old.centres }
+        requires port { port < PORTS }
+        requires notation { IsNotation text.now }
+        ensures performs { IfOk result (λ outcome. AnswersKeys self.old self.new outcome centre port text.now) }
+        ensures centres { length self.new.centres ≡ length self.old.centres }
+    {
+        if let Some(outcome) = self.centres[centre as usize].refusal(port) {
+            return Ok(outcome);
+        }
+        let mut turns = Turns::new(*self.centres.allocator());
+        self.key_all(centre, port, text, &mut turns)?;
+        Ok(turns.answer())
+    }
+
+    /// Takes all bytes of a notation at a port, up to the end of the call, and adds the screens that they show.
+    fn key_all(
+        &mut self,
+        centre: u8,
+        port: usize,
+        text: &[u8],
+        turns: &mut Turns,
+    ) -> Result<(), AllocError>
+        requires centre { centre < length self.old.centres }
+        requires port { port < PORTS }
+        requires notation { IsNotation text.now }
+        ensures performs { OnOk result (TakesKeys self.old self.new turns.old turns.new centre port text.now) }
+        ensures centres { length self.new.centres ≡ length self.old.centres }
+    {
+        let mut rest = text;
+        while let Some((byte, later)) = first_byte(rest) {
+            let outcome = self.key(centre, port, byte);
+            turns.add(&outcome)?;
+            if outcome.is_over() {
+                return Ok(());
+            }
+            rest = later;
+        }
+        Ok(())
+    }
+
+    /// Takes a byte at a port; what it owes is stored and shown at once.
+    fn key(&mut self, centre: u8, port: usize, byte: u8) -> Outcome
+        requires centre { centre < length self.old.centres }
+        requires port { port < PORTS }
+        ensures performs { PaysKey self.old self.new result centre port byte }
+        ensures centres { length self.new.centres ≡ length self.old.centres }
+    {
+        let pressed = self.press(centre, port, byte);
+        if pressed.is_owes() {
+            self.pay(centre as usize, port)
+        } else {
+            pressed
+        }
+    }
+
+    /// Stores what the call at a port owes, and shows it, if the centre has room.
+    fn pay(&mut self, centre: usize, port: usize) -> Outcome
+        requires centre { centre < length self.old.centres }
+        requires port { port < PORTS }
+        ensures performs { Performs self.old self.new result (λ w. step_of_payment w centre port) }
+        ensures centres { length self.new.centres ≡ length self.old.centres }
+    {
+        let stored = self.store(centre, port);
+        if stored.is_stored() {
+            self.show(centre, port)
+        } else {
+            stored
+        }
+    }
+}
