@@ -5,7 +5,6 @@ use Rattle.pv_edits.specs.declared.record.Record.{Record}
 use Rattle.pv_edits.specs.Sight.{sight_of}
 use Rattle.pv_session.specs.declared.entry.Entry.{Entry}
 use Rattle.pv_network.specs.declared.outcome.Outcome.{Outcome}
-use Rattle.pv_network.specs.Call.{Call}
 use Rattle.pv_network.specs.Calling.{calls_at, call_at, at_calls, step_of_dial, step_of_hang, step_of_press, step_of_store, step_of_show}
 use Rattle.pv_network.specs.Calls.{Calls, account_given, call_in, dial_at, hang_at, press_at, store_at, show_at, IsEntryOf}
 use Rattle.pv_network.specs.Centre.{Held, CentreStands, Comes, Pressed, record_count, held_count}

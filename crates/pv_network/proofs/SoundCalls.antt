@@ -1,6 +1,6 @@
 -- What an event makes of sound calls is sound.
-use Rattle.std.proofs.Common.{◌≡◌, ℕ, ◌+◌, ◌<◌, Bool, true, false, cond, List, length, get_or, set, Option, Some, None, refl, sym, ap, subst, ◌∙◌, arith}
-use Rattle.std.specs.Prelude.{IfSome, IsTrue, ◌||◌, ◌&&◌, not, is_some}
+use Rattle.std.proofs.Common.{◌≡◌, ℕ, ◌+◌, ◌<◌, Bool, true, false, cond, Option, Some, None, refl, sym, ap, subst, ◌∙◌, arith}
+use Rattle.std.specs.Prelude.{IfSome, IsTrue, ◌||◌, ◌&&◌, is_some}
 use Rattle.std.proofs.lemmas.List.{length-set}
 use Rattle.pv_fields.specs.Reading.{◌>>=◌}
 use Rattle.pv_edits.specs.Sight.{View}
@@ -16,7 +16,7 @@ use Rattle.pv_session.specs.State.{CallState, is_owing}
 use Rattle.pv_session.specs.Turns.{storing_turn}
 use Rattle.pv_network.specs.declared.outcome.Outcome.TheVariants as outcomes
 use Rattle.pv_network.specs.Call.{Call, call_of, first_call, serial_with, serial_of, is_waiting, is_to_store, key_turn}
-use Rattle.pv_network.specs.Calls.{Calls, call_in, with_call, call_after, turn_at, dial_at, hang_at, press_at, with_log_on, storing_at, store_at, showing_at, show_at}
+use Rattle.pv_network.specs.Calls.{Calls, call_in, with_call, turn_at, dial_at, hang_at, press_at, with_log_on, storing_at, store_at, showing_at, show_at}
 use Rattle.pv_network.specs.Sound.{serial_in, IsStoredAsOwed, IsSoundCalls}
 use Rattle.pv_network.proofs.KeptSerials.{key_keeps}
 use Rattle.pv_network.proofs.Lists.{set_at}
@@ -32,7 +32,7 @@ none_stored false None how = refl
 none_stored false (Some reply) how = absurd cc
 
 -- of two tests that hold the first does
-first_holds : (one other : Bool) → (one && other) ≡ true → one ≡ true
+pub first_holds : (one other : Bool) → (one && other) ≡ true → one ≡ true
 first_holds true other how = refl
 first_holds false other how = absurd cc
 

@@ -44,7 +44,7 @@ use Rattle.pv_network.specs.declared.event.TheConstants.{PORTS}
 use Rattle.pv_network.specs.Call.{Call, serial_of}
 use Rattle.pv_session.specs.declared.entry.Entry.{Entry}
 use Rattle.pv_network.specs.Calling.{calls_at, call_at, view_at, with_calls, step_of_press, step_of_store, step_of_show}
-use Rattle.pv_network.specs.Keying.{Keyed, first_entry, is_owes, is_stored, step_of_payment, step_of_key, screens_in, is_over, keys_from, keys_refusal, step_of_taken_keys}
+use Rattle.pv_network.specs.Keying.{KeyedByte, first_entry, is_owes, is_stored, step_of_payment, step_of_key, screens_in, is_over, keys_from, keys_refusal, step_of_taken_keys}
 use Rattle.pv_network.specs.Calls.{Calls, no_calls}
 use Rattle.pv_network.specs.Centre.{Centre, new_centre, record_count, arrival_of}
 use Rattle.pv_network.specs.Link.{End, Link, new_link, is_packets_full, number_to_send, with_packet, with_acknowledgement, with_heard, heard_link}
@@ -455,7 +455,7 @@ sound_show : (w : World) (c port : ℕ) → IsSound w → IsSound (step_of_show 
 sound_show w c port sound = sound_with_calls w c sound _ (show_sound (calls_at w c) port (sound.calls c) (call_at w c port) refl)
 
 -- a sound world stays sound with a key and the payment of what it owes
-sound_key : (w : World) (c port : ℕ) (key : Keyed) → IsSound w → IsSound (step_of_key w c port key).0
+sound_key : (w : World) (c port : ℕ) (key : KeyedByte) → IsSound w → IsSound (step_of_key w c port key).0
 sound_key w c port key sound = choice IsSound (is_owes (step_of_press w c port key.byte key.entry).1) _ _ (λ _. paid) (λ _. pressed)
   where
     pressed : IsSound (step_of_press w c port key.byte key.entry).0
@@ -469,7 +469,7 @@ sound_key w c port key sound = choice IsSound (is_owes (step_of_press w c port k
         (λ _. sound_show (step_of_store (step_of_press w c port key.byte key.entry).0 c port).0 c port stored) (λ _. stored)
 
 -- a sound world stays sound however many keys there are
-sound_keys_from : (w : World) (c port : ℕ) (keys : List Keyed) → IsSound w → IsSound (keys_from w c port keys).0
+sound_keys_from : (w : World) (c port : ℕ) (keys : List KeyedByte) → IsSound w → IsSound (keys_from w c port keys).0
 sound_keys_from w c port [] sound = sound
 sound_keys_from w c port (key ∷ keys) sound =
     by (is_over (step_of_key w c port key).1) (sound_keys_from (step_of_key w c port key).0 c port keys (sound_key w c port key sound))
@@ -480,7 +480,7 @@ sound_keys_from w c port (key ∷ keys) sound =
     by true rest = sound_key w c port key sound
     by false rest = rest
 
-sound_keys : (w : World) (c port : ℕ) (keys : List Keyed) (refusal : Option Outcome) → IsSound w
+sound_keys : (w : World) (c port : ℕ) (keys : List KeyedByte) (refusal : Option Outcome) → IsSound w
     → IsSound (step_of_taken_keys w c port keys refusal).0
 sound_keys w c port keys (Some refusal) sound = sound
 sound_keys w c port keys None sound = sound_keys_from w c port keys sound
@@ -515,7 +515,7 @@ sound_after w [] sound = sound
 sound_after w (event ∷ events) sound = sound_after (happens w event.0 event.1).0 events (sound_happens w event.0 event.1 sound)
 
 -- among copies of an element and after them, that element stands for each place
-copy_at : {X : Type 0} (x : X) (n c : ℕ) → get_or (replicate n x) c x ≡ x
+pub copy_at : {X : Type 0} (x : X) (n c : ℕ) → get_or (replicate n x) c x ≡ x
 copy_at x zero c = refl
 copy_at x (suc n) zero = refl
 copy_at x (suc n) (suc c) = copy_at x n c

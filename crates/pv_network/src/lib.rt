@@ -35,7 +35,10 @@ mod turns;
 mod verdict;
 
 pub use event::{EDITORS, Event, MAX_CENTRES, PORTS};
-pub use laws::{a_carry_has_rounds_enough, every_reachable_world_is_sound};
+pub use laws::{
+    a_carry_has_rounds_enough, caller_is_shown_the_steps_of_his_seat,
+    every_reachable_world_is_sound,
+};
 pub use network::Network;
 pub use outcome::{Outcome, Turn};
 pub use pv_editor::Text;

@@ -1,9 +1,7 @@
-use Rattle.std.proofs.Common.{rules, ◌≡◌, refl, sym, None, Some, ◌∙◌}
+use Rattle.std.proofs.Common.{rules, ◌≡◌, refl, sym, Some, ◌∙◌}
 use Rattle.std.specs.Prelude.{IsNone}
 use Rattle.pv_cells.specs.Notation.{notation_at}
-use Rattle.pv_network.specs.Standing.{StandsFor}
-use Rattle.pv_network.specs.World.{World}
-use Rattle.pv_network.proofs.Keying.{Taken, notation_shorter, taken_none, taken_all, taken_over, taken_more}
+use Rattle.pv_network.proofs.Keying.{notation_shorter, taken_none, taken_all, taken_over, taken_more}
 use Rattle.pv_network.proofs.network.Network.key_all.Goals as goal
 use Rattle.pv_network.proofs.network.Network.key_all.Goals.{After-is_over}
 

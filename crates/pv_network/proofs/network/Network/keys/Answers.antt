@@ -1,5 +1,4 @@
-use Rattle.std.proofs.Common.{rules, ◌≡◌, Some, None, sym, ap, ◌∙◌}
-use Rattle.pv_network.specs.Keying.{keys_from}
+use Rattle.std.proofs.Common.{rules, ◌≡◌, None, sym, ◌∙◌}
 use Rattle.pv_network.proofs.Keying.{refused, answered}
 use Rattle.pv_network.proofs.network.Network.keys.Goals as goal
 
