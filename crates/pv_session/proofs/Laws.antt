@@ -1,95 +1,24 @@
 -- What is sent to a caller is a function of his keys and of what he may see at his entries.
-use Rattle.std.proofs.Common.{◌≡◌, ℕ, ◌+◌, Bool, true, false, List, [], ◌∷◌, Option, Some, None, refl, sym, ap, subst, ◌∙◌, inl, inr, arith, if◌then◌else◌, nat_lt}
-use Rattle.std.specs.Prelude.{◌==◌}
+use Rattle.std.proofs.Common.{◌≡◌, ℕ, ◌+◌, Bool, true, false, List, [], ◌∷◌, Option, Some, None, refl, sym, ap, subst, ◌∙◌, inl, inr, arith}
 use Rattle.std.proofs.lemmas.Bool.{cases_eq}
-use Rattle.pv_page.specs.Names.{Name}
-use Rattle.pv_frame.specs.Content.{Content}
 use Rattle.pv_words.specs.Parts.{Exactly}
-use Rattle.pv_keys.specs.declared.command.Command.{Command}
-use Rattle.pv_keys.specs.declared.command.Command.TheVariants as commands
 use Rattle.pv_edits.specs.Sight.{View}
 use Rattle.pv_session.specs.declared.entry.Entry.{Entry}
-use Rattle.pv_session.specs.declared.entry.Entry.TheVariants as entries
 use Rattle.pv_session.specs.declared.step.Phase.{Phase}
 use Rattle.pv_session.specs.declared.step.Phase.TheVariants as phases
 use Rattle.pv_session.specs.declared.step.Step.{Step}
-use Rattle.pv_session.specs.declared.seat.TheConstants.{TRIES}
-use Rattle.pv_session.specs.declared.message.Message.TheVariants as messages
-use Rattle.pv_session.specs.Shown.{ShownFrame, first_frame, route_of_digit}
 use Rattle.pv_session.specs.State.{CallState}
-use Rattle.pv_session.specs.Fetching.{fetch_turn, visit_turn, route_turn, next_turn, back_turn, repeat_turn, fresh_turn, command_turn, message_turn}
-use Rattle.pv_session.specs.Turns.{Goes, Listens, IsTurnIn, IsTurn, is_spent, entry_turn, log_on_turn, byte_turn, known_caller}
+use Rattle.pv_session.specs.Turns.{Goes, Listens, IsTurnIn, IsTurn, is_spent, entry_turn, byte_turn}
+use Rattle.pv_session.proofs.EachTurn.{entry_holds}
 use Rattle.pv_session.specs.Calls.{CallEvent, Keyed, Stored, Refused, Happens, AreSteps, IsLike, AreStepsOfLike}
 
 -- ---- what an entry does changes no count of entries
 
 -- it leaves the count as it was
-abbrev pub Keeps : CallState → CallState × Step → Type 0
-Keeps call turn = turn.0.entries ≡ call.entries
-
--- a fetch
-fetch_keeps : (call : CallState) (name : Name) (frame : Option Content) → Keeps call (fetch_turn call name frame)
-fetch_keeps call name None = refl
-fetch_keeps call name (Some frame) = refl
-
--- one from which the caller can go back
-visit_keeps : (call : CallState) (name : Name) (frame : Option Content) → Keeps call (visit_turn call name frame)
-visit_keeps call name None = refl
-visit_keeps call name (Some frame) = refl
-
--- a digit, and each other command that shows a frame
-route_keeps : (call : CallState) (view : View) (page : Option ℕ) → Keeps call (route_turn call view page)
-route_keeps call view None = refl
-route_keeps call view (Some page) = visit_keeps call (first_frame page) (view.pages (first_frame page))
-
--- a turn by a test
-by_test : (call : CallState) (test : Bool) (one other : CallState × Step) → Keeps call one → Keeps call other
-    → Keeps call (if test then one else other)
-by_test call true one other is_one is_other = is_one
-by_test call false one other is_one is_other = is_other
-
-next_keeps : (call : CallState) (view : View) (present : Option ShownFrame) → Keeps call (next_turn call view present)
-next_keeps call view None = visit_keeps call (first_frame 0) (view.pages (first_frame 0))
-next_keeps call view (Some present) =
-    let next : Name = record present.name { letter = present.name.letter + 1 } in
-    by_test call (present.name.letter == 122) (message_turn call messages.PageNotAvailable) (visit_turn call next (view.pages next)) refl
-    (visit_keeps call next (view.pages next))
-
-back_keeps : (call : CallState) (view : View) (earlier : List Name) → Keeps call (back_turn call view earlier)
-back_keeps call view [] = refl
-back_keeps call view (name ∷ earlier) = fetch_keeps (record call { earlier = earlier }) name (view.pages name)
-
-repeat_keeps : (call : CallState) (present : Option ShownFrame) → Keeps call (repeat_turn call present)
-repeat_keeps call None = refl
-repeat_keeps call (Some present) = refl
-
-fresh_keeps : (call : CallState) (view : View) (present : Option ShownFrame) → Keeps call (fresh_turn call view present)
-fresh_keeps call view None = refl
-fresh_keeps call view (Some present) = fetch_keeps call present.name (view.pages present.name)
-
--- so no command changes it
-command_keeps : (call : CallState) (view : View) (command : Command) → Keeps call (command_turn call view command)
-command_keeps call view (commands.Route digit) = route_keeps call view (route_of_digit call.present digit)
-command_keeps call view commands.Next = next_keeps call view call.present
-command_keeps call view (commands.Go page) = visit_keeps call (first_frame page) (view.pages (first_frame page))
-command_keeps call view commands.Back = back_keeps call view call.earlier
-command_keeps call view commands.Repeat = repeat_keeps call call.present
-command_keeps call view commands.Fresh = fresh_keeps call view call.present
-command_keeps call view commands.Mail = refl
-command_keeps call view commands.End = refl
-command_keeps call view commands.Cancel = refl
-command_keeps call view commands.Slip = refl
-
--- neither does a password
-log_on_keeps : (call : CallState) (caller : Option ℕ) → Keeps call (log_on_turn call caller)
-log_on_keeps call (Some account) = refl
-log_on_keeps call None = by_test call (nat_lt (call.failed + 1) TRIES) _ _ refl refl
-
--- so no entry does
-pub entry_keeps : (call : CallState) (view : View) (entry : Entry) → Keeps call (entry_turn call view entry)
-entry_keeps call view (entries.Account account) = refl
-entry_keeps call view (entries.Password password) = log_on_keeps call (known_caller call.account view.account password)
-entry_keeps call view (entries.Command command) = command_keeps call view command
+pub entry_keeps : (call : CallState) (view : View) (entry : Entry) → (entry_turn call view entry).0.entries ≡ call.entries
+entry_keeps call view entry =
+    entry_holds call.entries (λ turn. turn.0.entries ≡ call.entries) (λ _ _ is. is) (λ _ _ is. is) (λ _ _ _ is. is) (λ _ _ _ is. is)
+    (λ _ _ is. is) (λ _ _ is. is) call view entry refl
 
 -- ---- a byte that makes no entry
 

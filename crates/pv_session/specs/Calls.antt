@@ -1,7 +1,8 @@
 -- A whole call: what happens at a seat, one after another, and what is done for its caller.
-use Rattle.std.specs.Prelude.{◌≡◌, ◌≢◌, ℕ, List, [], ◌∷◌}
+use Rattle.std.specs.Prelude.{◌≡◌, ◌≢◌, ℕ, List, [], ◌∷◌, Option}
 use Rattle.pv_edits.specs.Sight.{View}
 use Rattle.pv_session.specs.declared.step.Paid.{Paid}
+use Rattle.pv_session.specs.declared.step.Paid.TheVariants.{Serial}
 use Rattle.pv_session.specs.declared.step.Phase.TheVariants.{Listening}
 use Rattle.pv_session.specs.declared.step.Step.{Step}
 use Rattle.pv_session.specs.State.{CallState}
@@ -53,3 +54,14 @@ AreStepsOfLike call [] [] [] after = call ≡ after
 AreStepsOfLike call (event ∷ events) (other ∷ others) (step ∷ steps) after =
     (next : CallState) × Happens call event next step × IsLike call next event other × AreStepsOfLike next events others steps after
 AreStepsOfLike _ _ _ _ _ = ⊥
+
+-- ---- calls with other serials
+
+-- the call with another serial, or none
+abbrev pub with_serial : CallState → Option ℕ → CallState
+with_serial call serial = record call { serial = serial }
+
+-- two events are the same, but for the serial under which a log-on was stored
+abbrev pub IsLikeButSerial : CallEvent → CallEvent → Type 0
+IsLikeButSerial (Stored (Serial serial)) (Stored (Serial other)) = Unit {0}
+IsLikeButSerial event other = event ≡ other

@@ -14,21 +14,21 @@ use Rattle.pv_session.specs.declared.step.Why.{Why}
 use Rattle.pv_session.specs.declared.step.Why.TheVariants.{Finished}
 use Rattle.pv_session.specs.declared.step.Step.{Step}
 use Rattle.pv_session.specs.declared.step.Step.TheVariants as steps
-use Rattle.pv_session.specs.Messages.{row_screen, blank_screen}
-use Rattle.pv_session.specs.Shown.{ShownFrame, frame_screen, route_of_digit, first_frame}
+use Rattle.pv_session.specs.Messages.{screen_of_row, screen_of_blank}
+use Rattle.pv_session.specs.Shown.{ShownFrame, screen_of_frame, route_of_digit, first_frame}
 use Rattle.pv_session.specs.State.{CallState}
 
 -- a message in row 24
 abbrev pub message_turn : CallState → Message → CallState × Step
-message_turn call message = (call, steps.Show (row_screen message))
+message_turn call message = (call, steps.Show (screen_of_row message))
 
 -- a message on a blank screen
 abbrev pub blank_turn : CallState → Message → CallState × Step
-blank_turn call message = (call, steps.Show (blank_screen message))
+blank_turn call message = (call, steps.Show (screen_of_blank message))
 
 -- the call is over, and a message says so
 abbrev pub ending_turn : CallState → Why → Message → CallState × Step
-ending_turn call why message = (record call { phase = Over }, steps.Ended why (row_screen message))
+ending_turn call why message = (record call { phase = Over }, steps.Ended why (screen_of_row message))
 
 -- ---- frames
 
@@ -36,7 +36,7 @@ ending_turn call why message = (record call { phase = Over }, steps.Ended why (r
 abbrev pub showing_turn : CallState → Name → Content → CallState × Step
 showing_turn call name frame =
     let present : ShownFrame = record { name = name; frame = frame } in
-    (record call { present = Some present }, steps.Show (frame_screen present))
+    (record call { present = Some present }, steps.Show (screen_of_frame present))
 
 -- a fetch: a frame that the caller may see is shown, and without one nothing changes but row 24
 abbrev pub fetch_turn : CallState → Name → Option Content → CallState × Step
@@ -76,7 +76,7 @@ back_turn call view (name ∷ earlier) = fetch_turn (record call { earlier = ear
 -- the present frame as it was shown
 abbrev pub repeat_turn : CallState → Option ShownFrame → CallState × Step
 repeat_turn call None = blank_turn call Welcome
-repeat_turn call (Some present) = (call, steps.Show (frame_screen present))
+repeat_turn call (Some present) = (call, steps.Show (screen_of_frame present))
 
 -- the present frame as it is now
 abbrev pub fresh_turn : CallState → View → Option ShownFrame → CallState × Step

@@ -29,9 +29,9 @@ unfoldable pub message_row : Message → List ℕ
 message_row message = at_left COLUMNS (message_words message)
 
 -- the screen that changes row 24 alone
-abbrev pub row_screen : Message → Screen
-row_screen message = Row (message_row message)
+abbrev pub screen_of_row : Message → Screen
+screen_of_row message = Row (message_row message)
 
 -- the screen that has the message in row 24 and is blank above it
-abbrev pub blank_screen : Message → Screen
-blank_screen message = Whole (slice_set blank_grid (ROWS - 1) (message_row message))
+abbrev pub screen_of_blank : Message → Screen
+screen_of_blank message = Whole (slice_set blank_grid (ROWS - 1) (message_row message))

@@ -14,8 +14,8 @@ pub record ShownFrame : Type 0 where
   pub frame : Content
 
 -- its screen
-abbrev pub frame_screen : ShownFrame → Screen
-frame_screen shown = Whole (composed_grid shown.frame shown.name)
+abbrev pub screen_of_frame : ShownFrame → Screen
+screen_of_frame shown = Whole (composed_grid shown.frame shown.name)
 
 -- the page to which the route of a digit leads, if a frame is shown and it has one
 abbrev pub route_of_digit : Option ShownFrame → ℕ → Option ℕ

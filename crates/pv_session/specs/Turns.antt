@@ -4,6 +4,7 @@ use Rattle.std.specs.Cmp.Lexicographic.{pointwise}
 use Rattle.pv_words.specs.Parts.{Exactly}
 use Rattle.pv_account.specs.Profile.{Profile, digest_of}
 use Rattle.pv_edits.specs.Sight.{View}
+use Rattle.pv_screen.specs.Showing.{HasCells}
 use Rattle.pv_session.specs.declared.entry.Entry.{Entry}
 use Rattle.pv_session.specs.declared.entry.Entry.TheVariants as entries
 use Rattle.pv_session.specs.declared.message.Message.TheVariants.{KeyPassword, NotKnown, CallRefused, Welcome, CallEnded, PleaseTryLater}
@@ -95,6 +96,13 @@ IsTurnIn phases.Over call byte view after step = Goes (call, steps.Quiet) after 
 -- a byte is keyed at a seat
 abbrev pub IsTurn : CallState → ℕ → View → CallState → Step → Type 0
 IsTurn call byte view after step = IsTurnIn call.phase call byte view after step
+
+-- the cells of what is sent are 0 to 127
+abbrev pub CanBeShown : Step → Type 0
+CanBeShown steps.Quiet = Unit {0}
+CanBeShown (steps.Show screen) = HasCells screen
+CanBeShown (steps.Owe wish) = Unit {0}
+CanBeShown (steps.Ended why screen) = HasCells screen
 
 -- ---- what the centre stored
 

@@ -1,9 +1,10 @@
-ghost use Rattle.std.specs.Prelude.{◌≡◌, ℕ, List, ◌++◌, flat_map};
+ghost use Rattle.std.specs.Prelude.{◌≡◌, ℕ, List, ◌++◌, flat_map, Option};
+ghost use Rattle.std.specs.List.{AllZip};
 ghost use Rattle.pv_edits.specs.Sight.{View};
 ghost use Rattle.pv_session.specs.declared.step.Step.{Step};
 ghost use Rattle.pv_session.specs.State.{CallState};
 ghost use Rattle.pv_session.specs.Turns.{IsTurn};
-ghost use Rattle.pv_session.specs.Calls.{CallEvent, AreSteps, AreStepsOfLike, AreWaiting};
+ghost use Rattle.pv_session.specs.Calls.{CallEvent, AreSteps, AreStepsOfLike, AreWaiting, with_serial, IsLikeButSerial};
 ghost use Rattle.pv_session.specs.Entries.{mode_keys};
 
 /// A law: what comes of a byte that makes no entry does not depend on what the caller may see.
@@ -33,4 +34,11 @@ pub fn sights_count_at_entries()
 pub fn keys_are_kept_until_they_make_an_entry()
     ensures { (bytes : List ℕ) (call after : CallState) → AreWaiting call bytes after →
         (after.mode ≡ call.mode) × (after.keyed ≡ call.keyed ++ flat_map (mode_keys call.mode) bytes) }
+{}
+
+/// A law: serials change no screen. Two calls whose log-ons were stored under different serials have the same steps.
+pub fn serials_change_no_screen()
+    ensures { (events others : List CallEvent) (call after : CallState) (serial : Option ℕ) (steps : List Step) →
+        AllZip IsLikeButSerial events others → AreSteps call events steps after →
+        (end : Option ℕ) × AreSteps (with_serial call serial) others steps (with_serial after end) }
 {}

@@ -37,7 +37,10 @@ mod seat;
 mod step;
 
 pub use entry::Entry;
-pub use law::{byte_without_entry_reads_no_sight, screens_are_a_function, sights_count_at_entries};
+pub use law::{
+    byte_without_entry_reads_no_sight, keys_are_kept_until_they_make_an_entry,
+    screens_are_a_function, serials_change_no_screen, sights_count_at_entries,
+};
 pub use message::Message;
 pub use seat::{MAX_BYTES, MAX_ENTRIES, Seat, TRIES};
 pub use step::{Paid, Phase, Step, Why, Wish};

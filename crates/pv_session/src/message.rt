@@ -1,6 +1,7 @@
 ghost use Rattle.std.specs.Prelude.{◌≡◌, ◌≤◌, length, All};
 ghost use Rattle.pv_cells.specs.Row.{IsCell};
-ghost use Rattle.pv_session.specs.Messages.{message_words, message_row, row_screen, blank_screen};
+ghost use Rattle.pv_screen.specs.Showing.{HasCells};
+ghost use Rattle.pv_session.specs.Messages.{message_words, message_row, screen_of_row, screen_of_blank};
 
 use pv_screen::codes::SPACE;
 use pv_screen::{COLUMNS, Grid, ROWS, Screen};
@@ -72,14 +73,15 @@ impl Message {
 
     /// The screen that shows it and leaves the rows above as they are.
     pub(crate) fn alone(self) -> Screen
-        ensures { result ≡ row_screen self }
+        ensures value { result ≡ screen_of_row self }
+        ensures cells { HasCells result }
     {
         Screen::Row(self.row())
     }
 
     /// The screen that shows it and nothing else.
     pub(crate) fn on_blank(self) -> Screen
-        ensures { result ≡ blank_screen self }
+        ensures { result ≡ screen_of_blank self }
     {
         let mut grid = Grid::blank();
         grid.set_row(ROWS as u8, &self.row());

@@ -27,7 +27,7 @@ impl Model for Present {
 }
 
 impl Present {
-    ghost use Rattle.pv_session.specs.Shown.{frame_screen, route_of_digit};
+    ghost use Rattle.pv_session.specs.Shown.{screen_of_frame, route_of_digit};
 
     /// A frame that was fetched.
     pub(crate) fn new(name: FrameName, frame: &Frame) -> Present
@@ -56,7 +56,7 @@ impl Present {
 
     /// Its screen.
     pub(crate) fn screen(&self) -> Screen
-        ensures { result ≡ frame_screen self.now }
+        ensures { result ≡ screen_of_frame self.now }
     {
         Screen::Whole(compose(&self.frame, self.name))
     }

@@ -44,16 +44,16 @@ pub struct Seat {
 impl Seat {
     ghost use Rattle.pv_edits.specs.Sight.{view_of};
     ghost use Rattle.pv_session.specs.Fetching.{ending_turn};
-    ghost use Rattle.pv_session.specs.Messages.{blank_screen};
+    ghost use Rattle.pv_session.specs.Messages.{screen_of_blank};
     ghost use Rattle.pv_session.specs.Seat.{state_of};
     ghost use Rattle.pv_session.specs.State.{new_call, is_owing};
-    ghost use Rattle.pv_session.specs.Turns.{IsTurn, Listens, Hears, Goes, storing_turn, full_turn};
+    ghost use Rattle.pv_session.specs.Turns.{IsTurn, CanBeShown, Listens, Hears, Goes, storing_turn, full_turn};
     ghost use Rattle.pv_session.specs.Turns.{failure_turn, log_on_turn, entry_turn, is_spent};
 
     /// A call that begins, and its first screen, which asks for the account.
     pub fn dial() -> (Seat, Screen)
         ensures seat { state_of result.0 ≡ new_call }
-        ensures screen { result.1 ≡ blank_screen Message.KeyAccount }
+        ensures screen { result.1 ≡ screen_of_blank Message.KeyAccount }
     {
         let seat = Seat {
             phase: Phase::Listening,
@@ -72,7 +72,10 @@ impl Seat {
     /// Takes a byte. The sight is that of [`Seat::account`]. A seat that owes something or whose call is over takes no
     /// byte, and returns [`Step::Quiet`].
     pub fn key(&mut self, byte: u8, sight: &Sight) -> Step
-        ensures { IsTurn (state_of self.old) byte (view_of sight.now) (state_of self.new) result }
+        ensures turn { IsTurn (state_of self.old) byte (view_of sight.now) (state_of self.new) result }
+
+        // A screen that is sent can be shown.
+        ensures cells { CanBeShown result }
     {
         match self.phase {
             Phase::Listening => self.listen(byte, sight),
@@ -82,7 +85,9 @@ impl Seat {
 
     /// Goes on after the centre stored what the seat owes. If it owes nothing, nothing changes.
     pub fn paid(&mut self, reply: Paid) -> Step
-        ensures { Goes (storing_turn (state_of self.old) (state_of self.old).phase reply) (state_of self.new) result }
+        ensures turn { Goes (storing_turn (state_of self.old) (state_of self.old).phase reply)
+            (state_of self.new) result }
+        ensures cells { CanBeShown result }
     {
         match (self.phase, reply) {
             (Phase::Owing(Wish::LogOn(_)), Paid::Serial(serial)) => {
@@ -98,7 +103,9 @@ impl Seat {
     /// Ends the call, since the centre is full and does not store what the seat owes. If it owes nothing, nothing
     /// changes.
     pub fn turned_away(&mut self) -> Step
-        ensures { Goes (full_turn (state_of self.old) (state_of self.old).phase) (state_of self.new) result }
+        ensures turn { Goes (full_turn (state_of self.old) (state_of self.old).phase)
+            (state_of self.new) result }
+        ensures cells { CanBeShown result }
     {
         match self.phase {
             Phase::Owing(_) => self.end(Why::Full, Message::PleaseTryLater),
@@ -170,7 +177,8 @@ impl Seat {
 
     /// Ends the call with a message.
     fn end(&mut self, why: Why, message: Message) -> Step
-        ensures { Goes (ending_turn (state_of self.old) why message) (state_of self.new) result }
+        ensures turn { Goes (ending_turn (state_of self.old) why message) (state_of self.new) result }
+        ensures cells { CanBeShown result }
     {
         self.phase = Phase::Over;
         Step::Ended(why, message.alone())

@@ -40,8 +40,8 @@ impl Seat {
 
     /// Follows the present frame's route of a digit.
     fn route(&mut self, digit: u8, sight: &Sight) -> Step
-        ensures { Goes (route_turn (state_of self.old) (view_of sight.now) (route_of_digit (state_of self.old).present digit))
-            (state_of self.new) result }
+        ensures { Goes (route_turn (state_of self.old) (view_of sight.now)
+            (route_of_digit (state_of self.old).present digit)) (state_of self.new) result }
     {
         match self.route_of(digit) {
             Some(page) => self.go(first_frame(page), sight),
