@@ -1,4 +1,5 @@
 pub mod Calling
+pub mod Carried
 pub mod Carrying
 pub mod Counts
 pub mod Facts

@@ -12,7 +12,7 @@ use Rattle.pv_session.specs.declared.step.Phase.TheVariants.{Listening, Owing, O
 use Rattle.pv_session.specs.declared.step.Step.{Step}
 use Rattle.pv_session.specs.declared.step.Step.TheVariants as steps
 use Rattle.pv_session.specs.declared.message.Message.TheVariants.{KeyAccount}
-use Rattle.pv_session.specs.Messages.{blank_screen}
+use Rattle.pv_session.specs.Messages.{screen_of_blank}
 use Rattle.pv_session.specs.State.{CallState, is_owing}
 use Rattle.pv_session.specs.Turns.{full_turn, storing_turn}
 use Rattle.pv_network.specs.declared.event.Event.{Event}
@@ -532,7 +532,7 @@ call_stretch w c p (Some call) (step ∷ steps) is are =
 
 -- a call begins at a port that is free
 pub dial_begins : (w : World) (c p : ℕ) → call_at w c p ≡ None → c < length w.centres → p < length (calls_at w c).ports
-    → ((step_of_dial w c p).1 ≡ outcomes.Shown (record { screen = blank_screen KeyAccount; ended = None }))
+    → ((step_of_dial w c p).1 ≡ outcomes.Shown (record { screen = screen_of_blank KeyAccount; ended = None }))
     × (call_at (step_of_dial w c p).0 c p ≡ Some first_call)
 dial_begins w c p is there port =
     let new = with_call (calls_at w c) p (Some first_call) in

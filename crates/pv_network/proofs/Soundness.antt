@@ -415,7 +415,7 @@ sound_ack_back w c None sound = sound
 sound_ack_back w c (Some index) sound = sound_back w c index sound
 
 -- a sound world stays sound after a round
-sound_round : (w : World) (c : ℕ) → IsSound w → IsSound (step_of_round w c).0
+pub sound_round : (w : World) (c : ℕ) → IsSound w → IsSound (step_of_round w c).0
 sound_round w c sound = numbered (number_to_send (link_at w c).sending (length w.update.records))
   where
     sent : (v : World) (outcome : Outcome) (packet : Option ℕ) → IsSound v → IsSound (round_of_send v c outcome packet).0
