@@ -39,7 +39,8 @@ module _ (s : State) (w : World) (stands : StandsFor s w) (c : ℕ) (here : Held
         → Does (step (calls_at w c))
     does step comes sound =
         let same : step here.calls ≡ step (calls_at w c) = ap step calls_there in (
-          subst (λ (held : Held). StandsFor (record s { centres = set s.centres c held }) (at_calls w c (step (calls_at w c))).0) (sym comes.after)
+          subst (λ (held : Held). StandsFor (record s { centres = set s.centres c held }) (at_calls w c (step (calls_at w c))).0)
+              (sym comes.after)
               (centre_replaced s w stands c (record here { calls = (step here.calls).0 })
               (record (centre_at w c) { calls = (step (calls_at w c)).0 })
               (record {

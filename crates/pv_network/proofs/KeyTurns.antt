@@ -39,7 +39,8 @@ pub entry_turns : (seat : CallState) (byte : ℕ) (view : View) (entry : Option 
 entry_turns seat byte view entry says = by seat.phase says
   where
     listens : (spent : Bool) → IsEntryUnless spent seat byte entry
-        → Listens spent seat byte view (cond spent (ending_turn seat Spent CallEnded) (byte_turn seat byte view entry)).0 (cond spent (ending_turn seat Spent CallEnded) (byte_turn seat byte view entry)).1
+        → Listens spent seat byte view (cond spent (ending_turn seat Spent CallEnded) (byte_turn seat byte view entry)).0
+        (cond spent (ending_turn seat Spent CallEnded) (byte_turn seat byte view entry)).1
     listens true says = record { after_is = refl; step_is = refl }
     listens false says = record { entry = entry; says = says; goes = record { after_is = refl; step_is = refl } }
 

@@ -42,7 +42,8 @@ module _ (c port : ℕ) (w : World) (new : State) (outcome : Outcome) where
     -- what is owed for the key is paid
     pub key_paid : (pressed : Outcome) → pressed ≡ (step_of_press w c port byte entry).1 → is_owes pressed ≡ true
         → Done (step_of_payment (step_of_press w c port byte entry).0 c port) → Done (step_of_key w c port this)
-    key_paid pressed is test done = let here : is_owes (step_of_press w c port byte entry).1 ≡ true = ap is_owes (sym is) ∙ test in rw here done
+    key_paid pressed is test done = let here : is_owes (step_of_press w c port byte entry).1 ≡ true = ap is_owes
+        (sym is) ∙ test in rw here done
 
     -- nothing is owed for it
     pub key_free : outcome ≡ (step_of_press w c port byte entry).1 → is_owes outcome ≡ false
@@ -62,7 +63,8 @@ hexadecimal_shorter [] byte rest is = absurd cc
 hexadecimal_shorter (high ∷ []) byte rest is = absurd cc
 hexadecimal_shorter (high ∷ low ∷ text) byte rest is = by _ is
   where
-    by : (test : Bool) → some_if {X = ℕ × List ℕ} test (16 * digit_value high + digit_value low, text) ≡ Some (byte, rest) → length rest < length (high ∷ low ∷ text)
+    by : (test : Bool) → some_if {X = ℕ × List ℕ} test (16 * digit_value high + digit_value low, text) ≡ Some (byte, rest)
+        → length rest < length (high ∷ low ∷ text)
     by true found = omega (arith, ap (λ (l : List ℕ). length l) (ap rest_in found))
     by false found = absurd cc
 
@@ -179,7 +181,8 @@ module _ (c port : ℕ) (text : List ℕ) (before : List Turn) (first : World) w
     module _ (byte : ℕ) (entry : Option Entry) (later : List ℕ) (new : State) (outcome : Outcome) (after : List Turn)
         (read : notation_at rest ≡ Some (byte, later)) (says : IsEntryOf (call_at p.world c port) byte entry)
         (stands : StandsFor new (step_of_key p.world c port (record { byte = byte; entry = entry })).0)
-        (is : outcome ≡ (step_of_key p.world c port (record { byte = byte; entry = entry })).1) (added : after ≡ turns ++ screens_in outcome) where
+        (is : outcome ≡ (step_of_key p.world c port (record { byte = byte; entry = entry })).1)
+        (added : after ≡ turns ++ screens_in outcome) where
       -- the key
       abbrev key : KeyedByte
       key = record { byte = byte; entry = entry }
@@ -204,15 +207,19 @@ module _ (c port : ℕ) (text : List ℕ) (before : List Turn) (first : World) w
       pub taken_more : is_over outcome ≡ false → Taken later new after
       taken_more goes_on =
           let here : is_over (step_of_key p.world c port key).1 ≡ false = ap is_over (sym is) ∙ goes_on in
-          let assoc : (more : List KeyedByte) → (p.done ++ key ∷ []) ++ more ≡ p.done ++ key ∷ more = λ more. append_assoc p.done (key ∷ []) more in
+          let assoc : (more : List KeyedByte)
+          → (p.done ++ key ∷ []) ++ more ≡ p.done ++ key ∷ more = λ more. append_assoc p.done (key ∷ []) more in
           record {
             done = p.done ++ key ∷ [];
             world = next;
             stands = stands;
             later = next_read rest p.later.0 byte later p.later.1 read;
-            reads = λ more reads. subst (λ (keys : List KeyedByte). ReadsAs text (bytes_of keys)) (sym (assoc more)) (p.reads (key ∷ more) (later, read, reads));
-            keyed = λ more are. subst (λ (keys : List KeyedByte). AreKeyed first c port keys) (sym (assoc more)) (p.keyed (key ∷ more) (says, rw here are));
-            worlds = λ more. ap (λ (keys : List KeyedByte). (keys_from first c port keys).0) (assoc more) ∙ p.worlds (key ∷ more) ∙ rw here refl;
+            reads = λ more reads. subst (λ (keys : List KeyedByte). ReadsAs text (bytes_of keys)) (sym (assoc more))
+                (p.reads (key ∷ more) (later, read, reads));
+            keyed = λ more are. subst (λ (keys : List KeyedByte). AreKeyed first c port keys) (sym (assoc more))
+                (p.keyed (key ∷ more) (says, rw here are));
+            worlds = λ more. ap (λ (keys : List KeyedByte). (keys_from first c port keys).0) (assoc more) ∙ p.worlds
+                (key ∷ more) ∙ rw here refl;
             shown = λ more.
                 let rest_turns = (keys_from next c port more).1 in
                 ap (λ (keys : List KeyedByte). before ++ (keys_from first c port keys).1) (assoc more) ∙ p.shown (key ∷ more)

@@ -76,7 +76,8 @@ steps_append seat middle after (event ∷ one) two (step ∷ ones) twos (next, h
 turns_append : (ones twos : List Step) → steps_turns (ones ++ twos) ≡ steps_turns ones ++ steps_turns twos
 turns_append [] twos = refl
 turns_append (step ∷ ones) twos =
-    ap (λ (l : List Turn). step_turns step ++ l) (turns_append ones twos) ∙ sym (append_assoc (step_turns step) (steps_turns ones) (steps_turns twos))
+    ap (λ (l : List Turn). step_turns step ++ l) (turns_append ones twos) ∙ sym
+    (append_assoc (step_turns step) (steps_turns ones) (steps_turns twos))
 
 -- one stretch after another
 stretch_on : (call middle next : Option Call) (one two : List CallEvent) (ones twos : List Turn)
@@ -86,7 +87,8 @@ stretch_on None (Some middle) next one two ones twos (a, b, c) second = absurd c
 stretch_on (Some call) None next one two ones twos first (d, e, f) = record {
   steps = first.steps;
   after = first.after;
-  are = subst (λ (l : List CallEvent). AreSteps call.seat l first.steps first.after) (sym (ap (λ (l : List CallEvent). one ++ l) d ∙ append-nil one)) first.are;
+  are = subst (λ (l : List CallEvent). AreSteps call.seat l first.steps first.after)
+      (sym (ap (λ (l : List CallEvent). one ++ l) d ∙ append-nil one)) first.are;
   shown = ap (λ (l : List Turn). ones ++ l) e ∙ append-nil ones ∙ first.shown;
   left = subst (λ (n : Option Call). SeatOf n first.after) (sym f) tt;
 }
@@ -101,16 +103,45 @@ stretch_on (Some call) (Some middle) next one two ones twos first second = recor
 }
 
 -- a stretch that ends is one before nothing
-stretch_end : (call next : Option Call) (one : List CallEvent) (ones : List Turn) → Stretch call one ones next → Stretch call (one ++ []) ones next
+stretch_end : (call next : Option Call) (one : List CallEvent) (ones : List Turn) → Stretch call one ones next
+    → Stretch call (one ++ []) ones next
 stretch_end call next one ones first = subst (λ (l : List CallEvent). Stretch call l ones next) (sym (append-nil one)) first
 
 -- a turn of the seat
 turn_goes : (seat : CallState) (event : CallEvent) (after : CallState) (step : Step) → Happens seat event after step
     → Goes seat (event ∷ []) (screens_in (step_answer step)) (call_after after step)
-turn_goes seat event after steps.Quiet happened = record { steps = steps.Quiet ∷ []; after = after; are = (after, happened, refl); shown = refl; left = refl }
-turn_goes seat event after (steps.Show screen) happened = record { steps = steps.Show screen ∷ []; after = after; are = (after, happened, refl); shown = refl; left = refl }
-turn_goes seat event after (steps.Owe wish) happened = record { steps = steps.Owe wish ∷ []; after = after; are = (after, happened, refl); shown = refl; left = refl }
-turn_goes seat event after (steps.Ended why screen) happened = record { steps = steps.Ended why screen ∷ []; after = after; are = (after, happened, refl); shown = refl; left = tt }
+turn_goes seat event after steps.Quiet happened = record {
+  steps = steps.Quiet ∷ [];
+  after = after;
+  are =
+      (after, happened, refl);
+  shown = refl;
+  left = refl;
+}
+turn_goes seat event after (steps.Show screen) happened = record {
+  steps = steps.Show screen ∷ [];
+  after = after;
+  are =
+      (after, happened, refl);
+  shown = refl;
+  left = refl;
+}
+turn_goes seat event after (steps.Owe wish) happened = record {
+  steps = steps.Owe wish ∷ [];
+  after = after;
+  are =
+      (after, happened, refl);
+  shown = refl;
+  left = refl;
+}
+turn_goes seat event after (steps.Ended why screen) happened = record {
+  steps = steps.Ended why screen ∷ [];
+  after = after;
+  are =
+      (after, happened, refl);
+  shown = refl;
+  left = tt;
+}
 
 -- a full centre ends the call
 full_goes : (seat : CallState) (phase : Phase) (count : ℕ) → seat.phase ≡ phase → is_owing phase ≡ true
@@ -192,7 +223,8 @@ module _ (w : World) (c p : ℕ) where
   nothing_done call is = unchanged call _ (ap (λ (v : World). call_at v c p) calls_same ∙ is)
 
   -- another call, or none, is there next
-  next_is : (call : Call) → call_at w c p ≡ Some call → (next : Option Call) → call_at (with_calls w c (with_call (calls_at w c) p next)) c p ≡ next
+  next_is : (call : Call) → call_at w c p ≡ Some call → (next : Option Call)
+      → call_at (with_calls w c (with_call (calls_at w c) p next)) c p ≡ next
   next_is call is next = calls_here w c p call is (with_call (calls_at w c) p next) ∙ call_here w c p call is next
 
   press_stretch : (key : ℕ) (entry : Option Entry) (call : Option Call) → call_at w c p ≡ call → IsEntryOf call key entry
@@ -203,8 +235,10 @@ module _ (w : World) (c p : ℕ) where
     where
       by : (waiting : Bool) → IsEntryUnlessWaiting waiting call key entry
           → Stretch (Some call) (cond waiting [] (Keyed key (view_at w c p) ∷ []))
-          (screens_in (cond waiting (calls_at w c, outcomes.Owing) (turn_at (calls_at w c) p (key_turn call.seat key (view_at w c p) entry))).1)
-          (call_at (with_calls w c (cond waiting (calls_at w c, outcomes.Owing) (turn_at (calls_at w c) p (key_turn call.seat key (view_at w c p) entry))).0) c p)
+          (screens_in (cond waiting (calls_at w c, outcomes.Owing)
+          (turn_at (calls_at w c) p (key_turn call.seat key (view_at w c p) entry))).1)
+          (call_at (with_calls w c (cond waiting (calls_at w c, outcomes.Owing)
+          (turn_at (calls_at w c) p (key_turn call.seat key (view_at w c p) entry))).0) c p)
       by true waits = nothing_done (Some call) is
       by false said =
           let turn = key_turn call.seat key (view_at w c p) entry in
@@ -222,7 +256,8 @@ module _ (w : World) (c p : ℕ) where
           → Stretch (Some call) (cond is_full (Refused ∷ []) []) (screens_in (storing_at is_full count (calls_at w c) p call).1)
           (call_at (with_calls w c (storing_at is_full count (calls_at w c) p call).0) c p)
       full true owing =
-          subst (λ (next : Option Call). Goes call.seat (Refused ∷ []) (screens_in (away_answer count (full_turn call.seat call.seat.phase).1)) next)
+          subst (λ (next : Option Call). Goes call.seat (Refused ∷ [])
+          (screens_in (away_answer count (full_turn call.seat call.seat.phase).1)) next)
           (sym (next_is call is None)) (full_goes call.seat call.seat.phase count refl owing)
       full false owing =
           let there = calls_here w c p call is (with_log_on (calls_at w c) p call) ∙ call_here w c p call is _ in
@@ -237,7 +272,8 @@ module _ (w : World) (c p : ℕ) where
       by false how = nothing_done (Some call) is
 
   show_stretch : (call : Option Call) → call_at w c p ≡ call
-      → Stretch call (show_events call) (screens_in (show_at (calls_at w c) p call).1) (call_at (with_calls w c (show_at (calls_at w c) p call).0) c p)
+      → Stretch call (show_events call) (screens_in (show_at (calls_at w c) p call).1)
+      (call_at (with_calls w c (show_at (calls_at w c) p call).0) c p)
   show_stretch None is = nothing_done None is
   show_stretch (Some call) is = by call.stored
     where
@@ -251,21 +287,26 @@ module _ (w : World) (c p : ℕ) where
           (turn_goes call.seat (Stored reply) turn.0 turn.1 (record { after_is = refl; step_is = refl }))
 
 -- a payment
-payment_stretch : (w : World) (c p : ℕ) → Stretch (call_at w c p) (payment_events w c p) (screens_in (step_of_payment w c p).1) (call_at (step_of_payment w c p).0 c p)
+payment_stretch : (w : World) (c p : ℕ)
+    → Stretch (call_at w c p) (payment_events w c p) (screens_in (step_of_payment w c p).1) (call_at (step_of_payment w c p).0 c p)
 payment_stretch w c p = by (is_stored (step_of_store w c p).1) refl
   where
-    first : Stretch (call_at w c p) (store_events (is_full_at w c) (call_at w c p)) (screens_in (step_of_store w c p).1) (call_at (step_of_store w c p).0 c p)
+    first : Stretch (call_at w c p) (store_events (is_full_at w c) (call_at w c p)) (screens_in (step_of_store w c p).1)
+        (call_at (step_of_store w c p).0 c p)
     first = store_stretch w c p (is_full_at w c) (record_count (centre_at w c)) (call_at w c p) refl
 
     by : (stored : Bool) → is_stored (step_of_store w c p).1 ≡ stored
-        → Stretch (call_at w c p) (store_events (is_full_at w c) (call_at w c p) ++ cond stored (show_events (call_at (step_of_store w c p).0 c p)) [])
+        → Stretch (call_at w c p) (store_events (is_full_at w c) (call_at w c p) ++ cond stored
+        (show_events (call_at (step_of_store w c p).0 c p)) [])
         (screens_in (cond stored (step_of_show (step_of_store w c p).0 c p) (step_of_store w c p)).1)
         (call_at (cond stored (step_of_show (step_of_store w c p).0 c p) (step_of_store w c p)).0 c p)
     by true is =
         let v = (step_of_store w c p).0 in
-        let both = stretch_on (call_at w c p) (call_at v c p) (call_at (step_of_show v c p).0 c p) _ (show_events (call_at v c p)) _ (screens_in (step_of_show v c p).1) first
+        let both = stretch_on (call_at w c p) (call_at v c p) (call_at (step_of_show v c p).0 c p) _ (show_events (call_at v c p)) _
+        (screens_in (step_of_show v c p).1) first
         (show_stretch v c p (call_at v c p) refl) in
-        subst (λ (l : List Turn). Stretch (call_at w c p) (store_events (is_full_at w c) (call_at w c p) ++ show_events (call_at v c p)) (l ++ screens_in (step_of_show v c p).1) (call_at (step_of_show v c p).0 c p))
+        subst (λ (l : List Turn). Stretch (call_at w c p) (store_events (is_full_at w c) (call_at w c p) ++ show_events (call_at v c p))
+        (l ++ screens_in (step_of_show v c p).1) (call_at (step_of_show v c p).0 c p))
         (stored_nothing_shown (step_of_store w c p).1 is) both
     by false is = stretch_end (call_at w c p) _ _ _ first
 
@@ -274,18 +315,23 @@ key_stretch : (w : World) (c p : ℕ) (key : KeyedByte) → IsEntryOf (call_at w
     → Stretch (call_at w c p) (key_events w c p key) (screens_in (step_of_key w c p key).1) (call_at (step_of_key w c p key).0 c p)
 key_stretch w c p key says = by (is_owes (step_of_press w c p key.byte key.entry).1) refl
   where
-    first : Stretch (call_at w c p) (press_events (view_at w c p) key.byte (call_at w c p)) (screens_in (step_of_press w c p key.byte key.entry).1) (call_at (step_of_press w c p key.byte key.entry).0 c p)
+    first : Stretch (call_at w c p) (press_events (view_at w c p) key.byte (call_at w c p))
+        (screens_in (step_of_press w c p key.byte key.entry).1) (call_at (step_of_press w c p key.byte key.entry).0 c p)
     first = press_stretch w c p key.byte key.entry (call_at w c p) refl says
 
     by : (owes : Bool) → is_owes (step_of_press w c p key.byte key.entry).1 ≡ owes
-        → Stretch (call_at w c p) (press_events (view_at w c p) key.byte (call_at w c p) ++ cond owes (payment_events (step_of_press w c p key.byte key.entry).0 c p) [])
+        → Stretch (call_at w c p) (press_events (view_at w c p) key.byte (call_at w c p) ++ cond owes
+        (payment_events (step_of_press w c p key.byte key.entry).0 c p) [])
         (screens_in (cond owes (step_of_payment (step_of_press w c p key.byte key.entry).0 c p) (step_of_press w c p key.byte key.entry)).1)
-        (call_at (cond owes (step_of_payment (step_of_press w c p key.byte key.entry).0 c p) (step_of_press w c p key.byte key.entry)).0 c p)
+        (call_at (cond owes (step_of_payment (step_of_press w c p key.byte key.entry).0 c p)
+        (step_of_press w c p key.byte key.entry)).0 c p)
     by true is =
         let v = (step_of_press w c p key.byte key.entry).0 in
-        let both = stretch_on (call_at w c p) (call_at v c p) (call_at (step_of_payment v c p).0 c p) _ (payment_events v c p) _ (screens_in (step_of_payment v c p).1) first
+        let both = stretch_on (call_at w c p) (call_at v c p) (call_at (step_of_payment v c p).0 c p) _ (payment_events v c p) _
+        (screens_in (step_of_payment v c p).1) first
         (payment_stretch v c p) in
-        subst (λ (l : List Turn). Stretch (call_at w c p) (press_events (view_at w c p) key.byte (call_at w c p) ++ payment_events v c p) (l ++ screens_in (step_of_payment v c p).1) (call_at (step_of_payment v c p).0 c p))
+        subst (λ (l : List Turn). Stretch (call_at w c p) (press_events (view_at w c p) key.byte (call_at w c p) ++ payment_events v c p)
+        (l ++ screens_in (step_of_payment v c p).1) (call_at (step_of_payment v c p).0 c p))
         (owes_nothing_shown (step_of_press w c p key.byte key.entry).1 is) both
     by false is = stretch_end (call_at w c p) _ _ _ first
 
@@ -293,17 +339,27 @@ key_stretch w c p key says = by (is_owes (step_of_press w c p key.byte key.entry
 keys_stretch : (w : World) (c p : ℕ) (keys : List KeyedByte) → AreKeyed w c p keys
     → Stretch (call_at w c p) (keys_events w c p keys) (keys_from w c p keys).1 (call_at (keys_from w c p keys).0 c p)
 keys_stretch w c p [] are = stays (call_at w c p)
-keys_stretch w c p (key ∷ keys) are = by (is_over (step_of_key w c p key).1) are.1 (λ more. keys_stretch (step_of_key w c p key).0 c p keys more)
+keys_stretch w c p (key ∷ keys) are = by (is_over (step_of_key w c p key).1) are.1
+    (λ more. keys_stretch (step_of_key w c p key).0 c p keys more)
   where
     first : Stretch (call_at w c p) (key_events w c p key) (screens_in (step_of_key w c p key).1) (call_at (step_of_key w c p key).0 c p)
     first = key_stretch w c p key are.0
 
     by : (over : Bool) → UnlessOver over (AreKeyed (step_of_key w c p key).0 c p keys)
         → (AreKeyed (step_of_key w c p key).0 c p keys
-        → Stretch (call_at (step_of_key w c p key).0 c p) (keys_events (step_of_key w c p key).0 c p keys) (keys_from (step_of_key w c p key).0 c p keys).1 (call_at (keys_from (step_of_key w c p key).0 c p keys).0 c p))
+        → Stretch (call_at (step_of_key w c p key).0 c p) (keys_events (step_of_key w c p key).0 c p keys)
+        (keys_from (step_of_key w c p key).0 c p keys).1 (call_at (keys_from (step_of_key w c p key).0 c p keys).0 c p))
         → Stretch (call_at w c p) (key_events w c p key ++ cond over [] (keys_events (step_of_key w c p key).0 c p keys))
-        (cond {A = World × List Turn} over ((step_of_key w c p key).0, screens_in (step_of_key w c p key).1) ((keys_from (step_of_key w c p key).0 c p keys).0, screens_in (step_of_key w c p key).1 ++ (keys_from (step_of_key w c p key).0 c p keys).1)).1
-        (call_at (cond {A = World × List Turn} over ((step_of_key w c p key).0, screens_in (step_of_key w c p key).1) ((keys_from (step_of_key w c p key).0 c p keys).0, screens_in (step_of_key w c p key).1 ++ (keys_from (step_of_key w c p key).0 c p keys).1)).0 c p)
+        (cond {A = World × List Turn} over ((step_of_key w c p key).0, screens_in (step_of_key w c p key).1) (
+          (keys_from (step_of_key w c p key).0 c p keys).0,
+          screens_in (step_of_key w c p key).1 ++
+              (keys_from (step_of_key w c p key).0 c p keys).1,
+        )).1
+        (call_at (cond {A = World × List Turn} over ((step_of_key w c p key).0, screens_in (step_of_key w c p key).1) (
+          (keys_from (step_of_key w c p key).0 c p keys).0,
+          screens_in (step_of_key w c p key).1 ++
+              (keys_from (step_of_key w c p key).0 c p keys).1,
+        )).0 c p)
     by true more rest = stretch_end (call_at w c p) _ _ _ first
     by false more rest = stretch_on (call_at w c p) (call_at (step_of_key w c p key).0 c p) _ _ _ _ _ first (rest more)
 
@@ -323,11 +379,14 @@ refusal_turns (Some call) outcome is = by (is_waiting call) is
 -- keys at a port
 taken_stretch : (w : World) (c p : ℕ) (keys : List KeyedByte) (refusal : Option Outcome) → keys_refusal (call_at w c p) ≡ refusal
     → UnlessOver (is_some refusal) (AreKeyed w c p keys)
-    → Stretch (call_at w c p) (taken_events w c p keys refusal) (turns_in (step_of_taken_keys w c p keys refusal).1) (call_at (step_of_taken_keys w c p keys refusal).0 c p)
+    → Stretch (call_at w c p) (taken_events w c p keys refusal) (turns_in (step_of_taken_keys w c p keys refusal).1)
+    (call_at (step_of_taken_keys w c p keys refusal).0 c p)
 taken_stretch w c p keys (Some outcome) is are =
-    subst (λ (l : List Turn). Stretch (call_at w c p) [] l (call_at w c p)) (sym (refusal_turns (call_at w c p) outcome is)) (stays (call_at w c p))
+    subst (λ (l : List Turn). Stretch (call_at w c p) [] l (call_at w c p)) (sym (refusal_turns (call_at w c p) outcome is))
+    (stays (call_at w c p))
 taken_stretch w c p keys None is are =
-    subst (λ (l : List Turn). Stretch (call_at w c p) (keys_events w c p keys) l (call_at (keys_from w c p keys).0 c p)) (sym (answer_turns (keys_from w c p keys).1))
+    subst (λ (l : List Turn). Stretch (call_at w c p) (keys_events w c p keys) l (call_at (keys_from w c p keys).0 c p))
+    (sym (answer_turns (keys_from w c p keys).1))
     (keys_stretch w c p keys are)
 
 -- ---- an event
@@ -342,7 +401,8 @@ other_port centre port c p is one two = grind (arith, nat_tests, is, one, two)
 by_port : (w : World) (c p centre port : ℕ) (here : ℕ → ℕ → World × Outcome) (shown : Outcome → List Turn) (happened : List CallEvent)
     → (centre ≡ c → port ≡ p → Stretch (call_at w c p) happened (shown (here c p).1) (call_at (here c p).0 c p))
     → ((centre ≡ c → port ≡ p → ⊥) → call_at (here centre port).0 c p ≡ call_at w c p)
-    → Stretch (call_at w c p) (cond (is_same_port centre port c p) happened []) (cond (is_same_port centre port c p) (shown (here centre port).1) [])
+    → Stretch (call_at w c p) (cond (is_same_port centre port c p) happened [])
+    (cond (is_same_port centre port c p) (shown (here centre port).1) [])
     (call_at (here centre port).0 c p)
 by_port w c p centre port here shown happened at elsewhere = by (is_same_port centre port c p) refl
   where
@@ -351,7 +411,8 @@ by_port w c p centre port here shown happened at elsewhere = by (is_same_port ce
     by true is =
         let place = same_port centre port c p is in
         subst (λ (n : ℕ). Stretch (call_at w c p) happened (shown (here n port).1) (call_at (here n port).0 c p)) (sym place.0)
-        (subst (λ (m : ℕ). Stretch (call_at w c p) happened (shown (here c m).1) (call_at (here c m).0 c p)) (sym place.1) (at place.0 place.1))
+        (subst (λ (m : ℕ). Stretch (call_at w c p) happened (shown (here c m).1) (call_at (here c m).0 c p)) (sym place.1)
+        (at place.0 place.1))
     by false is = unchanged (call_at w c p) _ (elsewhere (other_port centre port c p is))
 
 module _ (w : World) (c p centre port : ℕ) (other : centre ≡ c → port ≡ p → ⊥) where
@@ -376,7 +437,9 @@ module _ (w : World) (c p centre port : ℕ) (other : centre ≡ c → port ≡ 
   press_elsewhere key view entry None = kept_calls
   press_elsewhere key view entry (Some call) = by (is_waiting call)
     where
-      by : (waiting : Bool) → call_at (with_calls w centre (cond waiting (calls_at w centre, outcomes.Owing) (turn_at (calls_at w centre) port (key_turn call.seat key view entry))).0) c p ≡ call_at w c p
+      by : (waiting : Bool)
+          → call_at (with_calls w centre (cond waiting (calls_at w centre, outcomes.Owing)
+          (turn_at (calls_at w centre) port (key_turn call.seat key view entry))).0) c p ≡ call_at w c p
       by true = kept_calls
       by false = changed_call _
 
@@ -389,7 +452,9 @@ module _ (w : World) (c p centre port : ℕ) (other : centre ≡ c → port ≡ 
       full true = changed_call None
       full false = call_elsewhere w c p centre port _ (with_log_on (calls_at w centre) port call) other refl
 
-      by : (owing : Bool) → call_at (with_calls w centre (cond owing (storing_at is_full count (calls_at w centre) port call) (calls_at w centre, outcomes.Nothing)).0) c p ≡ call_at w c p
+      by : (owing : Bool)
+          → call_at (with_calls w centre (cond owing (storing_at is_full count (calls_at w centre) port call)
+          (calls_at w centre, outcomes.Nothing)).0) c p ≡ call_at w c p
       by true = full is_full
       by false = kept_calls
 
@@ -397,14 +462,16 @@ module _ (w : World) (c p centre port : ℕ) (other : centre ≡ c → port ≡ 
   show_elsewhere None = kept_calls
   show_elsewhere (Some call) = by call.stored
     where
-      by : (stored : Option Paid) → call_at (with_calls w centre (showing_at (calls_at w centre) port call.seat stored).0) c p ≡ call_at w c p
+      by : (stored : Option Paid)
+          → call_at (with_calls w centre (showing_at (calls_at w centre) port call.seat stored).0) c p ≡ call_at w c p
       by None = kept_calls
       by (Some reply) = changed_call _
 
 -- at another port
 press_other : (w : World) (c p centre port key : ℕ) (entry : Option Entry) → (centre ≡ c → port ≡ p → ⊥)
     → call_at (step_of_press w centre port key entry).0 c p ≡ call_at w c p
-press_other w c p centre port key entry other = press_elsewhere w c p centre port other key (view_at w centre port) entry (call_at w centre port)
+press_other w c p centre port key entry other = press_elsewhere w c p centre port other key (view_at w centre port) entry
+    (call_at w centre port)
 
 store_other : (w : World) (c p centre port : ℕ) → (centre ≡ c → port ≡ p → ⊥) → call_at (step_of_store w centre port).0 c p ≡ call_at w c p
 store_other w c p centre port other =
@@ -413,27 +480,40 @@ store_other w c p centre port other =
 show_other : (w : World) (c p centre port : ℕ) → (centre ≡ c → port ≡ p → ⊥) → call_at (step_of_show w centre port).0 c p ≡ call_at w c p
 show_other w c p centre port other = show_elsewhere w c p centre port other (call_at w centre port)
 
-payment_other : (w : World) (c p centre port : ℕ) → (centre ≡ c → port ≡ p → ⊥) → call_at (step_of_payment w centre port).0 c p ≡ call_at w c p
+payment_other : (w : World) (c p centre port : ℕ) → (centre ≡ c → port ≡ p → ⊥)
+    → call_at (step_of_payment w centre port).0 c p ≡ call_at w c p
 payment_other w c p centre port other = by (is_stored (step_of_store w centre port).1)
   where
-    by : (stored : Bool) → call_at (cond stored (step_of_show (step_of_store w centre port).0 centre port) (step_of_store w centre port)).0 c p ≡ call_at w c p
+    by : (stored : Bool)
+        → call_at (cond stored (step_of_show (step_of_store w centre port).0 centre port)
+        (step_of_store w centre port)).0 c p ≡ call_at w c p
     by true = show_other (step_of_store w centre port).0 c p centre port other ∙ store_other w c p centre port other
     by false = store_other w c p centre port other
 
-key_other : (w : World) (c p centre port : ℕ) (key : KeyedByte) → (centre ≡ c → port ≡ p → ⊥) → call_at (step_of_key w centre port key).0 c p ≡ call_at w c p
+key_other : (w : World) (c p centre port : ℕ) (key : KeyedByte) → (centre ≡ c → port ≡ p → ⊥)
+    → call_at (step_of_key w centre port key).0 c p ≡ call_at w c p
 key_other w c p centre port key other = by (is_owes (step_of_press w centre port key.byte key.entry).1)
   where
-    by : (owes : Bool) → call_at (cond owes (step_of_payment (step_of_press w centre port key.byte key.entry).0 centre port) (step_of_press w centre port key.byte key.entry)).0 c p ≡ call_at w c p
-    by true = payment_other (step_of_press w centre port key.byte key.entry).0 c p centre port other ∙ press_other w c p centre port key.byte key.entry other
+    by : (owes : Bool)
+        → call_at (cond owes (step_of_payment (step_of_press w centre port key.byte key.entry).0 centre port)
+        (step_of_press w centre port key.byte key.entry)).0 c p ≡ call_at w c p
+    by true = payment_other (step_of_press w centre port key.byte key.entry).0 c p centre port other ∙ press_other w c p centre port
+        key.byte key.entry other
     by false = press_other w c p centre port key.byte key.entry other
 
-keys_other : (w : World) (c p centre port : ℕ) (keys : List KeyedByte) → (centre ≡ c → port ≡ p → ⊥) → call_at (keys_from w centre port keys).0 c p ≡ call_at w c p
+keys_other : (w : World) (c p centre port : ℕ) (keys : List KeyedByte) → (centre ≡ c → port ≡ p → ⊥)
+    → call_at (keys_from w centre port keys).0 c p ≡ call_at w c p
 keys_other w c p centre port [] other = refl
 keys_other w c p centre port (key ∷ keys) other =
     by (is_over (step_of_key w centre port key).1) (keys_other (step_of_key w centre port key).0 c p centre port keys other)
   where
-    by : (over : Bool) → call_at (keys_from (step_of_key w centre port key).0 centre port keys).0 c p ≡ call_at (step_of_key w centre port key).0 c p
-        → call_at (cond {A = World × List Turn} over ((step_of_key w centre port key).0, screens_in (step_of_key w centre port key).1) ((keys_from (step_of_key w centre port key).0 centre port keys).0, screens_in (step_of_key w centre port key).1 ++ (keys_from (step_of_key w centre port key).0 centre port keys).1)).0 c p ≡ call_at w c p
+    by : (over : Bool)
+        → call_at (keys_from (step_of_key w centre port key).0 centre port keys).0 c p ≡ call_at (step_of_key w centre port key).0 c p
+        → call_at (cond {A = World × List Turn} over ((step_of_key w centre port key).0, screens_in (step_of_key w centre port key).1) (
+          (keys_from (step_of_key w centre port key).0 centre port keys).0,
+          screens_in (step_of_key w centre port key).1 ++
+              (keys_from (step_of_key w centre port key).0 centre port keys).1,
+        )).0 c p ≡ call_at w c p
     by true rest = key_other w c p centre port key other
     by false rest = rest ∙ key_other w c p centre port key other
 
@@ -475,9 +555,11 @@ no_turn w c p centre port here at elsewhere = by (is_same_port centre port c p) 
 
 -- one event, at a port that has a call
 event_stretch : (w : World) (c p : ℕ) (call : Call) (event : Event) (choice : Choice) → call_at w c p ≡ Some call → IsChoice w event choice
-    → Stretch (call_at w c p) (seat_events w c p event choice) (port_turns c p event (happens w event choice).1) (call_at (happens w event choice).0 c p)
+    → Stretch (call_at w c p) (seat_events w c p event choice) (port_turns c p event (happens w event choice).1)
+    (call_at (happens w event choice).0 c p)
 event_stretch w c p call (events.Seed name row) choice is chosen =
-    no_step w c p (happens w (events.Seed name row) choice).0 (request_same c w OPERATOR (next_number w.update.records OPERATOR) (Put name (seeded_frame row)))
+    no_step w c p (happens w (events.Seed name row) choice).0
+    (request_same c w OPERATOR (next_number w.update.records OPERATOR) (Put name (seeded_frame row)))
 event_stretch w c p call (events.Edit port line) choice is chosen =
     no_step w c p (happens w (events.Edit port line) choice).0 (line_same c w port choice.said)
 event_stretch w c p call (events.Dial centre port) choice is chosen =
@@ -493,7 +575,8 @@ event_stretch w c p call (events.Store centre port) choice is chosen =
     by_port w c p centre port (λ n m. step_of_store w n m) screens_in _
     (λ one two. store_stretch w c p (is_full_at w c) (record_count (centre_at w c)) (call_at w c p) refl) (store_other w c p centre port)
 event_stretch w c p call (events.Show centre port) choice is chosen =
-    by_port w c p centre port (λ n m. step_of_show w n m) screens_in _ (λ one two. show_stretch w c p (call_at w c p) refl) (show_other w c p centre port)
+    by_port w c p centre port (λ n m. step_of_show w n m) screens_in _ (λ one two. show_stretch w c p (call_at w c p) refl)
+    (show_other w c p centre port)
 event_stretch w c p call (events.Keys centre port keys) choice is chosen =
     by_port w c p centre port (λ n m. step_of_keys w n m choice.keyed) turns_in _
     (λ one two. taken_stretch w c p choice.keyed (keys_refusal (call_at w c p)) refl
@@ -524,7 +607,8 @@ call_stretch w c p (Some call) [] is are = (Some call, stays (Some call))
 call_stretch w c p (Some call) (step ∷ steps) is are =
     let v = (happens w step.0 step.1).0 in
     let more = call_stretch v c p (call_at v c p) steps refl are.1 in
-    let first = subst (λ (there : Option Call). Stretch there (seat_events w c p step.0 step.1) (port_turns c p step.0 (happens w step.0 step.1).1) (call_at v c p)) is
+    let first = subst (λ (there : Option Call). Stretch there (seat_events w c p step.0 step.1)
+    (port_turns c p step.0 (happens w step.0 step.1).1) (call_at v c p)) is
     (event_stretch w c p call step.0 step.1 is are.0) in
     (more.0, stretch_on (Some call) (call_at v c p) more.0 _ _ _ _ first more.1)
 

@@ -285,7 +285,15 @@ module _ (w : World) (editor q : ℕ) (wish : EditWish) (sound : IsSound w) wher
 
 -- a sound world stays sound with another seat
 pub sound_seat : (w : World) (port : ℕ) (seat : EditorSeat) → IsSound w → IsSound (with_seat w port seat)
-sound_seat w port seat sound = record { law = sound.law; next = sound.next; records = sound.records; frames = sound.frames; links = sound.links; calls = sound.calls }
+sound_seat w port seat sound = record {
+  law = sound.law;
+  next = sound.next;
+  records = sound.records;
+  frames = sound.frames;
+  links =
+      sound.links;
+  calls = sound.calls;
+}
 
 -- a sound world stays sound whatever an editor says
 sound_edit : (w : World) (port : ℕ) (said : Option EditLine) → IsSound w → IsSound (step_of_edit w port said).0
@@ -365,7 +373,8 @@ sound_deliver w c index sound = arrives (slice_get (link_at w c).down index) ref
         → arrival_of (centre_at w c).applied (record_count (centre_at w c)) w.update.limits.records packet.number ≡ arrival
         → IsSound (step_of_arrival w c packet.number arrival).0
     by packet arrivals.Taken is how = sound_acknowledged (with_next_at w c) c
-        (sound_applied w c packet sound is (taken_is_next (centre_at w c).applied (record_count (centre_at w c)) w.update.limits.records packet.number how))
+        (sound_applied w c packet sound is (taken_is_next (centre_at w c).applied
+        (record_count (centre_at w c)) w.update.limits.records packet.number how))
     by packet arrivals.Old is how = sound_acknowledged w c sound
     by packet arrivals.Early is how = sound_acknowledged w c sound
     by packet arrivals.Full is how = sound
@@ -475,8 +484,11 @@ sound_keys_from w c port (key ∷ keys) sound =
     by (is_over (step_of_key w c port key).1) (sound_keys_from (step_of_key w c port key).0 c port keys (sound_key w c port key sound))
   where
     by : (over : Bool) → IsSound (keys_from (step_of_key w c port key).0 c port keys).0
-        → IsSound (cond {A = World × List Turn} over ((step_of_key w c port key).0, screens_in (step_of_key w c port key).1)
-        ((keys_from (step_of_key w c port key).0 c port keys).0, screens_in (step_of_key w c port key).1 ++ (keys_from (step_of_key w c port key).0 c port keys).1)).0
+        → IsSound (cond {A = World × List Turn} over ((step_of_key w c port key).0, screens_in (step_of_key w c port key).1) (
+          (keys_from (step_of_key w c port key).0 c port keys).0,
+          screens_in (step_of_key w c port key).1 ++
+              (keys_from (step_of_key w c port key).0 c port keys).1,
+        )).0
     by true rest = sound_key w c port key sound
     by false rest = rest
 
@@ -530,7 +542,8 @@ sound_no_calls = record {
 }
   where
     no_serial : (port serial : ℕ) → serial_in no_calls port ≡ Some serial → ⊥
-    no_serial port serial is = let none = ap (λ (call : Option Call). call >>= serial_of) (copy_at {X = Option Call} None PORTS port) in absurd cc
+    no_serial port serial is = let none = ap (λ (call : Option Call). call >>= serial_of)
+        (copy_at {X = Option Call} None PORTS port) in absurd cc
 
 -- the start is sound
 pub sound_start : (centres : ℕ) (limits : Limits) → IsSound (start centres limits)

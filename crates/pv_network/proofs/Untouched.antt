@@ -58,7 +58,8 @@ module _ (c : ℕ) where
   line_same w port line = said_same (step_of_line w port line).0 port (step_of_line w port line).1
 
   pub send_same : (w : World) (d : ℕ) → Same w (step_of_send w d).0
-  send_same w d = choice (Same w) (is_packets_full w.links) _ _ (λ _. refl) (λ _. by (number_to_send (link_at w d).sending (length w.update.records)))
+  send_same w d = choice (Same w) (is_packets_full w.links) _ _ (λ _. refl)
+      (λ _. by (number_to_send (link_at w d).sending (length w.update.records)))
     where
       pack : (number : ℕ) (found : Option Record) → Same w (step_of_packing w d number found).0
       pack number None = refl
@@ -87,7 +88,8 @@ module _ (c : ℕ) where
 
       arrives : (found : Option Packet) → Same w (step_of_packet w d found).0
       arrives None = refl
-      arrives (Some packet) = by packet.number (arrival_of (centre_at w d).applied (record_count (centre_at w d)) w.update.limits.records packet.number)
+      arrives (Some packet) = by packet.number (arrival_of (centre_at w d).applied
+          (record_count (centre_at w d)) w.update.limits.records packet.number)
 
   pub back_same : (w : World) (d index : ℕ) → Same w (step_of_back w d index).0
   back_same w d index = by (slice_get (link_at w d).up index)
@@ -122,7 +124,8 @@ module _ (c : ℕ) where
   unfolding carry_rounds
   rounds_same zero d w taken = refl
   rounds_same (suc more) d w taken =
-      after_round_same (carry_rounds more d) (λ v n. rounds_same more d v n) (step_of_round w d).0 taken (step_of_round w d).1 ∙ round_same w d
+      after_round_same (carry_rounds more d) (λ v n. rounds_same more d v n) (step_of_round w d).0 taken
+      (step_of_round w d).1 ∙ round_same w d
 
 -- ---- events at a port
 
@@ -130,7 +133,8 @@ module _ (c : ℕ) where
 pub call_elsewhere : (w : World) (c p centre port : ℕ) (call : Option Call) (new : Calls) → (centre ≡ c → port ≡ p → ⊥)
     → (new.ports ≡ set (calls_at w centre).ports port call) → call_at (with_calls w centre new) c p ≡ call_at w c p
 call_elsewhere w c p centre port call new other is =
-    set_at (λ k there. k ≡ c → call_in there.calls p ≡ call_at w c p) w.centres centre (record (centre_at w centre) { calls = new }) new_centre
+    set_at (λ k there. k ≡ c → call_in there.calls p ≡ call_at w c p) w.centres centre
+    (record (centre_at w centre) { calls = new }) new_centre
     (λ k same. ap (λ (n : ℕ). call_at w n p) same) here c refl
   where
     here : centre ≡ c → call_in new p ≡ call_at w c p

@@ -8,7 +8,8 @@ use Rattle.pv_network.proofs.network.Network.key_all.Goals.{After-is_over}
 -- no key was taken yet
 pub loop-byte-init : goal.loop-byte-init
 loop-byte-init c = record {
-  taken = λ w stands. taken_none c.args.centre c.args.port c.args.text.now c.args.turns.now w c.args.self.now c.requires.notation.bytes stands
+  taken = λ w stands. taken_none c.args.centre c.args.port c.args.text.now c.args.turns.now w c.args.self.now c.requires.notation.bytes
+      stands
       c.requires.notation.reads;
   centres = refl;
 }
