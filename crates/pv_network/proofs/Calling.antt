@@ -5,7 +5,6 @@ use Rattle.pv_edits.specs.declared.record.Record.{Record}
 use Rattle.pv_edits.specs.Sight.{sight_of}
 use Rattle.pv_session.specs.declared.entry.Entry.{Entry}
 use Rattle.pv_network.specs.declared.outcome.Outcome.{Outcome}
-use Rattle.pv_network.specs.Call.{Call}
 use Rattle.pv_network.specs.Calling.{calls_at, call_at, at_calls, step_of_dial, step_of_hang, step_of_press, step_of_store, step_of_show}
 use Rattle.pv_network.specs.Calls.{Calls, account_given, call_in, dial_at, hang_at, press_at, store_at, show_at, IsEntryOf}
 use Rattle.pv_network.specs.Centre.{Held, CentreStands, Comes, Pressed, record_count, held_count}
@@ -40,7 +39,8 @@ module _ (s : State) (w : World) (stands : StandsFor s w) (c : ℕ) (here : Held
         → Does (step (calls_at w c))
     does step comes sound =
         let same : step here.calls ≡ step (calls_at w c) = ap step calls_there in (
-          subst (λ (held : Held). StandsFor (record s { centres = set s.centres c held }) (at_calls w c (step (calls_at w c))).0) (sym comes.after)
+          subst (λ (held : Held). StandsFor (record s { centres = set s.centres c held }) (at_calls w c (step (calls_at w c))).0)
+              (sym comes.after)
               (centre_replaced s w stands c (record here { calls = (step here.calls).0 })
               (record (centre_at w c) { calls = (step (calls_at w c)).0 })
               (record {

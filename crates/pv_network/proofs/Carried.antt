@@ -34,6 +34,16 @@ none_left end count = by (leb count end.acknowledged) refl
 never_idle : (o : Outcome) → round_by o ≡ rounds.Idle → ⊥
 never_idle (outcomes.Reply text) is = cc
 never_idle (outcomes.Shown turn) is = cc
+never_idle outcomes.Busy is = cc
+never_idle outcomes.Quiet is = cc
+never_idle outcomes.Owes is = cc
+never_idle outcomes.Owing is = cc
+never_idle outcomes.NoCall is = cc
+never_idle outcomes.Nothing is = cc
+never_idle outcomes.Hung is = cc
+never_idle outcomes.Stored is = cc
+never_idle (outcomes.StoreFull count screen) is = cc
+never_idle (outcomes.Turns turns) is = cc
 never_idle outcomes.Idle is = cc
 never_idle outcomes.PacketsFull is = cc
 never_idle outcomes.NoPacket is = cc
@@ -53,6 +63,16 @@ carry_stops_none : (o : Outcome) (records items : ℕ) → (o ≡ outcomes.Carri
     → round_by o ≡ rounds.Stopped (outcomes.Carried records items) → ⊥
 carry_stops_none (outcomes.Reply text) records items not is = cc
 carry_stops_none (outcomes.Shown turn) records items not is = cc
+carry_stops_none outcomes.Busy records items not is = cc
+carry_stops_none outcomes.Quiet records items not is = cc
+carry_stops_none outcomes.Owes records items not is = cc
+carry_stops_none outcomes.Owing records items not is = cc
+carry_stops_none outcomes.NoCall records items not is = cc
+carry_stops_none outcomes.Nothing records items not is = cc
+carry_stops_none outcomes.Hung records items not is = cc
+carry_stops_none outcomes.Stored records items not is = cc
+carry_stops_none (outcomes.StoreFull count screen) records items not is = cc
+carry_stops_none (outcomes.Turns turns) records items not is = cc
 carry_stops_none outcomes.Idle records items not is = cc
 carry_stops_none outcomes.PacketsFull records items not is = cc
 carry_stops_none outcomes.NoPacket records items not is = cc

@@ -89,7 +89,8 @@ byte_keeps seat byte view (Some entry) =
 
 turn_keeps : (phase : Phase) (seat : CallState) (byte : ℕ) (view : View) (entry : Option Entry)
     → Keeps seat (key_turn_in phase seat byte view entry)
-turn_keeps Listening seat byte view entry = by_test seat (is_spent seat) _ (byte_turn seat byte view entry) refl (byte_keeps seat byte view entry)
+turn_keeps Listening seat byte view entry = by_test seat (is_spent seat) _ (byte_turn seat byte view entry) refl
+    (byte_keeps seat byte view entry)
 turn_keeps (Owing wish) seat byte view entry = refl
 turn_keeps Over seat byte view entry = refl
 

@@ -1,5 +1,5 @@
 -- A key at a seat, with the entry that it makes.
-use Rattle.std.proofs.Common.{◌≡◌, ℕ, Bool, true, false, cond, Option, None}
+use Rattle.std.proofs.Common.{ℕ, Bool, true, false, cond, Option, None, refl}
 use Rattle.pv_edits.specs.Sight.{View}
 use Rattle.pv_session.specs.declared.entry.Entry.{Entry}
 use Rattle.pv_session.specs.declared.message.Message.TheVariants.{CallEnded}
@@ -32,3 +32,20 @@ module _ (seat after : CallState) (byte : ℕ) (view : View) (step : Step) where
   pub turn_by_entry : IsTurn seat byte view after step
       → (entry : Option Entry) × IsEntryAt seat byte entry × Goes (key_turn seat byte view entry) after step
   turn_by_entry turns = turns_by seat.phase turns
+
+-- the turn of an entry that the byte makes is one of the seat
+pub entry_turns : (seat : CallState) (byte : ℕ) (view : View) (entry : Option Entry) → IsEntryAt seat byte entry
+    → IsTurn seat byte view (key_turn seat byte view entry).0 (key_turn seat byte view entry).1
+entry_turns seat byte view entry says = by seat.phase says
+  where
+    listens : (spent : Bool) → IsEntryUnless spent seat byte entry
+        → Listens spent seat byte view (cond spent (ending_turn seat Spent CallEnded) (byte_turn seat byte view entry)).0
+        (cond spent (ending_turn seat Spent CallEnded) (byte_turn seat byte view entry)).1
+    listens true says = record { after_is = refl; step_is = refl }
+    listens false says = record { entry = entry; says = says; goes = record { after_is = refl; step_is = refl } }
+
+    by : (phase : Phase) → IsEntryIn phase seat byte entry
+        → IsTurnIn phase seat byte view (key_turn_in phase seat byte view entry).0 (key_turn_in phase seat byte view entry).1
+    by Listening says = listens (is_spent seat) says
+    by (Owing wish) says = record { after_is = refl; step_is = refl }
+    by Over says = record { after_is = refl; step_is = refl }

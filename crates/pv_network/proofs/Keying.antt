@@ -1,6 +1,6 @@
 -- Keys one after another: each does in the world what it does at the network.
-use Rattle.std.proofs.Common.{◌≡◌, ℕ, zero, suc, ◌+◌, ◌*◌, ◌<◌, Bool, true, false, cond, List, [], ◌∷◌, ◌++◌, length, get_or, Option, Some, None, refl, sym, ap, subst, ◌∙◌, append_assoc, arith}
-use Rattle.std.specs.Prelude.{map, ◌==◌, ◌&&◌}
+use Rattle.std.proofs.Common.{◌≡◌, ℕ, ◌+◌, ◌*◌, ◌<◌, Bool, true, false, cond, List, [], ◌∷◌, ◌++◌, length, get_or, Option, Some, None, refl, sym, ap, subst, ◌∙◌, append_assoc, arith}
+use Rattle.std.specs.Prelude.{map, ◌==◌}
 use Rattle.std.specs.Char.{digit_value}
 use Rattle.std.proofs.lemmas.List.{append-nil}
 use Rattle.pv_fields.specs.Refusals.{some_if}
@@ -12,7 +12,7 @@ use Rattle.pv_network.specs.declared.outcome.Turn.{Turn}
 use Rattle.pv_network.specs.Calling.{call_at, step_of_press, step_of_store, step_of_show}
 use Rattle.pv_network.specs.Calls.{Calls, call_in, IsEntryOf}
 use Rattle.pv_network.specs.Centre.{Held}
-use Rattle.pv_network.specs.Keying.{Keyed, bytes_of, is_owes, is_stored, step_of_payment, step_of_key, screens_in, is_over, keys_from, AreKeyed, turns_answer, keys_refusal, step_of_keys, AreKeyedAt}
+use Rattle.pv_network.specs.Keying.{KeyedByte, bytes_of, is_owes, is_stored, step_of_payment, step_of_key, screens_in, is_over, keys_from, AreKeyed, turns_answer, keys_refusal, step_of_keys, AreKeyedAt}
 use Rattle.pv_network.specs.Standing.{State, StandsFor}
 use Rattle.pv_network.specs.World.{World}
 use Rattle.pv_network.proofs.Calling.{calls_there}
@@ -36,13 +36,14 @@ module _ (c port : ℕ) (w : World) (new : State) (outcome : Outcome) where
 
   module _ (byte : ℕ) (entry : Option Entry) where
     -- the byte, with its entry
-    abbrev this : Keyed
+    abbrev this : KeyedByte
     this = record { byte = byte; entry = entry }
 
     -- what is owed for the key is paid
     pub key_paid : (pressed : Outcome) → pressed ≡ (step_of_press w c port byte entry).1 → is_owes pressed ≡ true
         → Done (step_of_payment (step_of_press w c port byte entry).0 c port) → Done (step_of_key w c port this)
-    key_paid pressed is test done = let here : is_owes (step_of_press w c port byte entry).1 ≡ true = ap is_owes (sym is) ∙ test in rw here done
+    key_paid pressed is test done = let here : is_owes (step_of_press w c port byte entry).1 ≡ true = ap is_owes
+        (sym is) ∙ test in rw here done
 
     -- nothing is owed for it
     pub key_free : outcome ≡ (step_of_press w c port byte entry).1 → is_owes outcome ≡ false
@@ -62,7 +63,8 @@ hexadecimal_shorter [] byte rest is = absurd cc
 hexadecimal_shorter (high ∷ []) byte rest is = absurd cc
 hexadecimal_shorter (high ∷ low ∷ text) byte rest is = by _ is
   where
-    by : (test : Bool) → some_if {X = ℕ × List ℕ} test (16 * digit_value high + digit_value low, text) ≡ Some (byte, rest) → length rest < length (high ∷ low ∷ text)
+    by : (test : Bool) → some_if {X = ℕ × List ℕ} test (16 * digit_value high + digit_value low, text) ≡ Some (byte, rest)
+        → length rest < length (high ∷ low ∷ text)
     by true found = omega (arith, ap (λ (l : List ℕ). length l) (ap rest_in found))
     by false found = absurd cc
 
@@ -90,7 +92,7 @@ none_read text [] reads is = reads
 none_read text (b ∷ bytes) (after, found, reads) is = absurd cc
 
 -- bytes that are not read make no entry
-abbrev unread : List ℕ → List Keyed
+abbrev unread : List ℕ → List KeyedByte
 unread bytes = map (λ byte. record { byte = byte; entry = None }) bytes
 
 bytes_of_unread : (bytes : List ℕ) → bytes_of (unread bytes) ≡ bytes
@@ -107,7 +109,7 @@ module _ (s : State) (w : World) (stands : StandsFor s w) (c : ℕ) (here : Held
 
   -- the keys are not taken
   pub refused : (bytes : List ℕ) (outcome : Outcome) → ReadsAs text bytes → keys_refusal (call_in here.calls port) ≡ Some outcome
-      → (keyed : List Keyed) × ReadsAs text (bytes_of keyed) × AreKeyedAt w c port keyed
+      → (keyed : List KeyedByte) × ReadsAs text (bytes_of keyed) × AreKeyedAt w c port keyed
       × StandsFor s (step_of_keys w c port keyed).0 × (outcome ≡ (step_of_keys w c port keyed).1)
   refused bytes outcome reads is =
       let same : keys_refusal (call_at w c port) ≡ Some outcome = sym same_refusal ∙ is in (
@@ -120,9 +122,9 @@ module _ (s : State) (w : World) (stands : StandsFor s w) (c : ℕ) (here : Held
 
   -- all of them are taken
   pub answered : (new : State) (turns : List Turn) → keys_refusal (call_in here.calls port) ≡ None
-      → (keyed : List Keyed) × ReadsAs text (bytes_of keyed) × AreKeyed w c port keyed
+      → (keyed : List KeyedByte) × ReadsAs text (bytes_of keyed) × AreKeyed w c port keyed
       × StandsFor new (keys_from w c port keyed).0 × (turns ≡ (keys_from w c port keyed).1)
-      → (keyed : List Keyed) × ReadsAs text (bytes_of keyed) × AreKeyedAt w c port keyed
+      → (keyed : List KeyedByte) × ReadsAs text (bytes_of keyed) × AreKeyedAt w c port keyed
       × StandsFor new (step_of_keys w c port keyed).0 × (turns_answer turns ≡ (step_of_keys w c port keyed).1)
   answered new turns is taken =
       let same : keys_refusal (call_at w c port) ≡ None = sym same_refusal ∙ is in
@@ -134,14 +136,14 @@ module _ (c port : ℕ) (text : List ℕ) (before : List Turn) (first : World) w
   -- The keys before the rest were taken, and the network stands for the world after them. Whatever keys follow there, they follow
   -- these keys.
   pub record Taken (rest : List ℕ) (now : State) (turns : List Turn) : Type 0 where
-    pub done : List Keyed
+    pub done : List KeyedByte
     pub world : World
     pub stands : StandsFor now world
     pub later : (bytes : List ℕ) × ReadsAs rest bytes
-    pub reads : (more : List Keyed) → ReadsAs rest (bytes_of more) → ReadsAs text (bytes_of (done ++ more))
-    pub keyed : (more : List Keyed) → AreKeyed world c port more → AreKeyed first c port (done ++ more)
-    pub worlds : (more : List Keyed) → (keys_from first c port (done ++ more)).0 ≡ (keys_from world c port more).0
-    pub shown : (more : List Keyed) → before ++ (keys_from first c port (done ++ more)).1 ≡ turns ++ (keys_from world c port more).1
+    pub reads : (more : List KeyedByte) → ReadsAs rest (bytes_of more) → ReadsAs text (bytes_of (done ++ more))
+    pub keyed : (more : List KeyedByte) → AreKeyed world c port more → AreKeyed first c port (done ++ more)
+    pub worlds : (more : List KeyedByte) → (keys_from first c port (done ++ more)).0 ≡ (keys_from world c port more).0
+    pub shown : (more : List KeyedByte) → before ++ (keys_from first c port (done ++ more)).1 ≡ turns ++ (keys_from world c port more).1
 
   -- no key was taken yet
   pub taken_none : (now : State) (bytes : List ℕ) → StandsFor now first → ReadsAs text bytes → Taken text now before
@@ -158,9 +160,9 @@ module _ (c port : ℕ) (text : List ℕ) (before : List Turn) (first : World) w
 
   module _ (rest : List ℕ) (now : State) (turns : List Turn) (p : Taken rest now turns) where
     -- what was taken and what follows it, to the end
-    ends : (new : State) (after : List Turn) (more : List Keyed) → ReadsAs rest (bytes_of more) → AreKeyed p.world c port more
+    ends : (new : State) (after : List Turn) (more : List KeyedByte) → ReadsAs rest (bytes_of more) → AreKeyed p.world c port more
         → StandsFor new (keys_from p.world c port more).0 → after ≡ turns ++ (keys_from p.world c port more).1
-        → (keyed : List Keyed) × ReadsAs text (bytes_of keyed) × AreKeyed first c port keyed
+        → (keyed : List KeyedByte) × ReadsAs text (bytes_of keyed) × AreKeyed first c port keyed
         × StandsFor new (keys_from first c port keyed).0 × (after ≡ before ++ (keys_from first c port keyed).1)
     ends new after more reads keyed stands is = (
       p.done ++ more,
@@ -172,16 +174,17 @@ module _ (c port : ℕ) (text : List ℕ) (before : List Turn) (first : World) w
 
     -- nothing is left
     pub taken_all : notation_at rest ≡ None
-        → (keyed : List Keyed) × ReadsAs text (bytes_of keyed) × AreKeyed first c port keyed
+        → (keyed : List KeyedByte) × ReadsAs text (bytes_of keyed) × AreKeyed first c port keyed
         × StandsFor now (keys_from first c port keyed).0 × (turns ≡ before ++ (keys_from first c port keyed).1)
     taken_all none = ends now turns [] (none_read rest p.later.0 p.later.1 none) tt p.stands (sym (append-nil turns))
 
     module _ (byte : ℕ) (entry : Option Entry) (later : List ℕ) (new : State) (outcome : Outcome) (after : List Turn)
         (read : notation_at rest ≡ Some (byte, later)) (says : IsEntryOf (call_at p.world c port) byte entry)
         (stands : StandsFor new (step_of_key p.world c port (record { byte = byte; entry = entry })).0)
-        (is : outcome ≡ (step_of_key p.world c port (record { byte = byte; entry = entry })).1) (added : after ≡ turns ++ screens_in outcome) where
+        (is : outcome ≡ (step_of_key p.world c port (record { byte = byte; entry = entry })).1)
+        (added : after ≡ turns ++ screens_in outcome) where
       -- the key
-      abbrev key : Keyed
+      abbrev key : KeyedByte
       key = record { byte = byte; entry = entry }
 
       -- the world after it
@@ -190,7 +193,7 @@ module _ (c port : ℕ) (text : List ℕ) (before : List Turn) (first : World) w
 
       -- the call is over with it
       pub taken_over : is_over outcome ≡ true
-          → (keyed : List Keyed) × ReadsAs text (bytes_of keyed) × AreKeyed first c port keyed
+          → (keyed : List KeyedByte) × ReadsAs text (bytes_of keyed) × AreKeyed first c port keyed
           × StandsFor new (keys_from first c port keyed).0 × (after ≡ before ++ (keys_from first c port keyed).1)
       taken_over over =
           let here : is_over (step_of_key p.world c port key).1 ≡ true = ap is_over (sym is) ∙ over in
@@ -204,18 +207,22 @@ module _ (c port : ℕ) (text : List ℕ) (before : List Turn) (first : World) w
       pub taken_more : is_over outcome ≡ false → Taken later new after
       taken_more goes_on =
           let here : is_over (step_of_key p.world c port key).1 ≡ false = ap is_over (sym is) ∙ goes_on in
-          let assoc : (more : List Keyed) → (p.done ++ key ∷ []) ++ more ≡ p.done ++ key ∷ more = λ more. append_assoc p.done (key ∷ []) more in
+          let assoc : (more : List KeyedByte)
+          → (p.done ++ key ∷ []) ++ more ≡ p.done ++ key ∷ more = λ more. append_assoc p.done (key ∷ []) more in
           record {
             done = p.done ++ key ∷ [];
             world = next;
             stands = stands;
             later = next_read rest p.later.0 byte later p.later.1 read;
-            reads = λ more reads. subst (λ (keys : List Keyed). ReadsAs text (bytes_of keys)) (sym (assoc more)) (p.reads (key ∷ more) (later, read, reads));
-            keyed = λ more are. subst (λ (keys : List Keyed). AreKeyed first c port keys) (sym (assoc more)) (p.keyed (key ∷ more) (says, rw here are));
-            worlds = λ more. ap (λ (keys : List Keyed). (keys_from first c port keys).0) (assoc more) ∙ p.worlds (key ∷ more) ∙ rw here refl;
+            reads = λ more reads. subst (λ (keys : List KeyedByte). ReadsAs text (bytes_of keys)) (sym (assoc more))
+                (p.reads (key ∷ more) (later, read, reads));
+            keyed = λ more are. subst (λ (keys : List KeyedByte). AreKeyed first c port keys) (sym (assoc more))
+                (p.keyed (key ∷ more) (says, rw here are));
+            worlds = λ more. ap (λ (keys : List KeyedByte). (keys_from first c port keys).0) (assoc more) ∙ p.worlds
+                (key ∷ more) ∙ rw here refl;
             shown = λ more.
                 let rest_turns = (keys_from next c port more).1 in
-                ap (λ (keys : List Keyed). before ++ (keys_from first c port keys).1) (assoc more) ∙ p.shown (key ∷ more)
+                ap (λ (keys : List KeyedByte). before ++ (keys_from first c port keys).1) (assoc more) ∙ p.shown (key ∷ more)
                 ∙ rw here (sym (append_assoc turns (screens_in (step_of_key p.world c port key).1) rest_turns)
                 ∙ ap (λ (l : List Turn). l ++ rest_turns) (ap (λ (o : Outcome). turns ++ screens_in o) (sym is) ∙ sym added));
           }

@@ -9,6 +9,8 @@ pub mod Keying
 pub mod Lists
 pub mod Packets
 pub mod Performing
+pub mod Screens
 pub mod SoundCalls
 pub mod Soundness
 pub mod Standing
+pub mod Untouched

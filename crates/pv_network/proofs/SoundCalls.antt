@@ -1,6 +1,6 @@
 -- What an event makes of sound calls is sound.
-use Rattle.std.proofs.Common.{◌≡◌, ℕ, ◌+◌, ◌<◌, Bool, true, false, cond, List, length, get_or, set, Option, Some, None, refl, sym, ap, subst, ◌∙◌, arith}
-use Rattle.std.specs.Prelude.{IfSome, IsTrue, ◌||◌, ◌&&◌, not, is_some}
+use Rattle.std.proofs.Common.{◌≡◌, ℕ, ◌+◌, ◌<◌, Bool, true, false, cond, Option, Some, None, refl, sym, ap, subst, ◌∙◌, arith}
+use Rattle.std.specs.Prelude.{IfSome, IsTrue, ◌||◌, ◌&&◌, is_some}
 use Rattle.std.proofs.lemmas.List.{length-set}
 use Rattle.pv_fields.specs.Reading.{◌>>=◌}
 use Rattle.pv_edits.specs.Sight.{View}
@@ -16,7 +16,7 @@ use Rattle.pv_session.specs.State.{CallState, is_owing}
 use Rattle.pv_session.specs.Turns.{storing_turn}
 use Rattle.pv_network.specs.declared.outcome.Outcome.TheVariants as outcomes
 use Rattle.pv_network.specs.Call.{Call, call_of, first_call, serial_with, serial_of, is_waiting, is_to_store, key_turn}
-use Rattle.pv_network.specs.Calls.{Calls, call_in, with_call, call_after, turn_at, dial_at, hang_at, press_at, with_log_on, storing_at, store_at, showing_at, show_at}
+use Rattle.pv_network.specs.Calls.{Calls, call_in, with_call, turn_at, dial_at, hang_at, press_at, with_log_on, storing_at, store_at, showing_at, show_at}
 use Rattle.pv_network.specs.Sound.{serial_in, IsStoredAsOwed, IsSoundCalls}
 use Rattle.pv_network.proofs.KeptSerials.{key_keeps}
 use Rattle.pv_network.proofs.Lists.{set_at}
@@ -32,7 +32,7 @@ none_stored false None how = refl
 none_stored false (Some reply) how = absurd cc
 
 -- of two tests that hold the first does
-first_holds : (one other : Bool) → (one && other) ≡ true → one ≡ true
+pub first_holds : (one other : Bool) → (one && other) ≡ true → one ≡ true
 first_holds true other how = refl
 first_holds false other how = absurd cc
 
@@ -51,7 +51,8 @@ module _ (calls : Calls) (port : ℕ) (sound : IsSoundCalls calls) where
     ports = length-set calls.ports port call ∙ sound.ports;
     below = set_at (λ k x. (serial : ℕ) → serial_of_any x ≡ Some serial → serial < calls.log_ons) calls.ports port call None sound.below
         (λ serial is. sound.below port serial (kept serial is));
-    differ = set_at (λ k x. (other serial : ℕ) → serial_of_any x ≡ Some serial → serial_in (with_call calls port call) other ≡ Some serial → k ≡ other)
+    differ = set_at (λ k x. (other serial : ℕ) → serial_of_any x ≡ Some serial → serial_in
+        (with_call calls port call) other ≡ Some serial → k ≡ other)
         calls.ports port call None (λ k other serial is. one k other serial is) (λ other serial is. one port other serial (kept serial is));
     owed = set_at (λ k x. IfSome x IsStoredAsOwed) calls.ports port call None sound.owed owed;
   }
@@ -79,7 +80,8 @@ module _ (calls : Calls) (port : ℕ) (sound : IsSoundCalls calls) where
     ports = length-set calls.ports port (Some new) ∙ sound.ports;
     below = set_at (λ k x. (serial : ℕ) → serial_of_any x ≡ Some serial → serial < calls.log_ons + 1) calls.ports port (Some new) None
         (λ k serial is. let less = sound.below k serial is in omega (arith, less)) (λ serial is. omega (arith, this serial is));
-    differ = set_at (λ k x. (other serial : ℕ) → serial_of_any x ≡ Some serial → serial_in (with_log_on calls port call) other ≡ Some serial → k ≡ other)
+    differ = set_at (λ k x. (other serial : ℕ) → serial_of_any x ≡ Some serial → serial_in
+        (with_log_on calls port call) other ≡ Some serial → k ≡ other)
         calls.ports port (Some new) None old latest;
     owed = set_at (λ k x. IfSome x IsStoredAsOwed) calls.ports port (Some new) None sound.owed owing;
   }
@@ -92,10 +94,12 @@ module _ (calls : Calls) (port : ℕ) (sound : IsSoundCalls calls) where
 
       old : (k other serial : ℕ) → serial_in calls k ≡ Some serial → serial_in (with_log_on calls port call) other ≡ Some serial → k ≡ other
       old k other serial is =
-          set_at (λ o x. serial_of_any x ≡ Some serial → k ≡ o) calls.ports port (Some new) None (λ o there. sound.differ k o serial is there)
+          set_at (λ o x. serial_of_any x ≡ Some serial → k ≡ o) calls.ports port (Some new) None
+          (λ o there. sound.differ k o serial is there)
           (λ here. let less = sound.below k serial is in absurd (omega (arith, less, this serial here))) other
 
-      latest : (other serial : ℕ) → serial_of_any (Some new) ≡ Some serial → serial_in (with_log_on calls port call) other ≡ Some serial → port ≡ other
+      latest : (other serial : ℕ) → serial_of_any (Some new) ≡ Some serial → serial_in (with_log_on calls port call) other ≡ Some serial
+          → port ≡ other
       latest other serial is =
           set_at (λ o x. serial_of_any x ≡ Some serial → port ≡ o) calls.ports port (Some new) None
           (λ o there. let less = sound.below o serial there in absurd (omega (arith, less, this serial is))) (λ here. refl) other
@@ -146,4 +150,5 @@ module _ (calls : Calls) (port : ℕ) (sound : IsSoundCalls calls) where
           subst (λ (stored : Option Paid). IfSome stored (λ reply. IsTrue (is_owing call.seat.phase))) has
           (subst (λ (there : Option Call). IfSome there IsStoredAsOwed) is (sound.owed port)) in
           turn_sound (storing_turn call.seat call.seat.phase (Serial told)) (λ serial kept. ap serial_of_any is
-          ∙ ap (λ (stored : Option Paid). serial_with stored call.seat.serial) has ∙ sym (storing_serial call.seat call.seat.phase told owed) ∙ kept)
+          ∙ ap (λ (stored : Option Paid). serial_with stored call.seat.serial) has ∙ sym
+          (storing_serial call.seat call.seat.phase told owed) ∙ kept)

@@ -44,7 +44,7 @@ use Rattle.pv_network.specs.declared.event.TheConstants.{PORTS}
 use Rattle.pv_network.specs.Call.{Call, serial_of}
 use Rattle.pv_session.specs.declared.entry.Entry.{Entry}
 use Rattle.pv_network.specs.Calling.{calls_at, call_at, view_at, with_calls, step_of_press, step_of_store, step_of_show}
-use Rattle.pv_network.specs.Keying.{Keyed, first_entry, is_owes, is_stored, step_of_payment, step_of_key, screens_in, is_over, keys_from, keys_refusal, step_of_taken_keys}
+use Rattle.pv_network.specs.Keying.{KeyedByte, first_entry, is_owes, is_stored, step_of_payment, step_of_key, screens_in, is_over, keys_from, keys_refusal, step_of_taken_keys}
 use Rattle.pv_network.specs.Calls.{Calls, no_calls}
 use Rattle.pv_network.specs.Centre.{Centre, new_centre, record_count, arrival_of}
 use Rattle.pv_network.specs.Link.{End, Link, new_link, is_packets_full, number_to_send, with_packet, with_acknowledgement, with_heard, heard_link}
@@ -285,7 +285,15 @@ module _ (w : World) (editor q : ℕ) (wish : EditWish) (sound : IsSound w) wher
 
 -- a sound world stays sound with another seat
 pub sound_seat : (w : World) (port : ℕ) (seat : EditorSeat) → IsSound w → IsSound (with_seat w port seat)
-sound_seat w port seat sound = record { law = sound.law; next = sound.next; records = sound.records; frames = sound.frames; links = sound.links; calls = sound.calls }
+sound_seat w port seat sound = record {
+  law = sound.law;
+  next = sound.next;
+  records = sound.records;
+  frames = sound.frames;
+  links =
+      sound.links;
+  calls = sound.calls;
+}
 
 -- a sound world stays sound whatever an editor says
 sound_edit : (w : World) (port : ℕ) (said : Option EditLine) → IsSound w → IsSound (step_of_edit w port said).0
@@ -365,7 +373,8 @@ sound_deliver w c index sound = arrives (slice_get (link_at w c).down index) ref
         → arrival_of (centre_at w c).applied (record_count (centre_at w c)) w.update.limits.records packet.number ≡ arrival
         → IsSound (step_of_arrival w c packet.number arrival).0
     by packet arrivals.Taken is how = sound_acknowledged (with_next_at w c) c
-        (sound_applied w c packet sound is (taken_is_next (centre_at w c).applied (record_count (centre_at w c)) w.update.limits.records packet.number how))
+        (sound_applied w c packet sound is (taken_is_next (centre_at w c).applied
+        (record_count (centre_at w c)) w.update.limits.records packet.number how))
     by packet arrivals.Old is how = sound_acknowledged w c sound
     by packet arrivals.Early is how = sound_acknowledged w c sound
     by packet arrivals.Full is how = sound
@@ -455,7 +464,7 @@ sound_show : (w : World) (c port : ℕ) → IsSound w → IsSound (step_of_show 
 sound_show w c port sound = sound_with_calls w c sound _ (show_sound (calls_at w c) port (sound.calls c) (call_at w c port) refl)
 
 -- a sound world stays sound with a key and the payment of what it owes
-sound_key : (w : World) (c port : ℕ) (key : Keyed) → IsSound w → IsSound (step_of_key w c port key).0
+sound_key : (w : World) (c port : ℕ) (key : KeyedByte) → IsSound w → IsSound (step_of_key w c port key).0
 sound_key w c port key sound = choice IsSound (is_owes (step_of_press w c port key.byte key.entry).1) _ _ (λ _. paid) (λ _. pressed)
   where
     pressed : IsSound (step_of_press w c port key.byte key.entry).0
@@ -469,18 +478,21 @@ sound_key w c port key sound = choice IsSound (is_owes (step_of_press w c port k
         (λ _. sound_show (step_of_store (step_of_press w c port key.byte key.entry).0 c port).0 c port stored) (λ _. stored)
 
 -- a sound world stays sound however many keys there are
-sound_keys_from : (w : World) (c port : ℕ) (keys : List Keyed) → IsSound w → IsSound (keys_from w c port keys).0
+sound_keys_from : (w : World) (c port : ℕ) (keys : List KeyedByte) → IsSound w → IsSound (keys_from w c port keys).0
 sound_keys_from w c port [] sound = sound
 sound_keys_from w c port (key ∷ keys) sound =
     by (is_over (step_of_key w c port key).1) (sound_keys_from (step_of_key w c port key).0 c port keys (sound_key w c port key sound))
   where
     by : (over : Bool) → IsSound (keys_from (step_of_key w c port key).0 c port keys).0
-        → IsSound (cond {A = World × List Turn} over ((step_of_key w c port key).0, screens_in (step_of_key w c port key).1)
-        ((keys_from (step_of_key w c port key).0 c port keys).0, screens_in (step_of_key w c port key).1 ++ (keys_from (step_of_key w c port key).0 c port keys).1)).0
+        → IsSound (cond {A = World × List Turn} over ((step_of_key w c port key).0, screens_in (step_of_key w c port key).1) (
+          (keys_from (step_of_key w c port key).0 c port keys).0,
+          screens_in (step_of_key w c port key).1 ++
+              (keys_from (step_of_key w c port key).0 c port keys).1,
+        )).0
     by true rest = sound_key w c port key sound
     by false rest = rest
 
-sound_keys : (w : World) (c port : ℕ) (keys : List Keyed) (refusal : Option Outcome) → IsSound w
+sound_keys : (w : World) (c port : ℕ) (keys : List KeyedByte) (refusal : Option Outcome) → IsSound w
     → IsSound (step_of_taken_keys w c port keys refusal).0
 sound_keys w c port keys (Some refusal) sound = sound
 sound_keys w c port keys None sound = sound_keys_from w c port keys sound
@@ -515,7 +527,7 @@ sound_after w [] sound = sound
 sound_after w (event ∷ events) sound = sound_after (happens w event.0 event.1).0 events (sound_happens w event.0 event.1 sound)
 
 -- among copies of an element and after them, that element stands for each place
-copy_at : {X : Type 0} (x : X) (n c : ℕ) → get_or (replicate n x) c x ≡ x
+pub copy_at : {X : Type 0} (x : X) (n c : ℕ) → get_or (replicate n x) c x ≡ x
 copy_at x zero c = refl
 copy_at x (suc n) zero = refl
 copy_at x (suc n) (suc c) = copy_at x n c
@@ -530,7 +542,8 @@ sound_no_calls = record {
 }
   where
     no_serial : (port serial : ℕ) → serial_in no_calls port ≡ Some serial → ⊥
-    no_serial port serial is = let none = ap (λ (call : Option Call). call >>= serial_of) (copy_at {X = Option Call} None PORTS port) in absurd cc
+    no_serial port serial is = let none = ap (λ (call : Option Call). call >>= serial_of)
+        (copy_at {X = Option Call} None PORTS port) in absurd cc
 
 -- the start is sound
 pub sound_start : (centres : ℕ) (limits : Limits) → IsSound (start centres limits)

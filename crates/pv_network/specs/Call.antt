@@ -1,5 +1,5 @@
 -- A call at a centre's port, and a key at its seat.
-use Rattle.std.specs.Prelude.{ℕ, Bool, true, false, ◌||◌, ◌&&◌, not, is_some, List, Option, Some, None, if◌then◌else◌}
+use Rattle.std.specs.Prelude.{ℕ, Bool, true, false, ◌||◌, ◌&&◌, not, is_some, Option, Some, None, if◌then◌else◌}
 use Rattle.pv_words.specs.Parts.{Exactly}
 use Rattle.pv_edits.specs.Sight.{View}
 use Rattle.pv_session.specs.declared.entry.Entry.{Entry}

@@ -7,7 +7,7 @@ use Rattle.pv_session.specs.declared.step.Paid.{Paid}
 use Rattle.pv_session.specs.declared.step.Paid.TheVariants.{Serial}
 use Rattle.pv_session.specs.declared.step.Step.{Step}
 use Rattle.pv_session.specs.declared.step.Step.TheVariants as steps
-use Rattle.pv_session.specs.Messages.{blank_screen}
+use Rattle.pv_session.specs.Messages.{screen_of_blank}
 use Rattle.pv_session.specs.State.{CallState}
 use Rattle.pv_session.specs.Turns.{storing_turn, full_turn}
 use Rattle.pv_network.specs.declared.event.TheConstants.{PORTS}
@@ -63,7 +63,7 @@ abbrev pub dial_at : Calls → ℕ → Option Call → Calls × Outcome
 dial_at calls port None = (
   with_call calls port (Some first_call),
   outcomes.Shown
-      (record { screen = blank_screen KeyAccount; ended = None }),
+      (record { screen = screen_of_blank KeyAccount; ended = None }),
 )
 dial_at calls port (Some call) = (calls, outcomes.Busy)
 

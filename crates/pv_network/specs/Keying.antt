@@ -11,17 +11,17 @@ use Rattle.pv_network.specs.Calls.{IsEntryOf}
 use Rattle.pv_network.specs.World.{World}
 
 -- a byte that is keyed, and the entry that it makes, if it makes one
-pub record Keyed : Type 0 where
+pub record KeyedByte : Type 0 where
   pub byte : ℕ
   pub entry : Option Entry
 
 -- the entry of the first of them
-abbrev pub first_entry : List Keyed → Option Entry
+abbrev pub first_entry : List KeyedByte → Option Entry
 first_entry [] = None
 first_entry (key ∷ keys) = key.entry
 
 -- the bytes alone
-abbrev pub bytes_of : List Keyed → List ℕ
+abbrev pub bytes_of : List KeyedByte → List ℕ
 bytes_of keys = map (λ key. key.byte) keys
 
 -- ---- one key
@@ -40,7 +40,7 @@ abbrev pub step_of_payment : World → ℕ → ℕ → World × Outcome
 step_of_payment w c port = let stored = step_of_store w c port in if is_stored stored.1 then step_of_show stored.0 c port else stored
 
 -- a key, and then the payment of what it owes
-abbrev pub step_of_key : World → ℕ → ℕ → Keyed → World × Outcome
+abbrev pub step_of_key : World → ℕ → ℕ → KeyedByte → World × Outcome
 step_of_key w c port key =
     let pressed = step_of_press w c port key.byte key.entry in if is_owes pressed.1 then step_of_payment pressed.0 c port else pressed
 
@@ -59,7 +59,7 @@ is_over _ = false
 -- ---- all keys
 
 -- the keys in turn, and the screens that they show; after the end of the call no key is read
-abbrev pub keys_from : World → ℕ → ℕ → List Keyed → World × List Turn
+abbrev pub keys_from : World → ℕ → ℕ → List KeyedByte → World × List Turn
 keys_from w c port [] = (w, [])
 keys_from w c port (key ∷ keys) =
     let done = step_of_key w c port key in
@@ -72,7 +72,7 @@ UnlessOver true Rest = Unit {0}
 UnlessOver false Rest = Rest
 
 -- each key has the entry that it makes in the world in which it is keyed
-abbrev pub AreKeyed : World → ℕ → ℕ → List Keyed → Type 0
+abbrev pub AreKeyed : World → ℕ → ℕ → List KeyedByte → Type 0
 AreKeyed w c port [] = Unit {0}
 AreKeyed w c port (key ∷ keys) =
     let done = step_of_key w c port key in
@@ -89,13 +89,13 @@ keys_refusal None = Some outcomes.NoCall
 keys_refusal (Some call) = if is_waiting call then Some outcomes.Owing else None
 
 -- keys at a port, if they are taken there
-abbrev pub step_of_taken_keys : World → ℕ → ℕ → List Keyed → Option Outcome → World × Outcome
+abbrev pub step_of_taken_keys : World → ℕ → ℕ → List KeyedByte → Option Outcome → World × Outcome
 step_of_taken_keys w c port keys (Some refusal) = (w, refusal)
 step_of_taken_keys w c port keys None = let done = keys_from w c port keys in (done.0, turns_answer done.1)
 
-abbrev pub step_of_keys : World → ℕ → ℕ → List Keyed → World × Outcome
+abbrev pub step_of_keys : World → ℕ → ℕ → List KeyedByte → World × Outcome
 step_of_keys w c port keys = step_of_taken_keys w c port keys (keys_refusal (call_at w c port))
 
 -- what the keys say, if they are taken
-abbrev pub AreKeyedAt : World → ℕ → ℕ → List Keyed → Type 0
+abbrev pub AreKeyedAt : World → ℕ → ℕ → List KeyedByte → Type 0
 AreKeyedAt w c port keys = UnlessOver (is_some (keys_refusal (call_at w c port))) (AreKeyed w c port keys)

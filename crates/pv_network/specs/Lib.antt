@@ -6,6 +6,7 @@ pub mod Keying
 pub mod Link
 pub mod OneList
 pub mod Run
+pub mod Screens
 pub mod Sound
 pub mod Standing
 pub mod Step

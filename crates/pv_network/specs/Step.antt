@@ -26,7 +26,7 @@ use Rattle.pv_network.specs.declared.outcome.Outcome.{Outcome}
 use Rattle.pv_network.specs.declared.outcome.Outcome.TheVariants as outcomes
 use Rattle.pv_network.specs.Calling.{call_at, step_of_dial, step_of_press, step_of_store, step_of_show, step_of_hang}
 use Rattle.pv_network.specs.Calls.{IsEntryOf}
-use Rattle.pv_network.specs.Keying.{Keyed, bytes_of, first_entry, step_of_keys, AreKeyedAt}
+use Rattle.pv_network.specs.Keying.{KeyedByte, bytes_of, first_entry, step_of_keys, AreKeyedAt}
 use Rattle.pv_network.specs.Traffic.{step_of_send, step_of_deliver, step_of_back, step_of_carry}
 use Rattle.pv_network.specs.Verdict.{Verdict, verdict_of, reply_found}
 use Rattle.pv_network.specs.World.{World, seat_at, with_seat, centre_at, with_edit, with_receipt, page_base}
@@ -96,7 +96,7 @@ step_of_list w = (w, outcomes.Records (length w.update.records))
 pub record Choice : Type 0 where
   pub kept : Bool
   pub said : Option EditLine
-  pub keyed : List Keyed
+  pub keyed : List KeyedByte
 
 -- What a line says is read from it, and is nothing if it is none of an editor's lines. What a key says is read from those that
 -- the caller has keyed in this world.

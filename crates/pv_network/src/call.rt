@@ -27,14 +27,14 @@ impl Model for Call {
 }
 
 impl Call {
-    ghost use Rattle.pv_session.specs.Messages.{blank_screen};
+    ghost use Rattle.pv_session.specs.Messages.{screen_of_blank};
     ghost use Rattle.pv_session.specs.declared.message.Message.TheVariants.{KeyAccount};
     ghost use Rattle.pv_network.specs.Call.{first_call, is_waiting, is_to_store, key_turn, IsEntryAt};
 
     /// A call that begins, and its first screen.
     pub(crate) fn dial() -> (Call, Screen)
         ensures call { result.0 ≡ first_call }
-        ensures screen { result.1 ≡ blank_screen KeyAccount }
+        ensures screen { result.1 ≡ screen_of_blank KeyAccount }
     {
         let (seat, screen) = Seat::dial();
         (Call { seat, stored: None }, screen)

@@ -1,12 +1,22 @@
 //! Laws of all worlds, each the clause of a function that does nothing.
 
-ghost use Rattle.std.specs.Prelude.{◌≡◌, ℕ, ◌+◌, ◌<◌, List, length};
+ghost use Rattle.std.specs.Prelude.{◌≡◌, ℕ, ◌+◌, ◌<◌, List, length, Some, None};
 ghost use Rattle.pv_outside.specs.declared.limits.Limits.{Limits};
 ghost use Rattle.pv_network.specs.declared.event.Event.{Event};
 ghost use Rattle.pv_network.specs.declared.outcome.Outcome.TheVariants.{Carried};
 ghost use Rattle.pv_network.specs.Traffic.{packet_room, carry_rounds, step_of_carry};
 ghost use Rattle.pv_network.specs.World.{World, centre_at, start};
-ghost use Rattle.pv_network.specs.Step.{Choice, after};
+ghost use Rattle.pv_session.specs.declared.message.Message.TheVariants.{KeyAccount};
+ghost use Rattle.pv_session.specs.Messages.{screen_of_blank};
+ghost use Rattle.pv_network.specs.declared.outcome.Outcome.TheVariants as outcomes;
+ghost use Rattle.pv_network.specs.declared.event.Event.TheVariants as events;
+ghost use Rattle.pv_network.specs.Step.{Choice, after, happens};
+ghost use Rattle.pv_session.specs.Calls.{AreSteps};
+ghost use Rattle.pv_session.specs.State.{CallState};
+ghost use Rattle.pv_session.specs.declared.step.Step.{Step};
+ghost use Rattle.pv_network.specs.Call.{Call, first_call};
+ghost use Rattle.pv_network.specs.Calling.{calls_at, call_at};
+ghost use Rattle.pv_network.specs.Screens.{AreChoices, call_events, call_turns, steps_turns};
 ghost use Rattle.pv_network.specs.OneList.{OneList};
 ghost use Rattle.pv_network.specs.Sound.{IsSound};
 
@@ -32,4 +42,21 @@ pub fn a_carry_has_rounds_enough()
 pub fn a_carried_centre_has_every_record()
     ensures { (w : World) (centre records items : ℕ) → IsSound w → (step_of_carry w centre).1 ≡ Carried records items
         → (centre_at (step_of_carry w centre).0 centre).applied ≡ length (step_of_carry w centre).0.update.records }
+{}
+
+/// What a caller is shown from the dial to the end of his call is shown by the steps of his seat, which begins as a new
+/// one: steps on his keys, on what he may see as he keys them, and on what his centre stores. So it does not depend on
+/// what happens at other ports, or on anything else. That these steps are a function, that what he may see counts
+/// at his entries alone, and that a serial changes no screen are laws of `pv_session`.
+pub fn caller_is_shown_the_steps_of_his_seat()
+    ensures shown { (w : World) (c p : ℕ) (call : Call) (events : List (Event × Choice)) →
+        call_at w c p ≡ Some call → AreChoices w events → (steps : List Step) × (last : CallState)
+        × AreSteps call.seat (call_events w c p (Some call) events) steps last
+        × (call_turns w c p (Some call) events ≡ steps_turns steps) }
+
+    // A dial at a free port shows the first screen, and the call is new.
+    ensures begins { (w : World) (c p : ℕ) (choice : Choice) → call_at w c p ≡ None → c < length w.centres
+        → p < length (calls_at w c).ports
+        → ((happens w (events.Dial c p) choice).1 ≡ outcomes.Shown (record { screen = screen_of_blank KeyAccount; ended = None }))
+        × (call_at (happens w (events.Dial c p) choice).0 c p ≡ Some first_call) }
 {}

@@ -2,7 +2,8 @@
 //!
 //! A [`Network`] has one Update Centre, which keeps the list of all edits, and one to four retrieval
 //! centres, each of which has applied a prefix of that list. Editors type lines at four ports, and
-//! what they ask for is judged and stored by the rules of `pv_udc`. An [`Event`] happens to the
+//! what they ask for is judged and stored by the rules of `pv_udc`. Callers dial at the 16 ports of a
+//! centre, and `pv_session` has their seats. An [`Event`] happens to the
 //! network, one at a time, and an [`Outcome`] says what came of it.
 //! Packets are numbered in the order in which they were made; any of them may be delivered at any time,
 //! never, or again.
@@ -36,7 +37,8 @@ mod verdict;
 
 pub use event::{EDITORS, Event, MAX_CENTRES, PORTS};
 pub use laws::{
-    a_carried_centre_has_every_record, a_carry_has_rounds_enough, every_reachable_world_is_sound,
+    a_carried_centre_has_every_record, a_carry_has_rounds_enough,
+    caller_is_shown_the_steps_of_his_seat, every_reachable_world_is_sound,
 };
 pub use network::Network;
 pub use outcome::{Outcome, Turn};

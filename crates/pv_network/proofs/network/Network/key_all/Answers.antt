@@ -1,16 +1,15 @@
-use Rattle.std.proofs.Common.{rules, ◌≡◌, refl, sym, None, Some, ◌∙◌}
+use Rattle.std.proofs.Common.{rules, ◌≡◌, refl, sym, Some, ◌∙◌}
 use Rattle.std.specs.Prelude.{IsNone}
 use Rattle.pv_cells.specs.Notation.{notation_at}
-use Rattle.pv_network.specs.Standing.{StandsFor}
-use Rattle.pv_network.specs.World.{World}
-use Rattle.pv_network.proofs.Keying.{Taken, notation_shorter, taken_none, taken_all, taken_over, taken_more}
+use Rattle.pv_network.proofs.Keying.{notation_shorter, taken_none, taken_all, taken_over, taken_more}
 use Rattle.pv_network.proofs.network.Network.key_all.Goals as goal
 use Rattle.pv_network.proofs.network.Network.key_all.Goals.{After-is_over}
 
 -- no key was taken yet
 pub loop-byte-init : goal.loop-byte-init
 loop-byte-init c = record {
-  taken = λ w stands. taken_none c.args.centre c.args.port c.args.text.now c.args.turns.now w c.args.self.now c.requires.notation.bytes stands
+  taken = λ w stands. taken_none c.args.centre c.args.port c.args.text.now c.args.turns.now w c.args.self.now c.requires.notation.bytes
+      stands
       c.requires.notation.reads;
   centres = refl;
 }

@@ -1,12 +1,12 @@
-use Rattle.std.proofs.Common.{rules, ◌≡◌, Some, None, sym, ap, ◌∙◌}
-use Rattle.pv_network.specs.Keying.{keys_from}
+use Rattle.std.proofs.Common.{rules, ◌≡◌, None, sym, ◌∙◌}
 use Rattle.pv_network.proofs.Keying.{refused, answered}
 use Rattle.pv_network.proofs.network.Network.keys.Goals as goal
 
 -- the keys are not taken
 pub returns-in-Some-clause-performs : goal.returns-in-Some-clause-performs
 returns-in-Some-clause-performs c = λ w stands.
-    rw (← c.self.view_is) (refused _ w (rw (← c.self.view_is) at stands) c.args.centre c.index.result.now (rw (← c.self.view_is) at c.requires.centre) c.index.ensures
+    rw (← c.self.view_is) (refused _ w (rw (← c.self.view_is) at stands) c.args.centre c.index.result.now
+    (rw (← c.self.view_is) at c.requires.centre) c.index.ensures
     c.args.port c.args.text.now c.requires.notation.bytes c.in-Some.outcome c.requires.notation.reads (sym c.in-Some.ensures))
 
 -- they are
