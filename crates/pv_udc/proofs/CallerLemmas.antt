@@ -21,10 +21,10 @@ use Rattle.pv_udc.specs.declared.reply.UdcReply.{UdcReply}
 use Rattle.pv_udc.specs.declared.reply.UdcReply.TheVariants.{Stored, Again, Old, Early, Refused}
 use Rattle.pv_udc.specs.declared.request.UdcRequest.{UdcRequest}
 use Rattle.pv_udc.specs.declared.request.UdcRequest.TheVariants.{Edit, TakeUp}
-use Rattle.pv_udc.proofs.Deciding.{is_done, is_stored, numbered}
+use Rattle.pv_udc.specs.Deciding.{is_done, is_stored, numbered}
 use Rattle.pv_udc.proofs.Numbering.{is_edit_of-wish, number_in-wish}
 -- there is room for it
-pub use Rattle.pv_udc.proofs.Rooms.{has_room-judged}
+pub use Rattle.pv_udc.specs.Rooms.{has_room-judged}
 -- one record more is its editor's last edit, and no other's
 pub use Rattle.pv_udc.proofs.LastEdits.{last_edit-his, last_edit-others}
 

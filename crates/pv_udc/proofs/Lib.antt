@@ -1,11 +1,9 @@
 pub mod CallerLemmas
-mod Deciding
 mod Facts
+mod Filling
 mod Growing
 mod LastEdits
 mod Least
 mod Numbering
 mod Repeating
 mod Replying
-mod Rooms
-mod Sizes

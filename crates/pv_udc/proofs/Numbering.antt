@@ -16,7 +16,7 @@ use Rattle.pv_udc.specs.Numbers.{IsJudgedRun, number_by, numbers_of, from_one}
 use Rattle.pv_udc.specs.declared.reply.UdcReply.{UdcReply}
 use Rattle.pv_udc.specs.declared.request.UdcRequest.{UdcRequest}
 use Rattle.pv_udc.specs.declared.request.UdcRequest.TheVariants.{Edit, TakeUp}
-use Rattle.pv_udc.proofs.Deciding.{is_stored, is_done, numbered}
+use Rattle.pv_udc.specs.Deciding.{is_stored, is_done, numbered}
 use Rattle.pv_udc.proofs.Growing.{range_with_len-push}
 use Rattle.pv_udc.proofs.LastEdits.{last_edit-his, last_edit-others}
 

@@ -11,7 +11,7 @@ use Rattle.pv_udc.specs.Judgement.{last_edit, judge}
 use Rattle.pv_udc.specs.declared.reply.UdcReply.{UdcReply}
 use Rattle.pv_udc.specs.declared.reply.UdcReply.TheVariants.{Again}
 use Rattle.pv_udc.specs.declared.request.UdcRequest.TheVariants.{Edit}
-use Rattle.pv_udc.proofs.Deciding.{is_done}
+use Rattle.pv_udc.specs.Deciding.{is_done}
 use Rattle.pv_udc.proofs.LastEdits.{last_edit-his, has_editor-push}
 use Rattle.pv_udc.proofs.Numbering.{is_edit_of-wish, number_in-wish}
 

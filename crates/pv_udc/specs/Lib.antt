@@ -1,7 +1,11 @@
 pub mod Codes
 pub mod Counts
+pub mod Deciding
 pub mod EditList
 pub mod Judgement
 pub mod Numbers
 pub mod Replies
 pub mod Requests
+pub mod Rooms
+pub mod Ruling
+pub mod Sizes

@@ -29,6 +29,7 @@ mod law;
 mod refusal;
 mod reply;
 mod request;
+mod rules;
 mod sending;
 mod state;
 
@@ -39,6 +40,7 @@ pub use law::{
 pub use refusal::Refusal;
 pub use reply::{Code, UdcReply};
 pub use request::UdcRequest;
+pub use rules::UdcRules;
 pub use sending::down;
 pub use state::{CENTRES, UdcState};
 

@@ -11,6 +11,8 @@ use pv_page::{AccountNo, FrameName, PageNo};
 use pv_post::{Fields, Filled, Item, Mail, Reply, TEXT_CELLS};
 use std::test::Fail;
 
+mod node;
+
 /// Room for two frames and five records.
 const SMALL: Limits = Limits {
     frames: 2,

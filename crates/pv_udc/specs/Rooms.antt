@@ -18,7 +18,7 @@ use Rattle.pv_udc.specs.declared.refusal.Refusal.TheVariants.{FramesFull, Accoun
 use Rattle.pv_udc.specs.declared.reply.UdcReply.{UdcReply}
 use Rattle.pv_udc.specs.declared.request.UdcRequest.{UdcRequest}
 use Rattle.pv_udc.specs.declared.request.UdcRequest.TheVariants.{Edit, TakeUp}
-use Rattle.pv_udc.proofs.Deciding.{of_not, all_none, is_stored, is_done}
+use Rattle.pv_udc.specs.Deciding.{of_not, all_none, is_stored, is_done}
 
 -- both hold
 both : (one other : Bool) → one ≡ true → other ≡ true → (one && other) ≡ true

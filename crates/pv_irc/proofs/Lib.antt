@@ -1,0 +1,5 @@
+mod Applying
+mod Facts
+mod Filling
+mod Numbering
+mod OneSpelling

@@ -1,0 +1,131 @@
+-- What one record more does to a centre's state.
+use Rattle.std.proofs.Common.{◌≡◌, ℕ, zero, suc, ◌+◌, Bool, true, false, cond, List, [], ◌∷◌, ◌++◌, length, Option, Some, None, refl, ap, sym, ◌∙◌, append_assoc, append-nil, arith}
+use Rattle.std.specs.List.{filter_map, count_by}
+use Rattle.std.proofs.lemmas.List.{length-append}
+use Rattle.std.proofs.lemmas.List.Elements.{filter_map-append}
+use Rattle.std.proofs.lemmas.List.Sums.{sum_by_push, sum_by-cons}
+use Rattle.pv_outside.specs.declared.limits.Limits.{Limits}
+use Rattle.pv_post.specs.declared.item.Item.{Item}
+use Rattle.pv_edits.specs.declared.down.DownRecord.{DownRecord}
+use Rattle.pv_edits.specs.declared.down.DownRecord.TheVariants.{Whole, Blank}
+use Rattle.pv_irc.specs.History.{applied_in, kept_in, is_log_on, applied_records, applied_of, items_of, log_ons_of, whole_in, whole_records, place_if_whole, whole_places, CentreState, centre_state_of, record_count, with_applied, with_centre_record}
+use Rattle.pv_irc.specs.declared.record.CentreRecord.{CentreRecord}
+use Rattle.pv_irc.specs.declared.record.CentreRecord.TheVariants.{Applied, LogOn, Kept}
+
+-- the places of one thing more that came down
+whole_places-push : (first : ℕ) (downs : List DownRecord) (down : DownRecord)
+    → whole_places first (downs ++ down ∷ []) ≡ whole_places first downs ++ place_if_whole (first + length downs) down
+whole_places-push first [] down =
+    let here : first ≡ first + 0 = omega arith in
+    append-nil (place_if_whole first down) ∙ ap (λ place. place_if_whole place down) here
+whole_places-push first (one ∷ downs) down =
+    let there : first + 1 + length downs ≡ first + suc (length downs) = omega arith in
+    ap (λ places. place_if_whole first one ++ places)
+    (whole_places-push (first + 1) downs down ∙ ap (λ place. whole_places (first + 1) downs ++ place_if_whole place down) there)
+    ∙ sym (append_assoc (place_if_whole first one) (whole_places (first + 1) downs) (place_if_whole (first + suc (length downs)) down))
+
+-- a list with none more
+same_list : {X : Type 0} (xs : List X) → xs ++ [] ≡ xs
+same_list xs = append-nil xs
+
+-- the count of log-ons
+log_ons-push : (records : List CentreRecord) (rec : CentreRecord) → log_ons_of (records ++ rec ∷ []) ≡ log_ons_of records + cond (is_log_on rec) 1 0
+log_ons-push records rec = sum_by_push (λ r. cond (is_log_on r) 1 0) records rec
+
+module _ (centre : ℕ) (limits : Limits) (records : List CentreRecord) where
+  -- the state with these parts
+  abbrev state_with : List DownRecord → List Item → ℕ → CentreState
+  state_with downs items log_ons = record {
+    centre = centre;
+    limits = limits;
+    applied = length downs;
+    edits = whole_records downs;
+    places = whole_places 0 downs;
+    items = items;
+    log_ons = log_ons;
+  }
+
+  -- one thing more that came down
+  applied_more : (down : DownRecord) (items : List Item) (log_ons : ℕ) (downs : List DownRecord)
+      → with_applied (state_with downs items log_ons) down ≡ state_with (downs ++ down ∷ []) items log_ons
+  applied_more (Whole edit) items log_ons downs =
+      let more : length downs + 1 ≡ length (downs ++ Whole edit ∷ []) = omega (arith, length-append downs (Whole edit ∷ [])) in
+      let edits : whole_records downs ++ edit ∷ [] ≡ whole_records (downs ++ Whole edit ∷ []) =
+      sym (filter_map-append whole_in downs (Whole edit ∷ [])) in
+      let places : whole_places 0 downs ++ length downs ∷ [] ≡ whole_places 0 (downs ++ Whole edit ∷ []) =
+      ap (λ place. whole_places 0 downs ++ place ∷ []) (omega arith) ∙ sym (whole_places-push 0 downs (Whole edit)) in
+      λ i. record {
+        centre = centre;
+        limits = limits;
+        applied = more i;
+        edits = edits i;
+        places = places i;
+        items = items;
+        log_ons = log_ons;
+      }
+  applied_more Blank items log_ons downs =
+      let more : length downs + 1 ≡ length (downs ++ Blank ∷ []) = omega (arith, length-append downs (Blank ∷ [])) in
+      let edits : whole_records downs ≡ whole_records (downs ++ Blank ∷ []) =
+      sym (filter_map-append whole_in downs (Blank ∷ []) ∙ same_list (whole_records downs)) in
+      let places : whole_places 0 downs ≡ whole_places 0 (downs ++ Blank ∷ []) =
+      sym (whole_places-push 0 downs Blank ∙ same_list (whole_places 0 downs)) in
+      λ i. record {
+        centre = centre;
+        limits = limits;
+        applied = more i;
+        edits = edits i;
+        places = places i;
+        items = items;
+        log_ons = log_ons;
+      }
+
+  -- the lists and the count that a record adds to
+  same_parts : (downs more_downs : List DownRecord) (items more_items : List Item) (log_ons more_log_ons : ℕ) → downs ≡ more_downs
+      → items ≡ more_items → log_ons ≡ more_log_ons → state_with downs items log_ons ≡ state_with more_downs more_items more_log_ons
+  same_parts downs more_downs items more_items log_ons more_log_ons same also so = λ i. state_with (same i) (also i) (so i)
+
+  -- the state of one record more
+  pub grown : (rec : CentreRecord) → with_centre_record (centre_state_of centre limits records) rec
+      ≡ centre_state_of centre limits (records ++ rec ∷ [])
+  grown (Applied n down) =
+      applied_more down (items_of records) (log_ons_of records) (applied_records records)
+      ∙ same_parts _ _ _ _ _ _ (sym (filter_map-append applied_in records (Applied n down ∷ [])))
+      (sym (filter_map-append kept_in records (Applied n down ∷ []) ∙ same_list (items_of records)))
+      (sym (log_ons-push records (Applied n down) ∙ omega arith))
+  grown (LogOn account) =
+      same_parts _ _ _ _ _ _ (sym (filter_map-append applied_in records (LogOn account ∷ []) ∙ same_list (applied_records records)))
+      (sym (filter_map-append kept_in records (LogOn account ∷ []) ∙ same_list (items_of records)))
+      (sym (log_ons-push records (LogOn account)))
+  grown (Kept item) =
+      same_parts _ _ _ _ _ _ (sym (filter_map-append applied_in records (Kept item ∷ []) ∙ same_list (applied_records records)))
+      (sym (filter_map-append kept_in records (Kept item ∷ [])))
+      (sym (log_ons-push records (Kept item) ∙ omega arith))
+
+-- one record more is counted
+pub record_count-with : (state : CentreState) (rec : CentreRecord) → record_count (with_centre_record state rec) ≡ record_count state + 1
+record_count-with state (Applied n (Whole edit)) = omega arith
+record_count-with state (Applied n Blank) = omega arith
+record_count-with state (LogOn account) = omega arith
+record_count-with state (Kept item) = omega (arith, length-append state.items (item ∷ []))
+
+-- the limits stay
+pub limits-with : (state : CentreState) (rec : CentreRecord) → (with_centre_record state rec).limits ≡ state.limits
+limits-with state (Applied n (Whole edit)) = refl
+limits-with state (Applied n Blank) = refl
+limits-with state (LogOn account) = refl
+limits-with state (Kept item) = refl
+
+-- each record is counted once
+log_ons-cons : (rec : CentreRecord) (records : List CentreRecord) → log_ons_of (rec ∷ records) ≡ cond (is_log_on rec) 1 0 + log_ons_of records
+log_ons-cons rec records = sum_by-cons (λ r. cond (is_log_on r) 1 0) rec records
+
+one_of : (rec : CentreRecord) (records : List CentreRecord)
+    → applied_of (rec ∷ records) + length (items_of (rec ∷ records)) + log_ons_of (rec ∷ records)
+    ≡ suc (applied_of records + length (items_of records) + log_ons_of records)
+one_of (Applied n rec) records = omega (arith, log_ons-cons (Applied n rec) records)
+one_of (LogOn account) records = omega (arith, log_ons-cons (LogOn account) records)
+one_of (Kept item) records = omega (arith, log_ons-cons (Kept item) records)
+
+pub counted_state : (centre : ℕ) (limits : Limits) (records : List CentreRecord) → record_count (centre_state_of centre limits records) ≡ length records
+counted_state centre limits [] = refl
+counted_state centre limits (rec ∷ records) = one_of rec records ∙ ap suc (counted_state centre limits records)

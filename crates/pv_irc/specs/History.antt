@@ -1,0 +1,111 @@
+-- What a list of a centre's records comes to: what it has applied of the edit list, its items, and its log-ons.
+use Rattle.std.specs.Prelude.{ℕ, ◌+◌, Bool, true, false, List, [], ◌∷◌, ◌++◌, length, Option, Some, None}
+use Rattle.std.specs.List.{filter_map, count_by}
+use Rattle.pv_outside.specs.declared.limits.Limits.{Limits}
+use Rattle.pv_post.specs.declared.item.Item.{Item}
+use Rattle.pv_edits.specs.declared.record.Record.{Record}
+use Rattle.pv_edits.specs.declared.down.DownRecord.{DownRecord}
+use Rattle.pv_edits.specs.declared.down.DownRecord.TheVariants.{Whole, Blank}
+use Rattle.pv_irc.specs.declared.record.CentreRecord.{CentreRecord}
+use Rattle.pv_irc.specs.declared.record.CentreRecord.TheVariants.{Applied, LogOn, Kept}
+
+-- what was applied in a record
+abbrev pub applied_in : CentreRecord → Option DownRecord
+applied_in (Applied n rec) = Some rec
+applied_in (LogOn account) = None
+applied_in (Kept item) = None
+
+-- the item that was kept in a record
+abbrev pub kept_in : CentreRecord → Option Item
+kept_in (Applied n rec) = None
+kept_in (LogOn account) = None
+kept_in (Kept item) = Some item
+
+-- the record is of a log-on
+abbrev pub is_log_on : CentreRecord → Bool
+is_log_on (Applied n rec) = false
+is_log_on (LogOn account) = true
+is_log_on (Kept item) = false
+
+-- what the centre has applied of the edit list, in order
+abbrev pub applied_records : List CentreRecord → List DownRecord
+applied_records records = filter_map applied_in records
+
+-- how many records of the edit list it has applied
+abbrev pub applied_of : List CentreRecord → ℕ
+applied_of records = length (applied_records records)
+
+-- the items that it has kept, in order: the number of each is its index
+abbrev pub items_of : List CentreRecord → List Item
+items_of records = filter_map kept_in records
+
+-- how many log-ons it has counted
+abbrev pub log_ons_of : List CentreRecord → ℕ
+log_ons_of records = count_by is_log_on records
+
+-- ---- the records that it has got whole
+
+-- the record, if it came down whole
+abbrev pub whole_in : DownRecord → Option Record
+whole_in (Whole edit) = Some edit
+whole_in Blank = None
+
+-- the records that came down whole
+abbrev pub whole_records : List DownRecord → List Record
+whole_records downs = filter_map whole_in downs
+
+-- the place of what came down, if it is a whole record
+abbrev pub place_if_whole : ℕ → DownRecord → List ℕ
+place_if_whole place (Whole edit) = place ∷ []
+place_if_whole place Blank = []
+
+-- the places of the records that came down whole, the first of the list having this one
+abbrev pub whole_places : ℕ → List DownRecord → List ℕ
+whole_places first [] = []
+whole_places first (down ∷ later) = place_if_whole first down ++ whole_places (first + 1) later
+
+-- ---- what a state shows of it
+
+-- the centre's number, its limits, how many records it has applied, those of them that it has whole with their places in the edit
+-- list, its items, and how many log-ons it has counted
+pub record CentreState : Type 0 where
+  pub centre : ℕ
+  pub limits : Limits
+  pub applied : ℕ
+  pub edits : List Record
+  pub places : List ℕ
+  pub items : List Item
+  pub log_ons : ℕ
+
+-- the state of a centre that has stored these records
+abbrev pub centre_state_of : ℕ → Limits → List CentreRecord → CentreState
+centre_state_of centre limits records = record {
+  centre = centre;
+  limits = limits;
+  applied = applied_of records;
+  edits = whole_records (applied_records records);
+  places = whole_places 0 (applied_records records);
+  items = items_of records;
+  log_ons = log_ons_of records;
+}
+
+-- how many records a state has taken in
+abbrev pub record_count : CentreState → ℕ
+record_count state = state.applied + length state.items + state.log_ons
+
+-- ---- with one record more
+
+-- with a record of the edit list applied
+abbrev pub with_applied : CentreState → DownRecord → CentreState
+with_applied state (Whole edit) = record state {
+  applied = state.applied + 1;
+  edits = state.edits ++ edit ∷ [];
+  places = state.places ++ state.applied ∷ [];
+}
+with_applied state Blank = record state { applied = state.applied + 1 }
+
+-- with a record of the centre's
+abbrev pub with_centre_record : CentreState → CentreRecord → CentreState
+with_centre_record state (Applied n rec) = with_applied state rec
+with_centre_record state (LogOn account) = record state { log_ons = state.log_ons + 1 }
+with_centre_record state (Kept item) = record state { items = state.items ++ item ∷ [] }

@@ -1,0 +1,9 @@
+pub mod Deciding
+pub mod Growing
+pub mod History
+pub mod Lengths
+pub mod Numbers
+pub mod Reading
+pub mod Record
+pub mod Room
+pub mod Ruling

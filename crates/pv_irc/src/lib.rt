@@ -1,0 +1,39 @@
+//! A centre's rules: what it keeps, and how it judges what comes down, what callers post, and log-ons.
+//!
+//! - An [`IrcRequest`] is a record of the edit list that came down, a log-on, or an item to be kept.
+//! - A [`CentreRecord`] is what the centre stores of it. It has one spelling in bytes.
+//! - [`IrcState`] is what the centre knows: the base of the records that it has applied, its items, and
+//!   its counts. [`IrcState::decide`] judges a request, [`IrcState::absorb`] takes a stored record in.
+//! - [`IrcRules`] are the rules of the centre of a number, for a node.
+//!
+//! A centre applies the edit list in order, so the records that it has applied are a prefix of that list.
+//! Its items and its log-ons are numbered from 0, in the order in which they were stored.
+//!
+//! ```text
+//! let mut node = Node::<IrcRules<2>, _>::open(alloc, disk, limits)?;
+//! node.ask(&IrcRequest::Apply { n: 0, rec })?.reply;      // Applied
+//! node.ask(&IrcRequest::Apply { n: 0, rec })?.reply;      // Old(1): one was applied
+//! node.ask(&IrcRequest::LogOn { account })?.reply;        // Serial(0)
+//! node.state().sight(Some(account));                      // what the caller may see here
+//! ```
+//!
+//! What a list of the centre's records comes to is defined in `specs/History.antt`, how a request is
+//! judged in `specs/Deciding.antt`. Only `open` takes memory.
+#![tactic(auto)]
+
+mod law;
+mod record;
+mod reply;
+mod request;
+mod rules;
+mod state;
+
+pub use law::{centre_records_are_numbered, no_centre_record_begins_another};
+pub use record::CentreRecord;
+pub use reply::IrcReply;
+pub use request::IrcRequest;
+pub use rules::IrcRules;
+pub use state::IrcState;
+
+#[cfg(test)]
+mod tests;

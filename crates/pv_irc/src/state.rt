@@ -1,0 +1,198 @@
+ghost use Rattle.std.specs.Prelude.{◌≡◌, ◌<◌, [], length, slice_get, option_copied, IfOk, IsTrue};
+ghost use Rattle.std.specs.Vec.{vec_capacity};
+ghost use Rattle.pv_irc.specs.History.{record_count, with_applied, with_centre_record};
+ghost use Rattle.pv_irc.specs.Deciding.{down_fits, centre_has_room, centre_judgement};
+ghost use Rattle.pv_irc.specs.declared.request.IrcRequest.TheVariants as requests;
+
+use crate::record::CentreRecord;
+use crate::reply::IrcReply;
+use crate::request::IrcRequest;
+use pv_edits::{Base, DownRecord, Sight};
+use pv_node::Decision;
+use pv_outside::Limits;
+use pv_page::AccountNo;
+use pv_post::Item;
+use std::alloc::{AllocError, Global};
+use std::marker::Model;
+
+/// What a centre knows: its number, the base of the records that it has applied, its items, and its
+/// counts. All room is reserved when it is opened.
+#[derive(Debug, Drop)]
+pub struct IrcState {
+    centre: u8,
+    base: Base,
+    limits: Limits,
+    applied: u64,
+    items: Vec<Item>,
+    log_ons: u64,
+}
+
+impl Model for IrcState {
+    ghost use Rattle.std.specs.Prelude.{length};
+    ghost use Rattle.std.specs.Vec.{vec_capacity};
+    ghost use Rattle.pv_edits.specs.Standing.{records_of, places_of};
+    ghost use Rattle.pv_irc.specs.History.{CentreState};
+    ghost use Rattle.pv_irc.specs.Room.{IsWithinLimits};
+
+    ghost Value = { CentreState };
+
+    ghost view = { λ s. record {
+      centre = s.centre;
+      limits = s.limits;
+      applied = s.applied;
+      edits = records_of s.base;
+      places = places_of s.base;
+      items = s.items.items;
+      log_ons = s.log_ons;
+    } };
+
+    ghost invariant = { λ s. IsWithinLimits s.base s.limits s.applied (length s.items.items) s.log_ons
+        (vec_capacity s.items) };
+}
+
+impl IrcState {
+    ghost use Rattle.pv_edits.specs.Standing.{IsBaseOf};
+    ghost use Rattle.pv_edits.specs.Sight.{sight_of, view_of};
+    ghost use Rattle.pv_irc.specs.History.{centre_state_of};
+
+    /// The state of a centre that has stored nothing. Room for `limits.records` records is reserved.
+    pub fn open(alloc: Global, centre: u8, limits: Limits) -> Result<IrcState, AllocError>
+        ensures { IfOk result (λ state. state ≡ centre_state_of centre limits []) }
+    {
+        Ok(IrcState {
+            centre,
+            base: Base::open(alloc, limits)?,
+            limits,
+            applied: 0,
+            items: Vec::with_capacity(alloc, limits.records as usize)?,
+            log_ons: 0,
+        })
+    }
+
+    /// Decides on a request.
+    ///
+    /// A record that came down is to be stored if its place is the count of those that were applied and
+    /// there is room for it. It is [`IrcReply::Old`] exactly below that count, [`IrcReply::Early`] exactly
+    /// above, and [`IrcReply::NoRoom`] exactly at it if it is whole and has no room. A log-on and an item
+    /// are always to be stored.
+    pub fn decide(&self, request: &IrcRequest) -> Decision<CentreRecord, IrcReply>
+        ensures { result ≡ centre_judgement self.now request.now }
+    {
+        match request {
+            IrcRequest::Apply { n, rec } => self.decide_record(*n, rec),
+            IrcRequest::LogOn { account } => Decision::Store(
+                CentreRecord::LogOn { account: *account },
+                IrcReply::Serial(self.log_ons),
+            ),
+            IrcRequest::Keep { item } => Decision::Store(
+                CentreRecord::Kept { item: *item },
+                IrcReply::Kept(self.items()),
+            ),
+        }
+    }
+
+    /// Decides on a record that came down, with its place.
+    fn decide_record(&self, n: u64, rec: &DownRecord) -> Decision<CentreRecord, IrcReply>
+        ensures { result ≡ centre_judgement self.now (requests.Apply n rec.now) }
+    {
+        let count = self.applied();
+        if n < count {
+            return Decision::Answer(IrcReply::Old(count));
+        }
+        if n > count {
+            return Decision::Answer(IrcReply::Early(count));
+        }
+        if !self.fits(rec) {
+            return Decision::Answer(IrcReply::NoRoom(count));
+        }
+        Decision::Store(CentreRecord::Applied { n, rec: *rec }, IrcReply::Applied)
+    }
+
+    /// Whether there is room for a record: if it is of a whole record that came down, what this adds is
+    /// within the limits.
+    pub fn has_room(&self, rec: &CentreRecord) -> bool
+        ensures { result ≡ centre_has_room self.now rec.now }
+    {
+        match rec {
+            CentreRecord::Applied { rec, .. } => self.fits(rec),
+            _ => true,
+        }
+    }
+
+    /// Whether there is room for what came down.
+    fn fits(&self, rec: &DownRecord) -> bool
+        ensures { result ≡ down_fits self.now rec.now }
+    {
+        match rec {
+            DownRecord::Whole(edit) => self.base.has_room(edit),
+            DownRecord::Blank => true,
+        }
+    }
+
+    /// Takes a record in, for which there is room. There are fewer than the limit of records.
+    pub fn absorb(&mut self, rec: &CentreRecord)
+        requires room { IsTrue (centre_has_room self.old rec.now) }
+        requires within { record_count self.old < self.old.limits.records }
+        ensures { self.new ≡ with_centre_record self.old rec.now }
+    {
+        match rec {
+            CentreRecord::Applied { rec, .. } => self.apply(rec),
+            CentreRecord::LogOn { .. } => self.log_ons += 1,
+            CentreRecord::Kept { item } => self.items.push_reserved(*item),
+        }
+    }
+
+    /// Applies what came down.
+    fn apply(&mut self, rec: &DownRecord)
+        requires room { IsTrue (down_fits self.old rec.now) }
+        requires within { record_count self.old < self.old.limits.records }
+        ensures { self.new ≡ with_applied self.old rec.now }
+    {
+        if let DownRecord::Whole(edit) = rec {
+            self.base.absorb(edit, self.applied);
+        }
+        self.applied += 1;
+    }
+
+    /// How many records of the edit list were applied: the place of the next one.
+    pub fn applied(&self) -> u64
+        ensures { result ≡ self.now.applied }
+    {
+        self.applied
+    }
+
+    /// How many items were kept: the number of the next one.
+    pub fn items(&self) -> u64
+        ensures { result ≡ length self.now.items }
+    {
+        self.items.len() as u64
+    }
+
+    /// The item of a number. `None` exactly from the count on.
+    pub fn item_at(&self, k: u64) -> Option<&Item>
+        ensures { option_copied result ≡ slice_get self.now.items k }
+    {
+        self.items.get(k as usize)
+    }
+
+    /// How many log-ons were counted: the serial of the next one.
+    pub fn log_ons(&self) -> u64
+        ensures { result ≡ self.now.log_ons }
+    {
+        self.log_ons
+    }
+
+    /// The base of the whole records that were applied, each with its place in the edit list.
+    pub fn base(&self) -> &Base
+        ensures { IsBaseOf result.now self.now.edits self.now.places }
+    {
+        &self.base
+    }
+
+    /// What the centre shows to the caller who gave this account, or none.
+    pub fn sight(&self, account: Option<AccountNo>) -> Sight<'_>
+        ensures { view_of result ≡ sight_of self.now.edits self.now.centre account }
+    {
+        Sight::new(&self.base, self.centre, account)
+    }
+}
