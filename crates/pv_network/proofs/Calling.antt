@@ -6,7 +6,7 @@ use Rattle.pv_edits.specs.Sight.{sight_of}
 use Rattle.pv_session.specs.declared.entry.Entry.{Entry}
 use Rattle.pv_network.specs.declared.outcome.Outcome.{Outcome}
 use Rattle.pv_network.specs.Calling.{calls_at, call_at, at_calls, step_of_dial, step_of_hang, step_of_press, step_of_store, step_of_show}
-use Rattle.pv_network.specs.Calls.{Calls, account_given, call_in, dial_at, hang_at, press_at, store_at, show_at, IsEntryOf}
+use Rattle.pv_network.specs.Calls.{Calls, caller_account, call_in, dial_at, hang_at, press_at, store_at, show_at, IsEntryOf}
 use Rattle.pv_network.specs.Centre.{Held, CentreStands, Comes, Pressed, record_count, held_count}
 use Rattle.pv_network.specs.Sound.{IsSoundCalls}
 use Rattle.pv_network.specs.Standing.{State, StandsFor}
@@ -88,7 +88,7 @@ module _ (s : State) (w : World) (stands : StandsFor s w) (c : ℕ) (here : Held
     presses key pressed =
         let entry = pressed.entry in
         let step : List Record → Calls → Calls × Outcome =
-        λ records calls. press_at calls port key (sight_of records c (account_given (call_in calls port))) entry (call_in calls port) in
+        λ records calls. press_at calls port key (sight_of records c (caller_account (call_in calls port))) entry (call_in calls port) in
         let done = does (step (page_base w c))
         (subst (λ (records : List Record). Comes here new outcome (step records here.calls)) stood.prefix pressed.comes)
         (press_sound (calls_at w c) port (stands.sound.calls c) key _ entry (call_at w c port) refl) in

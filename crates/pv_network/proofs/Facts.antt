@@ -1,5 +1,5 @@
 -- Worked examples of the network's rules, computed from the definitions.
-use Rattle.std.proofs.Common.{lit<, lit≤, ◌≡◌, ℕ, Some, None, codes, refl}
+use Rattle.std.proofs.Common.{lit<, lit≤, ◌≡◌, ℕ, Some, None, codes, refl, length, true}
 use Rattle.std.specs.Fmt.{digits}
 use Rattle.pv_outside.specs.declared.limits.Limits.{Limits}
 use Rattle.pv_node.specs.declared.decision.Decision.TheVariants.{Answer}
@@ -11,6 +11,11 @@ use Rattle.pv_editor.specs.Replies.{reply_of}
 use Rattle.pv_editor.specs.declared.replies.UdcReplyView.TheVariants as told
 use Rattle.pv_network.specs.declared.centre.Arrival.TheVariants.{Taken, Old, Early, Full}
 use Rattle.pv_network.specs.declared.outcome.Outcome.TheVariants as outcomes
+use Rattle.pv_session.specs.declared.message.Message.TheVariants.{KeyAccount}
+use Rattle.pv_session.specs.declared.step.Paid.TheVariants.{Serial}
+use Rattle.pv_session.specs.Messages.{screen_of_blank}
+use Rattle.pv_network.specs.Call.{first_call, serial_of}
+use Rattle.pv_network.specs.Calls.{no_calls, call_in, dial_at, with_log_on, store_at}
 use Rattle.pv_network.specs.Centre.{arrival_of}
 use Rattle.pv_network.specs.Link.{number_to_send}
 use Rattle.pv_network.specs.Traffic.{carry_rounds, step_of_carry, step_of_send}
@@ -60,3 +65,19 @@ two_are_carried one other = refl
 -- there is nothing to send at the start
 pub idle_at_start : (limits : Limits) → (step_of_send (start 1 limits) 0).1 ≡ outcomes.Idle
 idle_at_start limits = refl
+
+-- ---- calls
+
+-- a centre has sixteen ports, and nobody has called
+pub ports : length no_calls.ports ≡ 16
+ports = refl
+
+-- a dial at a free port is answered by the first screen, and a second one by the first call
+pub dials : ((dial_at no_calls 0 None).1 ≡ outcomes.Shown (record { screen = screen_of_blank KeyAccount; ended = None }))
+    × ((dial_at (dial_at no_calls 0 None).0 0 (call_in (dial_at no_calls 0 None).0 0)).1 ≡ outcomes.Busy)
+dials = (refl, refl)
+
+-- a log-on raises the count, its serial is the count before it, and a call that owes nothing stores none
+pub serials : ((with_log_on no_calls 0 first_call).log_ons ≡ 1) × (serial_of (record first_call { stored = Some (Serial 0) }) ≡ Some 0)
+    × ((store_at true 4 no_calls 0 (Some first_call)).1 ≡ outcomes.Nothing)
+serials = (refl, refl, refl)

@@ -4,7 +4,7 @@ use Rattle.pv_edits.specs.Sight.{View, sight_of}
 use Rattle.pv_session.specs.declared.entry.Entry.{Entry}
 use Rattle.pv_network.specs.declared.outcome.Outcome.{Outcome}
 use Rattle.pv_network.specs.Call.{Call}
-use Rattle.pv_network.specs.Calls.{Calls, account_given, call_in, dial_at, hang_at, press_at, store_at, show_at}
+use Rattle.pv_network.specs.Calls.{Calls, caller_account, call_in, dial_at, hang_at, press_at, store_at, show_at}
 use Rattle.pv_network.specs.Centre.{record_count}
 use Rattle.pv_network.specs.World.{World, centre_at, with_centre, page_base}
 
@@ -32,7 +32,7 @@ step_of_hang w c port = at_calls w c (hang_at (calls_at w c) port (call_at w c p
 
 -- what a centre shows to the caller at a port: what its page base has for his account
 abbrev pub view_at : World → ℕ → ℕ → View
-view_at w c port = sight_of (page_base w c) c (account_given (call_at w c port))
+view_at w c port = sight_of (page_base w c) c (caller_account (call_at w c port))
 
 -- a key, with the entry that it makes
 abbrev pub step_of_press : World → ℕ → ℕ → ℕ → Option Entry → World × Outcome

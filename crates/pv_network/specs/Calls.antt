@@ -29,9 +29,9 @@ abbrev pub call_in : Calls → ℕ → Option Call
 call_in calls port = slice_index_or calls.ports port None
 
 -- the account that a caller gave, if there is a call
-abbrev pub account_given : Option Call → Option ℕ
-account_given None = None
-account_given (Some call) = call.seat.account
+abbrev pub caller_account : Option Call → Option ℕ
+caller_account None = None
+caller_account (Some call) = call.seat.account
 
 -- another call at a port, or none
 abbrev pub with_call : Calls → ℕ → Option Call → Calls

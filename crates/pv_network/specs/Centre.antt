@@ -8,7 +8,7 @@ use Rattle.pv_udc.specs.EditList.{EditList}
 use Rattle.pv_network.specs.declared.centre.Arrival.{Arrival}
 use Rattle.pv_network.specs.declared.centre.Arrival.TheVariants.{Taken, Old, Early, Full}
 use Rattle.pv_network.specs.declared.outcome.Outcome.{Outcome}
-use Rattle.pv_network.specs.Calls.{Calls, no_calls, account_given, call_in, press_at, IsEntryOf}
+use Rattle.pv_network.specs.Calls.{Calls, no_calls, caller_account, call_in, press_at, IsEntryOf}
 
 -- a centre: how many records it has applied, and its calls
 pub record Centre : Type 0 where
@@ -67,4 +67,4 @@ pub record Pressed (old new : Held) (number port key : ℕ) (outcome : Outcome) 
   pub entry : Option Entry
   pub says : IsEntryOf (call_in old.calls port) key entry
   pub comes : Comes old new outcome
-      (press_at old.calls port key (sight_of old.records number (account_given (call_in old.calls port))) entry (call_in old.calls port))
+      (press_at old.calls port key (sight_of old.records number (caller_account (call_in old.calls port))) entry (call_in old.calls port))

@@ -6,7 +6,7 @@ ghost use Rattle.pv_network.specs.declared.event.TheConstants.{PORTS};
 ghost use Rattle.pv_network.specs.Call.{call_of};
 ghost use Rattle.pv_network.specs.Keying.{keys_refusal};
 ghost use Rattle.pv_network.specs.Calls as Spec;
-ghost use Rattle.pv_network.specs.Calls.{no_calls, account_given, call_in, with_call, turn_at, dial_at, hang_at, press_at, store_at, show_at, IsEntryOf};
+ghost use Rattle.pv_network.specs.Calls.{no_calls, caller_account, call_in, with_call, turn_at, dial_at, hang_at, press_at, store_at, show_at, IsEntryOf};
 
 use crate::call::Call;
 use crate::event::PORTS;
@@ -58,7 +58,7 @@ impl Calls {
     /// The account that the caller at a port gave.
     pub(crate) fn account(&self, port: usize) -> Option<AccountNo>
         requires { port < PORTS }
-        ensures { result ≡ account_given (call_in self.now port) }
+        ensures { result ≡ caller_account (call_in self.now port) }
     {
         match &self.ports[port] {
             Some(call) => call.account(),
