@@ -118,8 +118,8 @@ def network_picture():
         body += box(x + 145, 268, 52, 40, "disk", dashed=True)
         body.append(line(x + 130, 288, x + 145, 288, dashed=True))
         for caller in range(2):
-            body += box(x + caller * 72, 360, 62, 36, "caller", dashed=True)
-            body.append(line(x + 65, 316, x + 31 + caller * 72, 360, dashed=True, arrow=both))
+            body += box(x + caller * 72, 360, 62, 36, "caller")
+            body.append(line(x + 65, 316, x + 31 + caller * 72, 360, arrow=both))
     body.append(words(30, 430, "Solid: stands and is proved as one machine. Dashed: to come.", 12, "start"))
     return svg(680, 444, body)
 
