@@ -2,16 +2,35 @@
 use Rattle.std.proofs.Common.{◌≡◌, List, [], ◌∷◌, ℕ, suc, length, refl, ap, sym, subst}
 use Rattle.std.specs.List.{AllZip}
 use Rattle.pv_network.specs.declared.event.Event.{Event}
-use Rattle.pv_network.specs.Standing.{State, StandsFor, IsPossible}
+use Rattle.pv_network.specs.Standing.{State, StandsFor, IsPossible, IsNotation}
 use Rattle.pv_network.specs.World.{World}
 use Rattle.pv_script.specs.declared.grammar.Command.TheVariants.{Do}
+use Rattle.pv_script.specs.declared.word.CallWord.{CallWord}
+use Rattle.pv_script.specs.declared.word.CallWord.TheVariants as calling
 use Rattle.pv_script.specs.declared.word.Word.{Word}
 use Rattle.pv_script.specs.declared.word.Word.TheVariants as words
-use Rattle.pv_script.specs.Grammar.{AsksAs}
+use Rattle.pv_script.specs.Grammar.{AsksAs, CallAsksAs}
 
 -- a command to let an event happen is of that event
 event_is : {event other : Event} → Do event ≡ Do other → event ≡ other
 event_is is = cc
+
+-- by the word of a caller's line: its centre and its port are ones that there are, and its keys are at least one
+call_can_happen : (s : State) (word : CallWord) (tail : List ℕ) (event : Event) → CallAsksAs (length s.centres) word tail (Do event)
+    → IsPossible s event
+call_can_happen s calling.Dial tail event asks =
+    subst (IsPossible s) (sym (event_is asks.is)) (asks.are.first.0, asks.are.second.first.0)
+call_can_happen s calling.Press tail event asks =
+    subst (IsPossible s) (sym (event_is asks.is)) (asks.are.first.0, asks.are.others.first.0)
+call_can_happen s calling.Store tail event asks =
+    subst (IsPossible s) (sym (event_is asks.is)) (asks.are.first.0, asks.are.second.first.0)
+call_can_happen s calling.Show tail event asks =
+    subst (IsPossible s) (sym (event_is asks.is)) (asks.are.first.0, asks.are.second.first.0)
+call_can_happen s calling.Keys tail event asks =
+    let keys = asks.are.others.second.first in
+    subst (IsPossible s) (sym (event_is asks.is)) (asks.are.first.0, asks.are.others.first.0, subst IsNotation (sym keys.0) keys.1)
+call_can_happen s calling.Hang tail event asks =
+    subst (IsPossible s) (sym (event_is asks.is)) (asks.are.first.0, asks.are.second.first.0)
 
 -- by the line's word: its centre is one that there is, or its row is a row of cells
 pub can_happen : (s : State) (word : Word) (tail : List ℕ) (event : Event) → AsksAs (length s.centres) word tail (Do event)
@@ -19,6 +38,7 @@ pub can_happen : (s : State) (word : Word) (tail : List ℕ) (event : Event) →
 can_happen s words.Limits tail event asks = absurd cc
 can_happen s words.Seed tail event asks = subst (IsPossible s) (sym (event_is asks.is)) tt
 can_happen s words.Edit tail event asks = subst (IsPossible s) (sym (event_is asks.is)) asks.are.first.0
+can_happen s (words.Call word) tail event asks = call_can_happen s word tail event asks
 can_happen s words.Send tail event asks = subst (IsPossible s) (sym (event_is asks.is)) asks.are.first.0
 can_happen s words.Deliver tail event asks = subst (IsPossible s) (sym (event_is asks.is)) asks.are.first.0
 can_happen s words.Back tail event asks = subst (IsPossible s) (sym (event_is asks.is)) asks.are.first.0

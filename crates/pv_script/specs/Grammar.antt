@@ -1,25 +1,39 @@
 -- The lines of the script, and what each of them asks for.
-use Rattle.std.specs.Prelude.{◌≡◌, ℕ, ◌+◌, ◌==◌, Bool, IsTrue, ◌⊎◌, List, [], ◌∷◌, Some}
+use Rattle.std.specs.Prelude.{◌≡◌, ℕ, Bool, IsTrue, ◌⊎◌, List, [], ◌∷◌, Some}
 use Rattle.pv_words.specs.Numbers.{IsNumber, IsBelow}
-use Rattle.pv_words.specs.Parts.{IsPart, IsOne, AreTwo, Gives, GivesAlone}
+use Rattle.pv_words.specs.Parts.{IsPart, IsOne, AreTwo, AreThree, Gives, GivesAlone}
 use Rattle.pv_words.specs.Split.{IsSplit}
 use Rattle.pv_network.specs.declared.event.Event.TheVariants as events
-use Rattle.pv_network.specs.declared.event.TheConstants.{EDITORS}
+use Rattle.pv_network.specs.declared.event.TheConstants.{EDITORS, PORTS}
 use Rattle.pv_network.specs.Step.{Choice, IsChoice}
 use Rattle.pv_network.specs.World.{World}
 use Rattle.pv_script.specs.declared.grammar.Command.{Command}
 use Rattle.pv_script.specs.declared.grammar.Command.TheVariants.{Nothing, Limits, Do}
 use Rattle.pv_script.specs.declared.grammar.TheConstants.{COMMENT}
+use Rattle.pv_script.specs.declared.word.CallWord.{CallWord}
+use Rattle.pv_script.specs.declared.word.CallWord.TheVariants as calling
 use Rattle.pv_script.specs.declared.word.Word.{Word}
 use Rattle.pv_script.specs.declared.word.Word.TheVariants as words
-use Rattle.pv_script.specs.Readers.{IsFrameText, IsRowText, IsLimitsText}
+use Rattle.pv_script.specs.Readers.{IsFrameText, IsRowText, IsKeyText, IsKeysText, IsLimitsText}
 use Rattle.pv_script.specs.Words.{word_of_text}
+
+-- a word of a caller's line and the tail after it ask for the command: a row for each form
+abbrev pub CallAsksAs : ℕ → CallWord → List ℕ → Command → Type 0
+CallAsksAs centres calling.Dial tail = Gives (AreTwo (IsBelow centres) (IsBelow PORTS)) (λ parts. Do (events.Dial parts.0 parts.1)) tail
+CallAsksAs centres calling.Press tail =
+    Gives (AreThree (IsBelow centres) (IsBelow PORTS) IsKeyText) (λ parts. Do (events.Press parts.0 parts.1 parts.2)) tail
+CallAsksAs centres calling.Store tail = Gives (AreTwo (IsBelow centres) (IsBelow PORTS)) (λ parts. Do (events.Store parts.0 parts.1)) tail
+CallAsksAs centres calling.Show tail = Gives (AreTwo (IsBelow centres) (IsBelow PORTS)) (λ parts. Do (events.Show parts.0 parts.1)) tail
+CallAsksAs centres calling.Keys tail =
+    Gives (AreThree (IsBelow centres) (IsBelow PORTS) IsKeysText) (λ parts. Do (events.Keys parts.0 parts.1 parts.2)) tail
+CallAsksAs centres calling.Hang tail = Gives (AreTwo (IsBelow centres) (IsBelow PORTS)) (λ parts. Do (events.Hang parts.0 parts.1)) tail
 
 -- a word and the tail after it ask for the command, in a play of this many centres: a row for each form
 abbrev pub AsksAs : ℕ → Word → List ℕ → Command → Type 0
 AsksAs centres words.Limits tail = Gives (IsOne IsLimitsText) (λ limits. Limits limits) tail
 AsksAs centres words.Seed tail = Gives (AreTwo IsFrameText IsRowText) (λ parts. Do (events.Seed parts.0 parts.1)) tail
 AsksAs centres words.Edit tail = Gives (AreTwo (IsBelow EDITORS) IsPart) (λ parts. Do (events.Edit parts.0 parts.1)) tail
+AsksAs centres (words.Call word) tail = CallAsksAs centres word tail
 AsksAs centres words.Send tail = Gives (IsOne (IsBelow centres)) (λ centre. Do (events.Send centre)) tail
 AsksAs centres words.Deliver tail = Gives (AreTwo (IsBelow centres) IsNumber) (λ parts. Do (events.Deliver parts.0 parts.1)) tail
 AsksAs centres words.Back tail = Gives (AreTwo (IsBelow centres) IsNumber) (λ parts. Do (events.Back parts.0 parts.1)) tail
@@ -49,7 +63,7 @@ ReadsLine centres first line command = (AsksNothing line × (command ≡ Nothing
 abbrev pub HasNoForm : ℕ → Bool → List ℕ → Type 0
 HasNoForm centres first line = (command : Command) → ReadsLine centres first line command → ⊥
 
--- what was open in a command, in the world in which it is run: in that of an editor's line, what the line says
+-- what was open in a command, in the world in which it is run: in that of an editor's line, what the line says, and of keys, what they say
 abbrev pub IsCommandChoice : World → Command → Choice → Type 0
 IsCommandChoice w (Do event) choice = IsChoice w event choice
 IsCommandChoice w _ choice = Unit {0}

@@ -1,11 +1,13 @@
 -- Parts of lines that the script alone has, and what each of them stands for.
-use Rattle.std.specs.Prelude.{◌≡◌, ℕ, List}
+use Rattle.std.specs.Prelude.{◌≡◌, ℕ, List, [], ◌∷◌}
 use Rattle.pv_outside.specs.declared.limits.Limits.{Limits}
 use Rattle.pv_words.specs.Numbers.{IsNumber}
-use Rattle.pv_words.specs.Parts.{IsOne}
+use Rattle.pv_words.specs.Parts.{IsPart, IsOne}
 use Rattle.pv_words.specs.Split.{IsSplit}
 use Rattle.pv_page.specs.Names.{Name, IsName, name_text}
+use Rattle.pv_cells.specs.Notation.{ReadsAs}
 use Rattle.pv_cells.specs.Row.{SpellsCells}
+use Rattle.pv_network.specs.Standing.{IsNotation}
 use Rattle.pv_screen.specs.Grid.{IsRow}
 
 -- the text is a frame's name
@@ -15,6 +17,14 @@ IsFrameText name text = IsName name × (text ≡ name_text name)
 -- the text is the notation of a row: of at most 40 cells, which are the row with spaces after them
 abbrev pub IsRowText : List ℕ → List ℕ → Type 0
 IsRowText row text = IsRow row × SpellsCells 40 text row
+
+-- the text is a notation of one key's byte
+abbrev pub IsKeyText : ℕ → List ℕ → Type 0
+IsKeyText key text = ReadsAs text (key ∷ [])
+
+-- the part is a notation of keys, at least one, as it stands
+abbrev pub IsKeysText : List ℕ → List ℕ → Type 0
+IsKeysText keys text = IsPart keys text × IsNotation text
 
 -- limits are of this many frames and records
 abbrev pub AreOf : ℕ → ℕ → Limits → Type 0

@@ -1,12 +1,25 @@
 -- The first words of lines.
-use Rattle.std.specs.Prelude.{ℕ, List, Bool, codes, nat_eq, Option, Some, None, if◌then◌else◌}
+use Rattle.std.specs.Prelude.{ℕ, List, Bool, codes, nat_eq, Option, Some, None, option_map, if◌then◌else◌}
 use Rattle.std.specs.Cmp.Lexicographic.{pointwise}
+use Rattle.pv_script.specs.declared.word.CallWord.{CallWord}
+use Rattle.pv_script.specs.declared.word.CallWord.TheVariants as calling
 use Rattle.pv_script.specs.declared.word.Word.{Word}
 use Rattle.pv_script.specs.declared.word.Word.TheVariants as words
 
 -- the texts are the same
 abbrev pub is_text : List ℕ → List ℕ → Bool
 is_text a b = pointwise nat_eq a b
+
+-- the word of a caller's line that a text is
+abbrev pub call_word_of_text : List ℕ → Option CallWord
+call_word_of_text text =
+    if is_text text (codes "dial") then Some calling.Dial else
+    if is_text text (codes "press") then Some calling.Press else
+    if is_text text (codes "store") then Some calling.Store else
+    if is_text text (codes "show") then Some calling.Show else
+    if is_text text (codes "keys") then Some calling.Keys else
+    if is_text text (codes "hang") then Some calling.Hang else
+    None
 
 -- the word that a text is
 abbrev pub word_of_text : List ℕ → Option Word
@@ -21,4 +34,4 @@ word_of_text text =
     if is_text text (codes "view") then Some words.View else
     if is_text text (codes "at") then Some words.At else
     if is_text text (codes "list") then Some words.List else
-    None
+    option_map words.Call (call_word_of_text text)

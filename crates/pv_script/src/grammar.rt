@@ -1,12 +1,12 @@
 ghost use Rattle.std.specs.Prelude.{◌≡◌, ◌↔◌, Some, IfSome, IsTrue};
 ghost use Rattle.pv_words.specs.Parts.{Exactly};
-ghost use Rattle.pv_script.specs.Grammar.{Asks, AsksAs, MayStand, ReadsLine};
+ghost use Rattle.pv_script.specs.Grammar.{Asks, AsksAs, CallAsksAs, MayStand, ReadsLine};
 
-use crate::readers::{FrameText, LimitsText, RowText};
-use crate::word::{Word, word_of};
-use pv_network::{EDITORS, Event};
+use crate::readers::{FrameText, KeyText, KeysText, LimitsText, RowText};
+use crate::word::{CallWord, Word, word_of};
+use pv_network::{EDITORS, Event, PORTS};
 use pv_outside::Limits;
-use pv_words::{AllOf, Below, Number, none_as, one_as, split_word, two_as};
+use pv_words::{AllOf, Below, Number, none_as, one_as, split_word, three_as, two_as};
 
 /// The byte that begins a comment.
 pub const COMMENT: u8 = b';';
@@ -80,6 +80,7 @@ fn asked_command(word: Word, tail: &[u8], centres: u8) -> Option<Command<'_>>
             tail,
             |(port, line)| Command::Do(Event::Edit { port, line }),
         ),
+        Word::Call(word) => asked_call(word, tail, centres),
         Word::Send => one_as(&centre, tail, |centre| Command::Do(Event::Send { centre })),
         Word::Deliver => two_as(
             &centre,
@@ -102,5 +103,52 @@ fn asked_command(word: Word, tail: &[u8], centres: u8) -> Option<Command<'_>>
         ),
         Word::At => one_as(&centre, tail, |centre| Command::Do(Event::At { centre })),
         Word::List => none_as(tail, Command::Do(Event::List)),
+    }
+}
+
+/// What a word of a caller's line and the tail after it ask for. `None` exactly when they ask for nothing.
+fn asked_call(word: CallWord, tail: &[u8], centres: u8) -> Option<Command<'_>>
+    ensures { Exactly (CallAsksAs centres word tail.now) result }
+{
+    let (centre, port) = (Below(centres), Below(PORTS));
+    match word {
+        CallWord::Dial => two_as(
+            &centre,
+            &port,
+            tail,
+            |(centre, port)| Command::Do(Event::Dial { centre, port }),
+        ),
+        CallWord::Press => three_as(
+            &centre,
+            &port,
+            &KeyText,
+            tail,
+            |(centre, port, key)| Command::Do(Event::Press { centre, port, key }),
+        ),
+        CallWord::Store => two_as(
+            &centre,
+            &port,
+            tail,
+            |(centre, port)| Command::Do(Event::Store { centre, port }),
+        ),
+        CallWord::Show => two_as(
+            &centre,
+            &port,
+            tail,
+            |(centre, port)| Command::Do(Event::Show { centre, port }),
+        ),
+        CallWord::Keys => three_as(
+            &centre,
+            &port,
+            &KeysText,
+            tail,
+            |(centre, port, keys)| Command::Do(Event::Keys { centre, port, keys }),
+        ),
+        CallWord::Hang => two_as(
+            &centre,
+            &port,
+            tail,
+            |(centre, port)| Command::Do(Event::Hang { centre, port }),
+        ),
     }
 }

@@ -1,12 +1,13 @@
-ghost use Rattle.std.specs.Prelude.{◌≡◌, Some, IfSome};
+ghost use Rattle.std.specs.Prelude.{◌≡◌, ◌↔◌, Some, IfSome, IsTrue};
 ghost use Rattle.pv_words.specs.Parts.{Exactly};
 ghost use Rattle.pv_outside.specs.declared.limits.Limits.{Limits};
-ghost use Rattle.pv_script.specs.Readers.{IsFrameText, IsRowText, IsLimitsText, AreOf};
+ghost use Rattle.pv_network.specs.Standing.{IsNotation};
+ghost use Rattle.pv_script.specs.Readers.{IsFrameText, IsRowText, IsKeyText, IsKeysText, IsLimitsText, AreOf};
 
-use pv_cells::{ROW_LENGTH, row_of};
+use pv_cells::{ROW_LENGTH, first_byte, row_of};
 use pv_outside::{Limits, MAX_FRAMES, MAX_RECORDS};
 use pv_page::FrameName;
-use pv_words::{Number, Reader, number_of, one, split_word};
+use pv_words::{Number, Part, Reader, number_of, one, split_word};
 
 /// The part of a line that is the name of a frame.
 #[derive(Clone, Copy, Debug)]
@@ -34,6 +35,50 @@ impl<'a> Reader<'a> for RowText {
     fn read(&self, text: &'a [u8]) -> Option<[u8; ROW_LENGTH]> {
         row_of(text).ok()
     }
+}
+
+/// The part of a line that is the notation of one key's byte.
+#[derive(Clone, Copy, Debug)]
+pub struct KeyText;
+
+impl<'a> Reader<'a> for KeyText {
+    type Value = u8;
+
+    ghost Writes = { λ _. IsKeyText };
+
+    fn read(&self, text: &'a [u8]) -> Option<u8> {
+        let (key, rest) = first_byte(text)?;
+        if rest.is_empty() { Some(key) } else { None }
+    }
+}
+
+/// The part of a line that is the notation of keys, at least one, as it stands there.
+#[derive(Clone, Copy, Debug)]
+pub struct KeysText;
+
+impl<'a> Reader<'a> for KeysText {
+    type Value = Part<'a>;
+
+    ghost Writes = { λ _. IsKeysText };
+
+    fn read(&self, text: &'a [u8]) -> Option<Part<'a>> {
+        if is_notation(text) {
+            Some(Part::new(text))
+        } else {
+            None
+        }
+    }
+}
+
+/// Whether a text is the notation of at least one byte.
+fn is_notation(text: &[u8]) -> bool
+    ensures { IsTrue result ↔ IsNotation text.now }
+{
+    let mut rest = text;
+    while let Some((_, later)) = first_byte(rest) {
+        rest = later;
+    }
+    rest.is_empty() && !text.is_empty()
 }
 
 /// The part of a line that is the limits of a node: how many frames it may have, a space, and how many records.

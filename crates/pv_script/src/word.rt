@@ -1,5 +1,5 @@
 ghost use Rattle.std.specs.Prelude.{◌≡◌};
-ghost use Rattle.pv_script.specs.Words.{word_of_text};
+ghost use Rattle.pv_script.specs.Words.{word_of_text, call_word_of_text};
 
 /// The first word of a line.
 #[derive(Clone, Copy, Debug, PartialEq, Eq)]
@@ -10,6 +10,8 @@ pub enum Word {
     Seed,
     /// `edit E LINE`
     Edit,
+    /// A word of a caller's line.
+    Call(CallWord),
     /// `send C`
     Send,
     /// `deliver C K`
@@ -24,6 +26,23 @@ pub enum Word {
     At,
     /// `list`
     List,
+}
+
+/// The first word of a caller's line.
+#[derive(Clone, Copy, Debug, PartialEq, Eq)]
+pub enum CallWord {
+    /// `dial C P`
+    Dial,
+    /// `press C P KEY`
+    Press,
+    /// `store C P`
+    Store,
+    /// `show C P`
+    Show,
+    /// `keys C P KEYS`
+    Keys,
+    /// `hang C P`
+    Hang,
 }
 
 /// The word that a text is. `None` exactly when it is none of them.
@@ -50,6 +69,27 @@ pub fn word_of(text: &[u8]) -> Option<Word>
         Some(Word::At)
     } else if text == b"list".as_slice() {
         Some(Word::List)
+    } else {
+        Some(Word::Call(call_word_of(text)?))
+    }
+}
+
+/// The word of a caller's line that a text is. `None` exactly when it is none of them.
+fn call_word_of(text: &[u8]) -> Option<CallWord>
+    ensures { result ≡ call_word_of_text text.now }
+{
+    if text == b"dial".as_slice() {
+        Some(CallWord::Dial)
+    } else if text == b"press".as_slice() {
+        Some(CallWord::Press)
+    } else if text == b"store".as_slice() {
+        Some(CallWord::Store)
+    } else if text == b"show".as_slice() {
+        Some(CallWord::Show)
+    } else if text == b"keys".as_slice() {
+        Some(CallWord::Keys)
+    } else if text == b"hang".as_slice() {
+        Some(CallWord::Hang)
     } else {
         None
     }
