@@ -1,3 +1,5 @@
+mod calls;
+
 use crate::about::About;
 use crate::program::run_program;
 use crate::streams::{StandardInput, StandardOutput};
