@@ -3,13 +3,16 @@ use Rattle.std.proofs.Common.{lit≤, ◌≡◌, [], ◌∷◌, ◌*◌, true, S
 use Rattle.std.specs.Fmt.{digits}
 use Rattle.pv_network.specs.declared.event.Event.TheVariants.{Send, Deliver}
 use Rattle.pv_network.specs.declared.event.TheConstants.{MAX_CENTRES}
-use Rattle.pv_network.specs.declared.outcome.Outcome.TheVariants.{SentRecord, Taken, Old, Carried, NotHeld, Applied, Records}
+use Rattle.pv_network.specs.declared.outcome.Outcome.TheVariants.{Turns, SentRecord, Taken, Old, Carried, NotHeld, Applied, Records}
 use Rattle.pv_script.specs.declared.grammar.Command.TheVariants.{Nothing, Do}
 use Rattle.pv_script.specs.declared.grammar.TheConstants.{COMMENT}
+use Rattle.pv_script.specs.declared.word.CallWord.TheVariants as calling
 use Rattle.pv_script.specs.declared.word.Word.TheVariants as words
 use Rattle.pv_script.specs.Play.{AskToPlay, first_world, longest_script, play_limits}
 use Rattle.pv_network.specs.Step.{Choice}
-use Rattle.pv_script.specs.Transcript.{answer_text, answers, limits_text}
+use Rattle.pv_session.specs.declared.step.Why.TheVariants.{Finished}
+use Rattle.pv_script.specs.Readers.{IsKeyText}
+use Rattle.pv_script.specs.Transcript.{answer_text, answers, end_text, limits_text}
 use Rattle.pv_script.specs.Words.{word_of_text}
 
 -- ---- scripts
@@ -19,8 +22,13 @@ pub comment : COMMENT ∷ [] ≡ codes ";"
 comment = refl
 
 -- a word is one of the script's as it stands, and with a letter more it is none
-pub names_of_words : (word_of_text (codes "deliver") ≡ Some words.Deliver) × (word_of_text (codes "views") ≡ None)
-names_of_words = (refl, refl)
+pub names_of_words : (word_of_text (codes "deliver") ≡ Some words.Deliver) × (word_of_text (codes "keys") ≡ Some (words.Call calling.Keys))
+    × (word_of_text (codes "views") ≡ None)
+names_of_words = (refl, refl, refl)
+
+-- a key is one byte in notation: a space, or 255
+pub keys : IsKeyText 32 (codes " ") × IsKeyText 255 (codes "\\fF")
+keys = (([], refl, refl), ([], refl, refl))
 
 -- the words write how many centres there are, of which there are four at most
 pub words_of_a_play : AskToPlay (codes "play" ∷ codes "4" ∷ []) 4 × (MAX_CENTRES ≡ 4)
@@ -44,6 +52,10 @@ pub lines : (answer_text (SentRecord 3 17) ≡ codes "sent 3 record 17\n")
     × (answer_text (Records 3) ≡ codes "records 3\n")
 unfolding digits
 lines = (refl, refl, refl, refl, refl, refl, refl)
+
+-- the line after a call's last screen says why it ended, and nothing is written of keys that showed nothing
+pub ends : (end_text (Some Finished) ≡ codes "ended finished\n") × (end_text None ≡ []) × (answer_text (Turns []) ≡ [])
+ends = (refl, refl, refl)
 
 -- the limits of a play are answered with their numbers
 pub limits : limits_text play_limits ≡ codes "limits 2000 10000\n"
