@@ -17,7 +17,7 @@
 //! node.state().sight(Some(account));                      // what the caller may see here
 //! ```
 //!
-//! What a list of the centre's records comes to is defined in `specs/History.antt`, how a request is
+//! What a list of the centre's records means is defined in `specs/History.antt`, how a request is
 //! judged in `specs/Deciding.antt`. Only `open` takes memory.
 #![tactic(auto)]
 
