@@ -29,7 +29,8 @@ same_list : {X : Type 0} (xs : List X) → xs ++ [] ≡ xs
 same_list xs = append-nil xs
 
 -- the count of log-ons
-log_ons-push : (records : List CentreRecord) (rec : CentreRecord) → log_ons_of (records ++ rec ∷ []) ≡ log_ons_of records + cond (is_log_on rec) 1 0
+log_ons-push : (records : List CentreRecord) (rec : CentreRecord)
+    → log_ons_of (records ++ rec ∷ []) ≡ log_ons_of records + cond (is_log_on rec) 1 0
 log_ons-push records rec = sum_by_push (λ r. cond (is_log_on r) 1 0) records rec
 
 module _ (centre : ℕ) (limits : Limits) (records : List CentreRecord) where
@@ -102,7 +103,8 @@ module _ (centre : ℕ) (limits : Limits) (records : List CentreRecord) where
       (sym (log_ons-push records (Kept item) ∙ omega arith))
 
 -- one record more is counted
-pub record_count-with : (state : CentreState) (rec : CentreRecord) → record_count (with_centre_record state rec) ≡ record_count state + 1
+pub record_count-with : (state : CentreState) (rec : CentreRecord)
+    → record_count (with_centre_record state rec) ≡ record_count state + 1
 record_count-with state (Applied n (Whole edit)) = omega arith
 record_count-with state (Applied n Blank) = omega arith
 record_count-with state (LogOn account) = omega arith
@@ -116,7 +118,8 @@ limits-with state (LogOn account) = refl
 limits-with state (Kept item) = refl
 
 -- each record is counted once
-log_ons-cons : (rec : CentreRecord) (records : List CentreRecord) → log_ons_of (rec ∷ records) ≡ cond (is_log_on rec) 1 0 + log_ons_of records
+log_ons-cons : (rec : CentreRecord) (records : List CentreRecord)
+    → log_ons_of (rec ∷ records) ≡ cond (is_log_on rec) 1 0 + log_ons_of records
 log_ons-cons rec records = sum_by-cons (λ r. cond (is_log_on r) 1 0) rec records
 
 one_of : (rec : CentreRecord) (records : List CentreRecord)
@@ -126,6 +129,7 @@ one_of (Applied n rec) records = omega (arith, log_ons-cons (Applied n rec) reco
 one_of (LogOn account) records = omega (arith, log_ons-cons (LogOn account) records)
 one_of (Kept item) records = omega (arith, log_ons-cons (Kept item) records)
 
-pub counted_state : (centre : ℕ) (limits : Limits) (records : List CentreRecord) → record_count (centre_state_of centre limits records) ≡ length records
+pub counted_state : (centre : ℕ) (limits : Limits) (records : List CentreRecord)
+    → record_count (centre_state_of centre limits records) ≡ length records
 counted_state centre limits [] = refl
 counted_state centre limits (rec ∷ records) = one_of rec records ∙ ap suc (counted_state centre limits records)

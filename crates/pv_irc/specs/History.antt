@@ -1,4 +1,4 @@
--- What a list of a centre's records comes to: what it has applied of the edit list, its items, and its log-ons.
+-- What a list of a centre's records means: what it has applied of the edit list, its items, and its log-ons.
 use Rattle.std.specs.Prelude.{ℕ, ◌+◌, Bool, true, false, List, [], ◌∷◌, ◌++◌, length, Option, Some, None}
 use Rattle.std.specs.List.{filter_map, count_by}
 use Rattle.pv_outside.specs.declared.limits.Limits.{Limits}
@@ -66,8 +66,8 @@ whole_places first (down ∷ later) = place_if_whole first down ++ whole_places 
 
 -- ---- what a state shows of it
 
--- the centre's number, its limits, how many records it has applied, those of them that it has whole with their places in the edit
--- list, its items, and how many log-ons it has counted
+-- The centre's number and its limits. How many records of the edit list it has applied, and those of them that it has whole, with
+-- their places there. Its items, and how many log-ons it has counted.
 pub record CentreState : Type 0 where
   pub centre : ℕ
   pub limits : Limits

@@ -31,7 +31,8 @@ read_or other None = other
 read_or other (Some read) = read.0
 
 -- a spelling has one meaning
-pub one_meaning : (one other : CentreRecord) → IsCentreRecord one → IsCentreRecord other → centre_bytes one ≡ centre_bytes other → one ≡ other
+pub one_meaning : (one other : CentreRecord) → IsCentreRecord one → IsCentreRecord other
+    → centre_bytes one ≡ centre_bytes other → one ≡ other
 one_meaning one other is_one is_other same =
     ap (read_or one) (sym (Reads-centre.again one [] refl is_one) ∙ ap (λ bytes. centre_at (bytes ++ [])) same
     ∙ Reads-centre.again other [] refl is_other)

@@ -17,7 +17,7 @@
 //! node.state().sight(Some(account));                      // what the caller may see here
 //! ```
 //!
-//! What a list of the centre's records comes to is defined in `specs/History.antt`, how a request is
+//! What a list of the centre's records means is defined in `specs/History.antt`, how a request is
 //! judged in `specs/Deciding.antt`. Only `open` takes memory.
 #![tactic(auto)]
 
@@ -34,6 +34,3 @@ pub use reply::IrcReply;
 pub use request::IrcRequest;
 pub use rules::IrcRules;
 pub use state::IrcState;
-
-#[cfg(test)]
-mod tests;
