@@ -38,7 +38,7 @@ fn joined(alloc: Global, texts: &[&[u8]]) -> Result<Vec<u8>, Fail> {
     Ok(whole)
 }
 
-/// A text, so many times.
+/// A text, repeated.
 fn repeated(alloc: Global, text: &[u8], count: u32) -> Result<Vec<u8>, Fail> {
     let mut whole = Vec::new(alloc);
     for _ in 0..count {
