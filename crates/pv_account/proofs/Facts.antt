@@ -58,7 +58,7 @@ digest-of_ten_digits = refl
 abbrev pub some_account : Profile
 some_account = record { number = 9999999999; digest = replicate 32 170; home = 3; groups = 300 ∷ [] }
 
--- an account of which each part can be told from its neighbours
+-- an account each part of which differs from its neighbours
 pub spelling-of_an_account : profile_bytes some_account
     ≡ (0 ∷ 0 ∷ 0 ∷ 2 ∷ 84 ∷ 11 ∷ 227 ∷ 255 ∷ []) ++ replicate 32 170 ++ (3 ∷ 1 ∷ 1 ∷ 44 ∷ [])
 unfolding profile_bytes groups_bytes

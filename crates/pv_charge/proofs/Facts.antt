@@ -22,7 +22,7 @@ max_billed_pence = refl
 abbrev pub some_line : Charge
 some_line = record { serial = 7; number = 9; account = 9999999999; name = record { page = 5; letter = 99 }; price = 99; moment = 1 }
 
--- a line of which each part can be told from its neighbours
+-- a line each part of which differs from its neighbours
 pub spelling-of_a_line : charge_bytes some_line
     ≡ 0 ∷ 0 ∷ 0 ∷ 0 ∷ 0 ∷ 0 ∷ 0 ∷ 7 ∷ 0 ∷ 0 ∷ 0 ∷ 9 ∷ 0 ∷ 0 ∷ 0 ∷ 2 ∷ 84 ∷ 11 ∷ 227 ∷ 255
     ∷ 0 ∷ 0 ∷ 0 ∷ 5 ∷ 99 ∷ 0 ∷ 99 ∷ 0 ∷ 0 ∷ 0 ∷ 1 ∷ []

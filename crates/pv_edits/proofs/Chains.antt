@@ -197,7 +197,7 @@ module _ (heads links : List ℕ) (records : List Record) (chained : IsChained h
         there_before : slice_get (take s.before records) (next - 1) ≡ Some edit
         there_before = get_in_prefix records s.before (next - 1) below ∙ there
 
-        -- what the search comes to after this step
+        -- what the search finds after this step
         step : last_index (is_about subject) records ≡ cond (is_about subject edit) (Some (next - 1))
             (last_index (is_about subject) (take (next - 1) records))
         step =

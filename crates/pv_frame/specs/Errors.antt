@@ -42,7 +42,7 @@ HasCell field row column = (row ≡ field.row) × (field.column ≤ column) × (
 abbrev pub ShareCell : Field → Field → Type 0
 ShareCell a b = (row : ℕ) × (column : ℕ) × HasCell a row column × HasCell b row column
 
--- the index, counted from i, of the first field that meets a later one, and that of the first it meets
+-- the index, counted from i, of the first field that shares a cell with a later one, and that of the first such
 abbrev pub first_meeting : ℕ → List Field → Option (ℕ × ℕ)
 first_meeting i [] = None
 first_meeting i (field ∷ others) =

@@ -87,7 +87,7 @@ pub(crate) fn field_bytes(field: &Field) -> [u8; FIELD_BYTES]
     ]
 }
 
-/// Whether four bytes are a field: whether its kind has a meaning.
+/// Whether four bytes are a field: whether its kind is one that there is.
 pub(crate) fn spells_field(bytes: &[u8; FIELD_BYTES]) -> bool
     ensures { result ≡ spells_field bytes.now }
 {

@@ -138,6 +138,8 @@ impl Frame {
         ensures ok { OnOk result (Appends out.old out.new (spelling_of self.now)) }
         ensures refused { IsErr result ↔ (room_of out.old < length (spelling_of self.now)) }
         ensures err { OnErr result (out.new ≡ out.old) }
+
+        // How long the spelling is, and that the frame has one.
         ensures size { length (spelling_of self.now)
             ≡ FIELDS_AT + FIELD_BYTES * length self.now.fields }
         ensures holds { IsFrame self.now }

@@ -1,7 +1,7 @@
 //! Frames: what one screen of a viewdata service shows, and what it leads to.
 //!
-//! A [`Frame`] has a title of 24 cells, a body of 22 rows, a [`Kind`], a route for each digit, a
-//! price in pence, a closed user group, and up to eight [`Field`]s, which a caller fills in. A frame
+//! A [`Frame`] has a title of 24 cells, a body of 22 rows, a [`Kind`] and a route for each digit. It
+//! has a price in pence, a closed user group, and up to eight [`Field`]s, which a caller fills in. A frame
 //! of the kind Information has no field. One of the kind Response has at least one. One of the kind
 //! Mail has a field for the ten digits of an account and then one to six for words.
 //!

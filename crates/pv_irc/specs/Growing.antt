@@ -8,7 +8,7 @@ use Rattle.pv_outside.specs.declared.limits.Limits.{Limits}
 use Rattle.pv_post.specs.declared.item.Item.{Item}
 use Rattle.pv_edits.specs.declared.down.DownRecord.{DownRecord}
 use Rattle.pv_edits.specs.declared.down.DownRecord.TheVariants.{Whole, Blank}
-use Rattle.pv_irc.specs.History.{applied_in, kept_in, is_log_on, applied_records, applied_of, items_of, log_ons_of, whole_in, whole_records, place_if_whole, whole_places, CentreState, centre_state_of, record_count, with_applied, with_centre_record}
+use Rattle.pv_irc.specs.History.{applied_in, kept_in, is_log_on, applied_records, applied_of, items_of, log_ons_of, whole_in, whole_records, place_if_whole, whole_places, CentreState, centre_state_of, state_count, with_down, with_centre_record}
 use Rattle.pv_irc.specs.declared.record.CentreRecord.{CentreRecord}
 use Rattle.pv_irc.specs.declared.record.CentreRecord.TheVariants.{Applied, LogOn, Kept}
 
@@ -48,7 +48,7 @@ module _ (centre : ℕ) (limits : Limits) (records : List CentreRecord) where
 
   -- one thing more that came down
   applied_more : (down : DownRecord) (items : List Item) (log_ons : ℕ) (downs : List DownRecord)
-      → with_applied (state_with downs items log_ons) down ≡ state_with (downs ++ down ∷ []) items log_ons
+      → with_down (state_with downs items log_ons) down ≡ state_with (downs ++ down ∷ []) items log_ons
   applied_more (Whole edit) items log_ons downs =
       let more : length downs + 1 ≡ length (downs ++ Whole edit ∷ []) = omega (arith, length-append downs (Whole edit ∷ [])) in
       let edits : whole_records downs ++ edit ∷ [] ≡ whole_records (downs ++ Whole edit ∷ []) =
@@ -104,7 +104,7 @@ module _ (centre : ℕ) (limits : Limits) (records : List CentreRecord) where
 
 -- one record more is counted
 pub record_count-with : (state : CentreState) (rec : CentreRecord)
-    → record_count (with_centre_record state rec) ≡ record_count state + 1
+    → state_count (with_centre_record state rec) ≡ state_count state + 1
 record_count-with state (Applied n (Whole edit)) = omega arith
 record_count-with state (Applied n Blank) = omega arith
 record_count-with state (LogOn account) = omega arith
@@ -130,6 +130,6 @@ one_of (LogOn account) records = omega (arith, log_ons-cons (LogOn account) reco
 one_of (Kept item) records = omega (arith, log_ons-cons (Kept item) records)
 
 pub counted_state : (centre : ℕ) (limits : Limits) (records : List CentreRecord)
-    → record_count (centre_state_of centre limits records) ≡ length records
+    → state_count (centre_state_of centre limits records) ≡ length records
 counted_state centre limits [] = refl
 counted_state centre limits (rec ∷ records) = one_of rec records ∙ ap suc (counted_state centre limits records)

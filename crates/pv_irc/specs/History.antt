@@ -90,22 +90,22 @@ centre_state_of centre limits records = record {
 }
 
 -- how many records a state has taken in
-abbrev pub record_count : CentreState → ℕ
-record_count state = state.applied + length state.items + state.log_ons
+abbrev pub state_count : CentreState → ℕ
+state_count state = state.applied + length state.items + state.log_ons
 
 -- ---- with one record more
 
 -- with a record of the edit list applied
-abbrev pub with_applied : CentreState → DownRecord → CentreState
-with_applied state (Whole edit) = record state {
+abbrev pub with_down : CentreState → DownRecord → CentreState
+with_down state (Whole edit) = record state {
   applied = state.applied + 1;
   edits = state.edits ++ edit ∷ [];
   places = state.places ++ state.applied ∷ [];
 }
-with_applied state Blank = record state { applied = state.applied + 1 }
+with_down state Blank = record state { applied = state.applied + 1 }
 
 -- with a record of the centre's
 abbrev pub with_centre_record : CentreState → CentreRecord → CentreState
-with_centre_record state (Applied n rec) = with_applied state rec
+with_centre_record state (Applied n rec) = with_down state rec
 with_centre_record state (LogOn account) = record state { log_ons = state.log_ons + 1 }
 with_centre_record state (Kept item) = record state { items = state.items ++ item ∷ [] }

@@ -13,7 +13,7 @@ use Rattle.pv_edits.specs.declared.down.DownRecord.{DownRecord}
 use Rattle.pv_edits.specs.declared.down.DownRecord.TheVariants.{Whole, Blank}
 use Rattle.pv_edits.specs.declared.down.TheConstants.{BLANK_TAG}
 use Rattle.pv_edits.proofs.CallerLemmas.{Reads-record}
-use Rattle.pv_irc.specs.Record.{IsCentreRecord, applied_bytes, centre_tag, centre_body, centre_bytes, down_after, down_at, down_at_end, applied_at, centre_after, centre_at}
+use Rattle.pv_irc.specs.Record.{IsCentreRecord, applied_bytes, centre_tag, centre_body, centre_bytes, down_after, down_at, down_at_end, applied_at, centre_after, centre_record_at}
 use Rattle.pv_irc.specs.declared.record.CentreRecord.{CentreRecord}
 use Rattle.pv_irc.specs.declared.record.CentreRecord.TheVariants.{Applied, LogOn, Kept}
 
@@ -108,6 +108,6 @@ again (LogOn account) rest ends has = case_again LogOn (at_end Reads-account) ac
 again (Kept item) rest ends has = case_again Kept (at_end Reads-item) item rest ends has
 
 -- a record, at the end
-pub Reads-centre : ReadsLast IsCentreRecord centre_bytes centre_at
-unfolding centre_at centre_bytes
+pub Reads-centre : ReadsLast IsCentreRecord centre_bytes centre_record_at
+unfolding centre_record_at centre_bytes
 Reads-centre = Reads-cases IsCentreRecord centre_tag centre_body centre_after finds again

@@ -68,5 +68,5 @@ centre_after (suc (suc (suc zero))) = map_at Kept item_at
 centre_after (suc (suc (suc (suc other)))) = nothing_at
 
 -- the record that bytes begin with
-unfoldable pub centre_at : Parser CentreRecord
-centre_at = chain_at byte_at centre_after
+unfoldable pub centre_record_at : Parser CentreRecord
+centre_record_at = chain_at byte_at centre_after

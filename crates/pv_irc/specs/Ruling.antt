@@ -8,8 +8,8 @@ use Rattle.pv_journal.specs.Text.{IsBody}
 use Rattle.pv_edits.specs.declared.down.DownRecord.{DownRecord}
 use Rattle.pv_node.specs.declared.decision.Decision.{Decision}
 use Rattle.pv_node.specs.declared.decision.Decision.TheVariants.{Answer, Store}
-use Rattle.pv_irc.specs.Record.{IsCentreRecord, centre_bytes, centre_at}
-use Rattle.pv_irc.specs.History.{CentreState, centre_state_of, record_count, with_centre_record}
+use Rattle.pv_irc.specs.Record.{IsCentreRecord, centre_bytes, centre_record_at}
+use Rattle.pv_irc.specs.History.{CentreState, centre_state_of, state_count, with_centre_record}
 use Rattle.pv_irc.specs.Deciding.{IsCentreRequest, down_fits, centre_has_room, reasons_against, applied_unless, centre_judgement}
 use Rattle.pv_irc.specs.Growing.{grown, counted_state, record_count-with, limits-with}
 use Rattle.pv_irc.specs.Lengths.{IsBody-centre}
@@ -34,7 +34,7 @@ read_or other (Some read) = read.0
 pub one_meaning : (one other : CentreRecord) → IsCentreRecord one → IsCentreRecord other
     → centre_bytes one ≡ centre_bytes other → one ≡ other
 one_meaning one other is_one is_other same =
-    ap (read_or one) (sym (Reads-centre.again one [] refl is_one) ∙ ap (λ bytes. centre_at (bytes ++ [])) same
+    ap (read_or one) (sym (Reads-centre.again one [] refl is_one) ∙ ap (λ bytes. centre_record_at (bytes ++ [])) same
     ∙ Reads-centre.again other [] refl is_other)
 
 -- ---- what is stored
@@ -61,12 +61,12 @@ of_not true is = refl
 of_not false is = absurd cc
 
 -- each of the optional values is missing
-abbrev pub AreNone : {X : Type 0} → List (Option X) → Type 0
-AreNone [] = Unit {0}
-AreNone (o ∷ others) = (o ≡ None) × AreNone others
+abbrev pub AreMissing : {X : Type 0} → List (Option X) → Type 0
+AreMissing [] = Unit {0}
+AreMissing (o ∷ others) = (o ≡ None) × AreMissing others
 
 -- there is no first value, so each is missing
-pub all_none : {X : Type 0} (os : List (Option X)) → first_of os ≡ None → AreNone os
+pub all_none : {X : Type 0} (os : List (Option X)) → first_of os ≡ None → AreMissing os
 all_none [] none = tt
 all_none (o ∷ others) none = let parts = none_of o others none in (parts.0, all_none others parts.1)
 
@@ -121,11 +121,11 @@ judged_alike centre one other records request is also limits =
 
 -- a state has taken in as many records as it stands for
 pub counted : (centre : ℕ) (state : CentreState) (records : List CentreRecord) → Stands centre state records
-    → record_count state ≡ length records
-counted centre state records is = ap record_count is ∙ counted_state centre state.limits records
+    → state_count state ≡ length records
+counted centre state records is = ap state_count is ∙ counted_state centre state.limits records
 
 -- and one more with each
-pub counts_on : (state : CentreState) (rec : CentreRecord) → record_count (with_centre_record state rec) ≡ record_count state + 1
+pub counts_on : (state : CentreState) (rec : CentreRecord) → state_count (with_centre_record state rec) ≡ state_count state + 1
 counts_on = record_count-with
 
 -- its limits stay

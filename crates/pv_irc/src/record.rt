@@ -1,7 +1,7 @@
 ghost use Rattle.std.specs.Prelude.{◌≡◌, [], IsNone, IfSome};
 ghost use Rattle.pv_fields.specs.Out.{Puts};
 ghost use Rattle.pv_fields.specs.Reading.{Gives, GivesAll, same, whole};
-ghost use Rattle.pv_irc.specs.Record.{IsCentreRecord, centre_bytes, centre_at, applied_bytes, applied_at, down_at_end};
+ghost use Rattle.pv_irc.specs.Record.{IsCentreRecord, centre_bytes, centre_record_at, applied_bytes, applied_at, down_at_end};
 
 use pv_edits::DownRecord;
 use pv_fields::{In, NoRoom, NoSpelling, Out};
@@ -96,9 +96,9 @@ fn read_down(bytes: &[u8]) -> Result<DownRecord, NoSpelling>
 }
 
 /// The record that the bytes spell, all of the bytes.
-#[tactic(auto, unfolding(crate::specs::Record::centre_at))]
+#[tactic(auto, unfolding(crate::specs::Record::centre_record_at))]
 fn read_all(bytes: &[u8]) -> Result<CentreRecord, NoSpelling>
-    ensures { GivesAll same result (whole centre_at bytes.now) }
+    ensures { GivesAll same result (whole centre_record_at bytes.now) }
 {
     let mut from = In::new(bytes);
     let rec = match from.u8()? {

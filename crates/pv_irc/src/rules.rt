@@ -1,6 +1,6 @@
 ghost use Rattle.std.specs.Prelude.{◌≡◌, ◌≤◌, take, IsTrue};
 ghost use Rattle.pv_irc.specs.Record.{IsCentreRecord, centre_bytes};
-ghost use Rattle.pv_irc.specs.History.{centre_state_of, record_count, with_centre_record};
+ghost use Rattle.pv_irc.specs.History.{centre_state_of, state_count, with_centre_record};
 ghost use Rattle.pv_irc.specs.Deciding.{IsCentreRequest, centre_has_room, centre_judgement};
 ghost use Rattle.pv_irc.specs.Ruling.{sized, one_meaning, stored, grows, same_room, judged_alike, counted, counts_on, limits_stay};
 
@@ -31,7 +31,7 @@ impl<const C: u8> Rules for IrcRules<C> {
 
     ghost stands = { λ state records. state ≡ centre_state_of C state.limits records };
 
-    ghost count_of = { λ state. record_count state };
+    ghost count_of = { λ state. state_count state };
 
     ghost after = { λ state rec place. with_centre_record state rec };
 
@@ -53,9 +53,11 @@ impl<const C: u8> Rules for IrcRules<C> {
 
     ghost grows = { λ state records rec stands is room within. grows C state records rec stands };
 
-    ghost same_room = { λ one other records rec stands also limits room. same_room C one other records rec stands also limits room };
+    ghost same_room = { λ one other records rec stands also limits room.
+        same_room C one other records rec stands also limits room };
 
-    ghost same_judgement = { λ one other records request stands also limits is. judged_alike C one other records request stands also limits };
+    ghost same_judgement = { λ one other records request stands also limits is.
+        judged_alike C one other records request stands also limits };
 
     ghost counted = { λ state records stands. counted C state records stands };
 

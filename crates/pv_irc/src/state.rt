@@ -1,6 +1,6 @@
 ghost use Rattle.std.specs.Prelude.{◌≡◌, ◌<◌, [], length, slice_get, option_copied, IfOk, IsTrue};
 ghost use Rattle.std.specs.Vec.{vec_capacity};
-ghost use Rattle.pv_irc.specs.History.{record_count, with_applied, with_centre_record};
+ghost use Rattle.pv_irc.specs.History.{state_count, with_down, with_centre_record};
 ghost use Rattle.pv_irc.specs.Deciding.{down_fits, centre_has_room, centre_judgement};
 ghost use Rattle.pv_irc.specs.declared.request.IrcRequest.TheVariants as requests;
 
@@ -132,7 +132,7 @@ impl IrcState {
     /// Takes a record in, for which there is room. There are fewer than the limit of records.
     pub fn absorb(&mut self, rec: &CentreRecord)
         requires room { IsTrue (centre_has_room self.old rec.now) }
-        requires within { record_count self.old < self.old.limits.records }
+        requires within { state_count self.old < self.old.limits.records }
         ensures { self.new ≡ with_centre_record self.old rec.now }
     {
         match rec {
@@ -145,8 +145,8 @@ impl IrcState {
     /// Applies what came down.
     fn apply(&mut self, rec: &DownRecord)
         requires room { IsTrue (down_fits self.old rec.now) }
-        requires within { record_count self.old < self.old.limits.records }
-        ensures { self.new ≡ with_applied self.old rec.now }
+        requires within { state_count self.old < self.old.limits.records }
+        ensures { self.new ≡ with_down self.old rec.now }
     {
         if let DownRecord::Whole(edit) = rec {
             self.base.absorb(edit, self.applied);

@@ -1,15 +1,15 @@
 //! What a journal may do next, and the call that makes each transition.
 //!
 //! ```text
-//!                 start                 a disk becomes a journal that is reading
-//!   reading    -> reading     next      a body, or a fault
-//!   reading    -> at rest     next      no further body
-//!   at rest    -> at rest     next      None
-//!   in hand    -> in hand     next      None
-//!   at rest    -> at rest     append    Ok, or Full
-//!   at rest    -> in hand     append    a call of the disk failed
-//!   in hand    -> in hand     settle    a call of the disk failed
-//!   in hand    -> at rest     settle    whether the body in hand is stored
+//!                 start                 a disk becomes a journal that is reading.
+//!   reading    -> reading     next      a body, or a fault.
+//!   reading    -> at rest     next      no further body.
+//!   at rest    -> at rest     next      None.
+//!   in hand    -> in hand     next      None.
+//!   at rest    -> at rest     append    Ok, or Full.
+//!   at rest    -> in hand     append    a call of the disk failed.
+//!   in hand    -> in hand     settle    a call of the disk failed.
+//!   in hand    -> at rest     settle    whether the body in hand is stored.
 //! ```
 ghost use Rattle.std.specs.Prelude.{◌≡◌, ◌⊎◌, ◌↔◌, ℕ, ◌+◌, List, [], ◌∷◌, ◌++◌, length, take, Option, Some, None, Ok, true, false, ◌<◌, ◌≤◌, IfOk, IfErr, IfSome, OnOk, OnErr, IsErr};
 ghost use Rattle.pv_outside.specs.Disk.{HasCalls};

@@ -73,6 +73,8 @@ pub(crate) fn read_block<D: Disk>(
     ensures held { IfOk result (λ held. (held ≤ MAX_BLOCK) × (gate + held ≤ end)) }
     ensures bytes { IfOk result (λ held. IfSome (D.reads disk.old) (λ text. take held into.new
         ≡ take MAX_BLOCK (drop gate text))) }
+
+    // Reading leaves a disk as durable as it was.
     ensures durable { IsDurable D.Reports disk.old → IsDurable D.Reports disk.new }
     ensures synced { IsSynced D.Reports disk.old → IsSynced D.Reports disk.new }
 {

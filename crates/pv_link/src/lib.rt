@@ -6,7 +6,7 @@
 //! - [`DownEnd`] is the Update Centre's end for one centre: which record goes next.
 //! - [`UpEnd`] is a centre's end: which item goes next.
 //!
-//! Both have the same calls, and no call allocates. The front says how many records or items there are:
+//! Both have the same calls, and no call allocates. A call is given how many records or items there are:
 //!
 //! ```text
 //! let mut end = DownEnd::new();

@@ -44,7 +44,7 @@ impl Sending {
         }
     }
 
-    /// Gives the next number below the front.
+    /// Gives the next number below the count.
     pub(crate) fn next(&mut self, front: u64) -> Option<u64>
         ensures given { result ≡ number_to_give self.old front }
         ensures after { self.new ≡ end_after self.old front }

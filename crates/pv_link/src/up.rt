@@ -31,8 +31,8 @@ impl UpEnd {
     }
 
     /// The number of the next packet, if there are `front` items. The end gives the numbers from the
-    /// acknowledged one to below the front in turn, and then again from the acknowledged one. `None`
-    /// exactly when all below the front are acknowledged.
+    /// acknowledged one to below that count in turn, and then again from the acknowledged one. `None`
+    /// exactly when all below that count are acknowledged.
     pub fn next(&mut self, front: u64) -> Option<u64>
         ensures given { result ≡ number_to_give self.old front }
         ensures after { self.new ≡ end_after self.old front }
@@ -42,7 +42,7 @@ impl UpEnd {
     }
 
     /// Hears that all numbers below `n` are stored at the other side. The end keeps the greatest number
-    /// that it heard. One above the front is ignored: there are fewer items.
+    /// that it heard. One above the count is ignored: there are fewer items.
     pub fn acknowledged(&mut self, n: u64, front: u64)
         ensures { self.new ≡ end_that_heard self.old n front }
     {

@@ -12,7 +12,7 @@ use Rattle.pv_network.specs.declared.outcome.Turn.{Turn}
 use Rattle.pv_network.specs.Calling.{call_at, step_of_press, step_of_store, step_of_show}
 use Rattle.pv_network.specs.Calls.{Calls, call_in, IsEntryOf}
 use Rattle.pv_network.specs.Centre.{Held}
-use Rattle.pv_network.specs.Keying.{KeyedByte, bytes_of, is_owes, is_stored, step_of_payment, step_of_key, screens_in, is_over, keys_from, AreKeyed, turns_answer, keys_refusal, step_of_keys, AreKeyedAt}
+use Rattle.pv_network.specs.Keying.{KeyedByte, bytes_of, is_owes, is_storing, step_of_payment, step_of_key, screens_in, is_over, keys_from, TakesAll, turns_answer, keys_refusal, step_of_keys, TakesAllAt}
 use Rattle.pv_network.specs.Standing.{State, StandsFor}
 use Rattle.pv_network.specs.World.{World}
 use Rattle.pv_network.proofs.Calling.{calls_there}
@@ -25,14 +25,14 @@ module _ (c port : ℕ) (w : World) (new : State) (outcome : Outcome) where
   Done done = StandsFor new done.0 × (outcome ≡ done.1)
 
   -- what was stored is shown
-  pub payment_shown : (reply : Outcome) → reply ≡ (step_of_store w c port).1 → is_stored reply ≡ true
+  pub payment_shown : (reply : Outcome) → reply ≡ (step_of_store w c port).1 → is_storing reply ≡ true
       → Done (step_of_show (step_of_store w c port).0 c port) → Done (step_of_payment w c port)
-  payment_shown reply is test done = let here : is_stored (step_of_store w c port).1 ≡ true = ap is_stored (sym is) ∙ test in rw here done
+  payment_shown reply is test done = let here : is_storing (step_of_store w c port).1 ≡ true = ap is_storing (sym is) ∙ test in rw here done
 
   -- nothing was stored
-  pub payment_refused : outcome ≡ (step_of_store w c port).1 → is_stored outcome ≡ false → Done (step_of_store w c port)
+  pub payment_refused : outcome ≡ (step_of_store w c port).1 → is_storing outcome ≡ false → Done (step_of_store w c port)
       → Done (step_of_payment w c port)
-  payment_refused is test done = let here : is_stored (step_of_store w c port).1 ≡ false = ap is_stored (sym is) ∙ test in rw here done
+  payment_refused is test done = let here : is_storing (step_of_store w c port).1 ≡ false = ap is_storing (sym is) ∙ test in rw here done
 
   module _ (byte : ℕ) (entry : Option Entry) where
     -- the byte, with its entry
@@ -109,7 +109,7 @@ module _ (s : State) (w : World) (stands : StandsFor s w) (c : ℕ) (here : Held
 
   -- the keys are not taken
   pub refused : (bytes : List ℕ) (outcome : Outcome) → ReadsAs text bytes → keys_refusal (call_in here.calls port) ≡ Some outcome
-      → (keyed : List KeyedByte) × ReadsAs text (bytes_of keyed) × AreKeyedAt w c port keyed
+      → (keyed : List KeyedByte) × ReadsAs text (bytes_of keyed) × TakesAllAt w c port keyed
       × StandsFor s (step_of_keys w c port keyed).0 × (outcome ≡ (step_of_keys w c port keyed).1)
   refused bytes outcome reads is =
       let same : keys_refusal (call_at w c port) ≡ Some outcome = sym same_refusal ∙ is in (
@@ -122,9 +122,9 @@ module _ (s : State) (w : World) (stands : StandsFor s w) (c : ℕ) (here : Held
 
   -- all of them are taken
   pub answered : (new : State) (turns : List Turn) → keys_refusal (call_in here.calls port) ≡ None
-      → (keyed : List KeyedByte) × ReadsAs text (bytes_of keyed) × AreKeyed w c port keyed
+      → (keyed : List KeyedByte) × ReadsAs text (bytes_of keyed) × TakesAll w c port keyed
       × StandsFor new (keys_from w c port keyed).0 × (turns ≡ (keys_from w c port keyed).1)
-      → (keyed : List KeyedByte) × ReadsAs text (bytes_of keyed) × AreKeyedAt w c port keyed
+      → (keyed : List KeyedByte) × ReadsAs text (bytes_of keyed) × TakesAllAt w c port keyed
       × StandsFor new (step_of_keys w c port keyed).0 × (turns_answer turns ≡ (step_of_keys w c port keyed).1)
   answered new turns is taken =
       let same : keys_refusal (call_at w c port) ≡ None = sym same_refusal ∙ is in
@@ -141,7 +141,7 @@ module _ (c port : ℕ) (text : List ℕ) (before : List Turn) (first : World) w
     pub stands : StandsFor now world
     pub later : (bytes : List ℕ) × ReadsAs rest bytes
     pub reads : (more : List KeyedByte) → ReadsAs rest (bytes_of more) → ReadsAs text (bytes_of (done ++ more))
-    pub keyed : (more : List KeyedByte) → AreKeyed world c port more → AreKeyed first c port (done ++ more)
+    pub keyed : (more : List KeyedByte) → TakesAll world c port more → TakesAll first c port (done ++ more)
     pub worlds : (more : List KeyedByte) → (keys_from first c port (done ++ more)).0 ≡ (keys_from world c port more).0
     pub shown : (more : List KeyedByte) → before ++ (keys_from first c port (done ++ more)).1 ≡ turns ++ (keys_from world c port more).1
 
@@ -160,9 +160,9 @@ module _ (c port : ℕ) (text : List ℕ) (before : List Turn) (first : World) w
 
   module _ (rest : List ℕ) (now : State) (turns : List Turn) (p : Taken rest now turns) where
     -- what was taken and what follows it, to the end
-    ends : (new : State) (after : List Turn) (more : List KeyedByte) → ReadsAs rest (bytes_of more) → AreKeyed p.world c port more
+    ends : (new : State) (after : List Turn) (more : List KeyedByte) → ReadsAs rest (bytes_of more) → TakesAll p.world c port more
         → StandsFor new (keys_from p.world c port more).0 → after ≡ turns ++ (keys_from p.world c port more).1
-        → (keyed : List KeyedByte) × ReadsAs text (bytes_of keyed) × AreKeyed first c port keyed
+        → (keyed : List KeyedByte) × ReadsAs text (bytes_of keyed) × TakesAll first c port keyed
         × StandsFor new (keys_from first c port keyed).0 × (after ≡ before ++ (keys_from first c port keyed).1)
     ends new after more reads keyed stands is = (
       p.done ++ more,
@@ -174,7 +174,7 @@ module _ (c port : ℕ) (text : List ℕ) (before : List Turn) (first : World) w
 
     -- nothing is left
     pub taken_all : notation_at rest ≡ None
-        → (keyed : List KeyedByte) × ReadsAs text (bytes_of keyed) × AreKeyed first c port keyed
+        → (keyed : List KeyedByte) × ReadsAs text (bytes_of keyed) × TakesAll first c port keyed
         × StandsFor now (keys_from first c port keyed).0 × (turns ≡ before ++ (keys_from first c port keyed).1)
     taken_all none = ends now turns [] (none_read rest p.later.0 p.later.1 none) tt p.stands (sym (append-nil turns))
 
@@ -193,7 +193,7 @@ module _ (c port : ℕ) (text : List ℕ) (before : List Turn) (first : World) w
 
       -- the call is over with it
       pub taken_over : is_over outcome ≡ true
-          → (keyed : List KeyedByte) × ReadsAs text (bytes_of keyed) × AreKeyed first c port keyed
+          → (keyed : List KeyedByte) × ReadsAs text (bytes_of keyed) × TakesAll first c port keyed
           × StandsFor new (keys_from first c port keyed).0 × (after ≡ before ++ (keys_from first c port keyed).1)
       taken_over over =
           let here : is_over (step_of_key p.world c port key).1 ≡ true = ap is_over (sym is) ∙ over in
@@ -216,7 +216,7 @@ module _ (c port : ℕ) (text : List ℕ) (before : List Turn) (first : World) w
             later = next_read rest p.later.0 byte later p.later.1 read;
             reads = λ more reads. subst (λ (keys : List KeyedByte). ReadsAs text (bytes_of keys)) (sym (assoc more))
                 (p.reads (key ∷ more) (later, read, reads));
-            keyed = λ more are. subst (λ (keys : List KeyedByte). AreKeyed first c port keys) (sym (assoc more))
+            keyed = λ more are. subst (λ (keys : List KeyedByte). TakesAll first c port keys) (sym (assoc more))
                 (p.keyed (key ∷ more) (says, rw here are));
             worlds = λ more. ap (λ (keys : List KeyedByte). (keys_from first c port keys).0) (assoc more) ∙ p.worlds
                 (key ∷ more) ∙ rw here refl;

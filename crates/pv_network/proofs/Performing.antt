@@ -58,7 +58,7 @@ takes_line s w stands port text here after step seats read says made =
       says.step_is ∙ ap (λ (t : EditorSeat × EditStep). t.1) same,
     )
 
--- the step that a line comes to is done
+-- the step of a line is done
 pub does_step : (w : World) (port : ℕ) (said : Option EditLine) (new : State) (outcome : Outcome) (step : EditStep)
     → step ≡ (step_of_line w port said).1
     → StandsFor new (step_of_said (step_of_line w port said).0 port step).0 ×

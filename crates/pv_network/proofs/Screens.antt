@@ -24,7 +24,7 @@ use Rattle.pv_network.specs.Call.{Call, first_call, is_waiting, is_to_store, key
 use Rattle.pv_network.specs.Calling.{calls_at, call_at, view_at, with_calls, step_of_dial, step_of_hang, step_of_press, step_of_store, step_of_show}
 use Rattle.pv_network.specs.Calls.{Calls, call_in, with_call, step_answer, call_after, turn_at, away_answer, with_log_on, dial_at, hang_at, press_at, storing_at, store_at, showing_at, show_at, IsEntryOf, IsEntryUnlessWaiting}
 use Rattle.pv_network.specs.Centre.{Centre, record_count, new_centre}
-use Rattle.pv_network.specs.Keying.{KeyedByte, first_entry, is_owes, is_stored, step_of_payment, step_of_key, screens_in, is_over, keys_from, UnlessOver, AreKeyed, turns_answer, keys_refusal, step_of_taken_keys, step_of_keys, AreKeyedAt}
+use Rattle.pv_network.specs.Keying.{KeyedByte, first_entry, is_owes, is_storing, step_of_payment, step_of_key, screens_in, is_over, keys_from, UnlessOver, TakesAll, turns_answer, keys_refusal, step_of_taken_keys, step_of_keys, TakesAllAt}
 use Rattle.pv_network.specs.Screens.{press_events, store_events, reply_events, show_events, is_full_at, payment_events, key_events, keys_events, taken_events, is_same_port, seat_events, step_turns, steps_turns, turns_in, port_turns, call_events, call_turns, AreChoices}
 use Rattle.pv_edits.specs.declared.room.TheConstants.{OPERATOR}
 use Rattle.pv_edits.specs.declared.wish.EditWish.TheVariants.{Put}
@@ -184,7 +184,7 @@ owes_nothing_shown outcomes.NotHeld is = absurd cc
 owes_nothing_shown (outcomes.Applied count) is = absurd cc
 owes_nothing_shown (outcomes.Records count) is = absurd cc
 
-stored_nothing_shown : (outcome : Outcome) → is_stored outcome ≡ true → screens_in outcome ≡ []
+stored_nothing_shown : (outcome : Outcome) → is_storing outcome ≡ true → screens_in outcome ≡ []
 stored_nothing_shown (outcomes.Reply text) is = absurd cc
 stored_nothing_shown (outcomes.Shown turn) is = absurd cc
 stored_nothing_shown outcomes.Busy is = absurd cc
@@ -289,13 +289,13 @@ module _ (w : World) (c p : ℕ) where
 -- a payment
 payment_stretch : (w : World) (c p : ℕ)
     → Stretch (call_at w c p) (payment_events w c p) (screens_in (step_of_payment w c p).1) (call_at (step_of_payment w c p).0 c p)
-payment_stretch w c p = by (is_stored (step_of_store w c p).1) refl
+payment_stretch w c p = by (is_storing (step_of_store w c p).1) refl
   where
     first : Stretch (call_at w c p) (store_events (is_full_at w c) (call_at w c p)) (screens_in (step_of_store w c p).1)
         (call_at (step_of_store w c p).0 c p)
     first = store_stretch w c p (is_full_at w c) (record_count (centre_at w c)) (call_at w c p) refl
 
-    by : (stored : Bool) → is_stored (step_of_store w c p).1 ≡ stored
+    by : (stored : Bool) → is_storing (step_of_store w c p).1 ≡ stored
         → Stretch (call_at w c p) (store_events (is_full_at w c) (call_at w c p) ++ cond stored
         (show_events (call_at (step_of_store w c p).0 c p)) [])
         (screens_in (cond stored (step_of_show (step_of_store w c p).0 c p) (step_of_store w c p)).1)
@@ -336,7 +336,7 @@ key_stretch w c p key says = by (is_owes (step_of_press w c p key.byte key.entry
     by false is = stretch_end (call_at w c p) _ _ _ first
 
 -- all keys
-keys_stretch : (w : World) (c p : ℕ) (keys : List KeyedByte) → AreKeyed w c p keys
+keys_stretch : (w : World) (c p : ℕ) (keys : List KeyedByte) → TakesAll w c p keys
     → Stretch (call_at w c p) (keys_events w c p keys) (keys_from w c p keys).1 (call_at (keys_from w c p keys).0 c p)
 keys_stretch w c p [] are = stays (call_at w c p)
 keys_stretch w c p (key ∷ keys) are = by (is_over (step_of_key w c p key).1) are.1
@@ -345,8 +345,8 @@ keys_stretch w c p (key ∷ keys) are = by (is_over (step_of_key w c p key).1) a
     first : Stretch (call_at w c p) (key_events w c p key) (screens_in (step_of_key w c p key).1) (call_at (step_of_key w c p key).0 c p)
     first = key_stretch w c p key are.0
 
-    by : (over : Bool) → UnlessOver over (AreKeyed (step_of_key w c p key).0 c p keys)
-        → (AreKeyed (step_of_key w c p key).0 c p keys
+    by : (over : Bool) → UnlessOver over (TakesAll (step_of_key w c p key).0 c p keys)
+        → (TakesAll (step_of_key w c p key).0 c p keys
         → Stretch (call_at (step_of_key w c p key).0 c p) (keys_events (step_of_key w c p key).0 c p keys)
         (keys_from (step_of_key w c p key).0 c p keys).1 (call_at (keys_from (step_of_key w c p key).0 c p keys).0 c p))
         → Stretch (call_at w c p) (key_events w c p key ++ cond over [] (keys_events (step_of_key w c p key).0 c p keys))
@@ -378,7 +378,7 @@ refusal_turns (Some call) outcome is = by (is_waiting call) is
 
 -- keys at a port
 taken_stretch : (w : World) (c p : ℕ) (keys : List KeyedByte) (refusal : Option Outcome) → keys_refusal (call_at w c p) ≡ refusal
-    → UnlessOver (is_some refusal) (AreKeyed w c p keys)
+    → UnlessOver (is_some refusal) (TakesAll w c p keys)
     → Stretch (call_at w c p) (taken_events w c p keys refusal) (turns_in (step_of_taken_keys w c p keys refusal).1)
     (call_at (step_of_taken_keys w c p keys refusal).0 c p)
 taken_stretch w c p keys (Some outcome) is are =
@@ -482,7 +482,7 @@ show_other w c p centre port other = show_elsewhere w c p centre port other (cal
 
 payment_other : (w : World) (c p centre port : ℕ) → (centre ≡ c → port ≡ p → ⊥)
     → call_at (step_of_payment w centre port).0 c p ≡ call_at w c p
-payment_other w c p centre port other = by (is_stored (step_of_store w centre port).1)
+payment_other w c p centre port other = by (is_storing (step_of_store w centre port).1)
   where
     by : (stored : Bool)
         → call_at (cond stored (step_of_show (step_of_store w centre port).0 centre port)
@@ -580,7 +580,7 @@ event_stretch w c p call (events.Show centre port) choice is chosen =
 event_stretch w c p call (events.Keys centre port keys) choice is chosen =
     by_port w c p centre port (λ n m. step_of_keys w n m choice.keyed) turns_in _
     (λ one two. taken_stretch w c p choice.keyed (keys_refusal (call_at w c p)) refl
-    (subst (λ (n : ℕ). AreKeyedAt w n p choice.keyed) one (subst (λ (m : ℕ). AreKeyedAt w centre m choice.keyed) two chosen.1)))
+    (subst (λ (n : ℕ). TakesAllAt w n p choice.keyed) one (subst (λ (m : ℕ). TakesAllAt w centre m choice.keyed) two chosen.1)))
     (taken_other w c p centre port choice.keyed (keys_refusal (call_at w centre port)))
 event_stretch w c p call (events.Hang centre port) choice is chosen =
     no_turn w c p centre port (λ n m. step_of_hang w n m) (λ one two. hang_stretch w c p (call_at w c p) refl)

@@ -17,7 +17,7 @@ use Rattle.pv_session.specs.Turns.{storing_turn}
 use Rattle.pv_network.specs.declared.outcome.Outcome.TheVariants as outcomes
 use Rattle.pv_network.specs.Call.{Call, call_of, first_call, serial_with, serial_of, is_waiting, is_to_store, key_turn}
 use Rattle.pv_network.specs.Calls.{Calls, call_in, with_call, turn_at, dial_at, hang_at, press_at, with_log_on, storing_at, store_at, showing_at, show_at}
-use Rattle.pv_network.specs.Sound.{serial_in, IsStoredAsOwed, IsSoundCalls}
+use Rattle.pv_network.specs.Sound.{serial_in, OwesItsReply, IsSoundCalls}
 use Rattle.pv_network.proofs.KeptSerials.{key_keeps}
 use Rattle.pv_network.proofs.Lists.{set_at}
 
@@ -36,7 +36,7 @@ pub first_holds : (one other : Bool) → (one && other) ≡ true → one ≡ tru
 first_holds true other how = refl
 first_holds false other how = absurd cc
 
--- a seat that owes a log-on has the serial that it is told
+-- a seat that owes a log-on has the serial that it is given
 storing_serial : (seat : CallState) (phase : Phase) (serial : ℕ) → IsTrue (is_owing phase)
     → (storing_turn seat phase (Serial serial)).0.serial ≡ Some serial
 storing_serial seat Listening serial owing = absurd cc
@@ -46,7 +46,7 @@ storing_serial seat Over serial owing = absurd cc
 module _ (calls : Calls) (port : ℕ) (sound : IsSoundCalls calls) where
   -- calls stay sound with another call at a port that has its serial or none
   with_call_sound : (call : Option Call) → ((serial : ℕ) → serial_of_any call ≡ Some serial → serial_in calls port ≡ Some serial)
-      → IfSome call IsStoredAsOwed → IsSoundCalls (with_call calls port call)
+      → IfSome call OwesItsReply → IsSoundCalls (with_call calls port call)
   with_call_sound call kept owed = record {
     ports = length-set calls.ports port call ∙ sound.ports;
     below = set_at (λ k x. (serial : ℕ) → serial_of_any x ≡ Some serial → serial < calls.log_ons) calls.ports port call None sound.below
@@ -54,7 +54,7 @@ module _ (calls : Calls) (port : ℕ) (sound : IsSoundCalls calls) where
     differ = set_at (λ k x. (other serial : ℕ) → serial_of_any x ≡ Some serial → serial_in
         (with_call calls port call) other ≡ Some serial → k ≡ other)
         calls.ports port call None (λ k other serial is. one k other serial is) (λ other serial is. one port other serial (kept serial is));
-    owed = set_at (λ k x. IfSome x IsStoredAsOwed) calls.ports port call None sound.owed owed;
+    owed = set_at (λ k x. IfSome x OwesItsReply) calls.ports port call None sound.owed owed;
   }
     where
       one : (k other serial : ℕ) → serial_in calls k ≡ Some serial → serial_in (with_call calls port call) other ≡ Some serial → k ≡ other
@@ -83,7 +83,7 @@ module _ (calls : Calls) (port : ℕ) (sound : IsSoundCalls calls) where
     differ = set_at (λ k x. (other serial : ℕ) → serial_of_any x ≡ Some serial → serial_in
         (with_log_on calls port call) other ≡ Some serial → k ≡ other)
         calls.ports port (Some new) None old latest;
-    owed = set_at (λ k x. IfSome x IsStoredAsOwed) calls.ports port (Some new) None sound.owed owing;
+    owed = set_at (λ k x. IfSome x OwesItsReply) calls.ports port (Some new) None sound.owed owing;
   }
     where
       new : Call
@@ -148,7 +148,7 @@ module _ (calls : Calls) (port : ℕ) (sound : IsSoundCalls calls) where
       by (Some (Serial told)) has =
           let owed : IsTrue (is_owing call.seat.phase) =
           subst (λ (stored : Option Paid). IfSome stored (λ reply. IsTrue (is_owing call.seat.phase))) has
-          (subst (λ (there : Option Call). IfSome there IsStoredAsOwed) is (sound.owed port)) in
+          (subst (λ (there : Option Call). IfSome there OwesItsReply) is (sound.owed port)) in
           turn_sound (storing_turn call.seat call.seat.phase (Serial told)) (λ serial kept. ap serial_of_any is
           ∙ ap (λ (stored : Option Paid). serial_with stored call.seat.serial) has ∙ sym
           (storing_serial call.seat call.seat.phase told owed) ∙ kept)

@@ -44,7 +44,7 @@ use Rattle.pv_network.specs.declared.event.TheConstants.{PORTS}
 use Rattle.pv_network.specs.Call.{Call, serial_of}
 use Rattle.pv_session.specs.declared.entry.Entry.{Entry}
 use Rattle.pv_network.specs.Calling.{calls_at, call_at, view_at, with_calls, step_of_press, step_of_store, step_of_show}
-use Rattle.pv_network.specs.Keying.{KeyedByte, first_entry, is_owes, is_stored, step_of_payment, step_of_key, screens_in, is_over, keys_from, keys_refusal, step_of_taken_keys}
+use Rattle.pv_network.specs.Keying.{KeyedByte, first_entry, is_owes, is_storing, step_of_payment, step_of_key, screens_in, is_over, keys_from, keys_refusal, step_of_taken_keys}
 use Rattle.pv_network.specs.Calls.{Calls, no_calls}
 use Rattle.pv_network.specs.Centre.{Centre, new_centre, record_count, arrival_of}
 use Rattle.pv_network.specs.Link.{End, Link, new_link, is_packets_full, number_to_send, with_packet, with_acknowledgement, with_heard, heard_link}
@@ -53,7 +53,7 @@ use Rattle.pv_network.specs.Run.{EachFollows, MayFollow}
 use Rattle.pv_network.specs.Sound.{IsGenuine, serial_in, IsSoundLink, IsSoundCalls, IsSound}
 use Rattle.pv_network.specs.Step.{Choice, with_verdict, step_of_request, seeded_frame, step_of_line, step_of_said, step_of_edit, happens, after}
 use Rattle.pv_network.specs.Traffic.{packet_room, with_ack_back, round_of_send, round_of_number, step_of_round, after_round, carry_rounds, step_of_packing, step_of_number, step_of_send, step_of_acknowledging, with_next_at, step_of_arrival, step_of_packet, step_of_deliver, step_of_heard, step_of_back}
-use Rattle.pv_network.specs.Verdict.{view_of, verdict_by}
+use Rattle.pv_network.specs.Verdict.{editor_reply, verdict_by}
 use Rattle.pv_network.specs.World.{World, Receipt, start, with_seat, centre_at, link_at, with_centre, with_link, with_edit, with_receipt}
 use Rattle.pv_network.proofs.Counts.{count_by-grows, frame_count-none, frames_within}
 use Rattle.pv_network.proofs.SoundCalls.{dial_sound, hang_sound, press_sound, store_sound, show_sound}
@@ -248,7 +248,7 @@ sound_receipt w editor q place sound stands = record {
 module _ (w : World) (editor q : ℕ) (wish : EditWish) (sound : IsSound w) where
   -- an edit that is answered at once is refused, or it is the last one again
   sound_answered : (reply : UdcReply) → IsAnswered w.update.limits w.update.records editor q wish reply
-      → IsSound (with_receipt w editor q (view_of reply))
+      → IsSound (with_receipt w editor q (editor_reply reply))
   sound_answered (replies.Stored place) answered = absurd answered
   sound_answered (replies.Again place) answered =
       let last = last_edit-there w.update.records editor q place answered in
@@ -264,7 +264,7 @@ module _ (w : World) (editor q : ℕ) (wish : EditWish) (sound : IsSound w) wher
       full : (edit : Record) (reply : UdcReply) → judge w.update.limits w.update.records (Edit editor q wish) ≡ Store edit reply
           → (is_full : Bool) → leb w.update.limits.records (length w.update.records) ≡ is_full
           → IsSound (with_verdict w editor q (cond is_full (record { stored = None; reply = Refused FULL (length w.update.records) })
-          (record { stored = Some edit; reply = view_of reply })))
+          (record { stored = Some edit; reply = editor_reply reply })))
       full edit reply is true how = sound
       full edit reply is false how =
           let edits = w.update.records in
@@ -273,7 +273,7 @@ module _ (w : World) (editor q : ℕ) (wish : EditWish) (sound : IsSound w) wher
           record { judged = (Edit editor q wish, reply, is); record_room = leb-false w.update.limits.records (length edits) how } in
           let stands : StandsAt (edits ++ edit ∷ []) editor q (length edits) =
           record { edit = edit; there = get_last edits edit; by = his.his; numbered = his.numbered } in
-          subst (λ (r : UdcReply). IsSound (with_receipt (with_edit w (Some edit)) editor q (view_of r))) (sym his.reply_is)
+          subst (λ (r : UdcReply). IsSound (with_receipt (with_edit w (Some edit)) editor q (editor_reply r))) (sym his.reply_is)
           (sound_receipt (with_edit w (Some edit)) editor q (length edits) (sound_stored w edit sound follows) stands)
 
       by : (decision : Decision Record UdcReply) → judge w.update.limits w.update.records (Edit editor q wish) ≡ decision
@@ -474,7 +474,7 @@ sound_key w c port key sound = choice IsSound (is_owes (step_of_press w c port k
     stored = sound_store (step_of_press w c port key.byte key.entry).0 c port pressed
 
     paid : IsSound (step_of_payment (step_of_press w c port key.byte key.entry).0 c port).0
-    paid = choice IsSound (is_stored (step_of_store (step_of_press w c port key.byte key.entry).0 c port).1) _ _
+    paid = choice IsSound (is_storing (step_of_store (step_of_press w c port key.byte key.entry).0 c port).1) _ _
         (λ _. sound_show (step_of_store (step_of_press w c port key.byte key.entry).0 c port).0 c port stored) (λ _. stored)
 
 -- a sound world stays sound however many keys there are

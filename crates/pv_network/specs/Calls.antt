@@ -37,7 +37,7 @@ caller_account (Some call) = call.seat.account
 abbrev pub with_call : Calls → ℕ → Option Call → Calls
 with_call calls port call = record calls { ports = slice_set calls.ports port call }
 
--- ---- what a step at a seat comes to
+-- ---- what a step at a seat does
 
 -- the answer to a step
 abbrev pub step_answer : Step → Outcome

@@ -31,13 +31,13 @@ abbrev pub is_owes : Outcome → Bool
 is_owes outcomes.Owes = true
 is_owes _ = false
 
-abbrev pub is_stored : Outcome → Bool
-is_stored outcomes.Stored = true
-is_stored _ = false
+abbrev pub is_storing : Outcome → Bool
+is_storing outcomes.Stored = true
+is_storing _ = false
 
 -- what is owed is stored and then shown, if the centre has room
 abbrev pub step_of_payment : World → ℕ → ℕ → World × Outcome
-step_of_payment w c port = let stored = step_of_store w c port in if is_stored stored.1 then step_of_show stored.0 c port else stored
+step_of_payment w c port = let stored = step_of_store w c port in if is_storing stored.1 then step_of_show stored.0 c port else stored
 
 -- a key, and then the payment of what it owes
 abbrev pub step_of_key : World → ℕ → ℕ → KeyedByte → World × Outcome
@@ -72,11 +72,11 @@ UnlessOver true Rest = Unit {0}
 UnlessOver false Rest = Rest
 
 -- each key has the entry that it makes in the world in which it is keyed
-abbrev pub AreKeyed : World → ℕ → ℕ → List KeyedByte → Type 0
-AreKeyed w c port [] = Unit {0}
-AreKeyed w c port (key ∷ keys) =
+abbrev pub TakesAll : World → ℕ → ℕ → List KeyedByte → Type 0
+TakesAll w c port [] = Unit {0}
+TakesAll w c port (key ∷ keys) =
     let done = step_of_key w c port key in
-    IsEntryOf (call_at w c port) key.byte key.entry × UnlessOver (is_over done.1) (AreKeyed done.0 c port keys)
+    IsEntryOf (call_at w c port) key.byte key.entry × UnlessOver (is_over done.1) (TakesAll done.0 c port keys)
 
 -- the answer to keys: the screens, if they showed one
 abbrev pub turns_answer : List Turn → Outcome
@@ -97,5 +97,5 @@ abbrev pub step_of_keys : World → ℕ → ℕ → List KeyedByte → World × 
 step_of_keys w c port keys = step_of_taken_keys w c port keys (keys_refusal (call_at w c port))
 
 -- what the keys say, if they are taken
-abbrev pub AreKeyedAt : World → ℕ → ℕ → List KeyedByte → Type 0
-AreKeyedAt w c port keys = UnlessOver (is_some (keys_refusal (call_at w c port))) (AreKeyed w c port keys)
+abbrev pub TakesAllAt : World → ℕ → ℕ → List KeyedByte → Type 0
+TakesAllAt w c port keys = UnlessOver (is_some (keys_refusal (call_at w c port))) (TakesAll w c port keys)

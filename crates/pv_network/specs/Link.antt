@@ -50,7 +50,7 @@ with_packet link number edit = record link {
 abbrev pub with_acknowledgement : Link → ℕ → Link
 with_acknowledgement link count = record link { up = link.up ++ count ∷ [] }
 
--- an end that hears of this many records, if there are so many: it keeps the greatest count that it heard of
+-- an end that hears of `count` records, if there are that many: it keeps the greatest count that it heard of
 abbrev pub with_heard : End → ℕ → ℕ → End
 with_heard end front count = if nat_lt end.acknowledged count && nat_le count front then record end { acknowledged = count } else end
 

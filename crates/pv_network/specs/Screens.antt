@@ -13,7 +13,7 @@ use Rattle.pv_network.specs.declared.outcome.Turn.{Turn}
 use Rattle.pv_network.specs.Call.{Call, is_waiting, is_to_store}
 use Rattle.pv_network.specs.Calling.{call_at, view_at, step_of_press, step_of_store}
 use Rattle.pv_network.specs.Centre.{record_count}
-use Rattle.pv_network.specs.Keying.{KeyedByte, is_owes, is_stored, step_of_key, screens_in, is_over, keys_refusal}
+use Rattle.pv_network.specs.Keying.{KeyedByte, is_owes, is_storing, step_of_key, screens_in, is_over, keys_refusal}
 use Rattle.pv_network.specs.Step.{Choice, IsChoice, happens}
 use Rattle.pv_network.specs.World.{World, centre_at}
 
@@ -24,12 +24,12 @@ abbrev pub press_events : View → ℕ → Option Call → List CallEvent
 press_events view key None = []
 press_events view key (Some call) = if is_waiting call then [] else Keyed key view ∷ []
 
--- a full centre refuses to store what is owed; if it stores it, the seat is not told yet
+-- a full centre refuses to store what is owed; if it stores it, the seat does not know it yet
 abbrev pub store_events : Bool → Option Call → List CallEvent
 store_events is_full None = []
 store_events is_full (Some call) = if is_to_store call then (if is_full then Refused ∷ [] else []) else []
 
--- the seat is told what was stored
+-- the seat gets the reply to what was stored
 abbrev pub reply_events : Option Paid → List CallEvent
 reply_events None = []
 reply_events (Some reply) = Stored reply ∷ []
@@ -46,7 +46,7 @@ is_full_at w c = nat_le w.update.limits.records (record_count (centre_at w c))
 abbrev pub payment_events : World → ℕ → ℕ → List CallEvent
 payment_events w c port =
     let stored = step_of_store w c port in
-    store_events (is_full_at w c) (call_at w c port) ++ (if is_stored stored.1 then show_events (call_at stored.0 c port) else [])
+    store_events (is_full_at w c) (call_at w c port) ++ (if is_storing stored.1 then show_events (call_at stored.0 c port) else [])
 
 -- a key, and the payment of what it owes
 abbrev pub key_events : World → ℕ → ℕ → KeyedByte → List CallEvent

@@ -25,8 +25,8 @@ abbrev pub serial_in : Calls → ℕ → Option ℕ
 serial_in calls port = call_in calls port >>= serial_of
 
 -- a reply that is to be shown is one to what the seat owes
-abbrev pub IsStoredAsOwed : Call → Type 0
-IsStoredAsOwed call = IfSome call.stored (λ reply. IsTrue (is_owing call.seat.phase))
+abbrev pub OwesItsReply : Call → Type 0
+OwesItsReply call = IfSome call.stored (λ reply. IsTrue (is_owing call.seat.phase))
 
 -- The packets of a centre's link carry the list's records. What went up acknowledges no more than was applied, and neither
 -- does what the sending end knows of it.
@@ -41,7 +41,7 @@ pub record IsSoundCalls (calls : Calls) : Type 0 where
   pub ports : length calls.ports ≡ PORTS
   pub below : (port serial : ℕ) → serial_in calls port ≡ Some serial → serial < calls.log_ons
   pub differ : (port other serial : ℕ) → serial_in calls port ≡ Some serial → serial_in calls other ≡ Some serial → port ≡ other
-  pub owed : (port : ℕ) → IfSome (call_in calls port) IsStoredAsOwed
+  pub owed : (port : ℕ) → IfSome (call_in calls port) OwesItsReply
 
 -- The law of the one list holds, and with it what keeps it so: an editor's next number is one more than how many edits he has,
 -- the limits are kept, and each centre's link is sound and so are its calls.

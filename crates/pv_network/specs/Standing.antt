@@ -10,7 +10,7 @@ use Rattle.pv_session.specs.declared.entry.Entry.{Entry}
 use Rattle.pv_network.specs.Calling.{call_at, step_of_press}
 use Rattle.pv_network.specs.Calls.{IsEntryOf}
 use Rattle.pv_network.specs.Centre.{Held, CentreStands}
-use Rattle.pv_network.specs.Keying.{KeyedByte, bytes_of, step_of_key, keys_from, AreKeyed, step_of_keys, AreKeyedAt}
+use Rattle.pv_network.specs.Keying.{KeyedByte, bytes_of, step_of_key, keys_from, TakesAll, step_of_keys, TakesAllAt}
 use Rattle.pv_network.specs.Link.{Link}
 use Rattle.pv_network.specs.Sound.{IsSound}
 use Rattle.pv_cells.specs.Notation.{ReadsAs}
@@ -59,13 +59,13 @@ PaysKey old new outcome c port byte = (w : World) → StandsFor old w
 -- the same of all keys of a notation, and the screens that they add
 abbrev pub TakesKeys : State → State → List Turn → List Turn → ℕ → ℕ → List ℕ → Type 0
 TakesKeys old new before after c port text = (w : World) → StandsFor old w
-    → (keyed : List KeyedByte) × ReadsAs text (bytes_of keyed) × AreKeyed w c port keyed
+    → (keyed : List KeyedByte) × ReadsAs text (bytes_of keyed) × TakesAll w c port keyed
     × StandsFor new (keys_from w c port keyed).0 × (after ≡ before ++ (keys_from w c port keyed).1)
 
 -- the same of keys at a port
 abbrev pub AnswersKeys : State → State → Outcome → ℕ → ℕ → List ℕ → Type 0
 AnswersKeys old new outcome c port text = (w : World) → StandsFor old w
-    → (keyed : List KeyedByte) × ReadsAs text (bytes_of keyed) × AreKeyedAt w c port keyed
+    → (keyed : List KeyedByte) × ReadsAs text (bytes_of keyed) × TakesAllAt w c port keyed
     × StandsFor new (step_of_keys w c port keyed).0 × (outcome ≡ (step_of_keys w c port keyed).1)
 
 -- the text is the notation of at least one byte
@@ -81,8 +81,8 @@ takes_memory _ = false
 
 -- What an event leaves open is chosen in the world in which it happens: whatever world the network stood for, there is such a
 -- choice, it stands afterwards for the next world by it, and what it answers is that answer.
-abbrev pub LetsHappen : Event → State → State → Outcome → Type 0
-LetsHappen event old new outcome = (w : World) → StandsFor old w
+abbrev pub TakesPlace : Event → State → State → Outcome → Type 0
+TakesPlace event old new outcome = (w : World) → StandsFor old w
     → (choice : Choice) × IsChoice w event choice × StandsFor new (happens w event choice).0 × (outcome ≡ (happens w event choice).1)
 
 -- an event at a centre or at a port is at one that there is

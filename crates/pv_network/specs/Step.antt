@@ -26,7 +26,7 @@ use Rattle.pv_network.specs.declared.outcome.Outcome.{Outcome}
 use Rattle.pv_network.specs.declared.outcome.Outcome.TheVariants as outcomes
 use Rattle.pv_network.specs.Calling.{call_at, step_of_dial, step_of_press, step_of_store, step_of_show, step_of_hang}
 use Rattle.pv_network.specs.Calls.{IsEntryOf}
-use Rattle.pv_network.specs.Keying.{KeyedByte, bytes_of, first_entry, step_of_keys, AreKeyedAt}
+use Rattle.pv_network.specs.Keying.{KeyedByte, bytes_of, first_entry, step_of_keys, TakesAllAt}
 use Rattle.pv_network.specs.Traffic.{step_of_send, step_of_deliver, step_of_back, step_of_carry}
 use Rattle.pv_network.specs.Verdict.{Verdict, verdict_of, reply_found}
 use Rattle.pv_network.specs.World.{World, seat_at, with_seat, centre_at, with_edit, with_receipt, page_base}
@@ -52,12 +52,12 @@ step_of_seeding w name row = step_of_request w OPERATOR (next_number w.update.re
 
 -- ---- edit
 
--- a line is taken at a seat: what it says makes another seat of it, and comes to a step
+-- a line is taken at a seat: what it says makes another seat of it, and gives a step
 abbrev pub step_of_line : World → ℕ → Option EditLine → World × EditStep
 step_of_line w port said =
     let turn = turn_of (seat_at w port) w.update.records (all_places w.update.records) said in (with_seat w port turn.0, turn.1)
 
--- the step that a line comes to is done; after the end of a session the seat is new
+-- the step of a line is done; after the end of a session the seat is new
 abbrev pub step_of_said : World → ℕ → EditStep → World × Outcome
 step_of_said w port (steps.Say text) = (w, outcomes.Reply text)
 step_of_said w port (steps.Ask editor q wish) = step_of_request w editor q wish
@@ -103,7 +103,7 @@ pub record Choice : Type 0 where
 abbrev pub IsChoice : World → Event → Choice → Type 0
 IsChoice w (events.Edit port line) choice = Exactly (IsLine line) choice.said
 IsChoice w (events.Press centre port key) choice = IsEntryOf (call_at w centre port) key (first_entry choice.keyed)
-IsChoice w (events.Keys centre port keys) choice = ReadsAs keys (bytes_of choice.keyed) × AreKeyedAt w centre port choice.keyed
+IsChoice w (events.Keys centre port keys) choice = ReadsAs keys (bytes_of choice.keyed) × TakesAllAt w centre port choice.keyed
 IsChoice w _ choice = Unit {0}
 
 -- the world after an event, and the answer

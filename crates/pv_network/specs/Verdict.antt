@@ -16,25 +16,25 @@ use Rattle.pv_editor.specs.declared.replies.UdcReplyView.{UdcReplyView}
 use Rattle.pv_editor.specs.declared.replies.UdcReplyView.TheVariants as told
 use Rattle.pv_network.specs.declared.verdict.TheConstants.{FULL}
 
--- the record that is stored, if one is, and what the editor is told
+-- the record that is stored, if one is, and the editor's reply
 pub record Verdict : Type 0 where
   pub stored : Option Record
   pub reply : UdcReplyView
 
--- what an editor is told of a reply, the same of a repeated request as of a new one; the replies to items go to no editor
-abbrev pub view_of : UdcReply → UdcReplyView
-view_of (Stored place) = told.Stored place
-view_of (Again place) = told.Stored place
-view_of (Refused code) = told.Refused code.code code.shown
-view_of (Old count) = told.Stored count
-view_of (Early count) = told.Stored count
+-- the reply as an editor gets it, the same to a repeated request as to a new one; the replies to items go to no editor
+abbrev pub editor_reply : UdcReply → UdcReplyView
+editor_reply (Stored place) = told.Stored place
+editor_reply (Again place) = told.Stored place
+editor_reply (Refused code) = told.Refused code.code code.shown
+editor_reply (Old count) = told.Stored count
+editor_reply (Early count) = told.Stored count
 
 -- the verdict of a decision: a record that is one too many is refused after all
 abbrev pub verdict_by : EditList → Decision Record UdcReply → Verdict
-verdict_by u (Answer reply) = record { stored = None; reply = view_of reply }
+verdict_by u (Answer reply) = record { stored = None; reply = editor_reply reply }
 verdict_by u (Store edit reply) =
     if nat_le u.limits.records (length u.records) then record { stored = None; reply = told.Refused FULL (length u.records) }
-    else record { stored = Some edit; reply = view_of reply }
+    else record { stored = Some edit; reply = editor_reply reply }
 
 -- the verdict on a request
 abbrev pub verdict_of : EditList → UdcRequest → Verdict

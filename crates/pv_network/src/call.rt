@@ -64,7 +64,8 @@ impl Call {
     /// Takes a byte.
     pub(crate) fn key(&mut self, byte: u8, sight: &Sight) -> Step
         ensures turn { (entry : Option Entry) × IsEntryAt self.old.seat byte entry
-            × (self.new ≡ record self.old { seat = (key_turn self.old.seat byte (view_of sight.now) entry).0 })
+            × (self.new
+            ≡ record self.old { seat = (key_turn self.old.seat byte (view_of sight.now) entry).0 })
             × (result ≡ (key_turn self.old.seat byte (view_of sight.now) entry).1) }
     {
         self.seat.key(byte, sight)
@@ -93,7 +94,8 @@ impl Call {
 
     /// Goes on with the reply to what was stored.
     pub(crate) fn show(&mut self, reply: Paid) -> Step
-        ensures after { self.new ≡ record { seat = (storing_turn self.old.seat self.old.seat.phase reply).0; stored = None } }
+        ensures after { self.new
+            ≡ record { seat = (storing_turn self.old.seat self.old.seat.phase reply).0; stored = None } }
         ensures step { result ≡ (storing_turn self.old.seat self.old.seat.phase reply).1 }
     {
         self.stored = None;

@@ -169,8 +169,10 @@ impl Calls {
     #[tactic(auto, using(crate::proofs::Lists::set_again))]
     fn answer(&mut self, port: usize, step: Step) -> Outcome
         requires { port < PORTS }
-        ensures { (before : Spec.Calls) (seat : CallState) → self.old ≡ with_call before port (Some (call_of seat))
-            → (self.new ≡ (turn_at before port (seat, step)).0) × (result ≡ (turn_at before port (seat, step)).1) }
+        ensures { (before : Spec.Calls) (seat : CallState)
+            → self.old ≡ with_call before port (Some (call_of seat))
+            → (self.new ≡ (turn_at before port (seat, step)).0)
+            × (result ≡ (turn_at before port (seat, step)).1) }
     {
         match step {
             Step::Quiet => Outcome::Quiet,

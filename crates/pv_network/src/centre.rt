@@ -93,7 +93,8 @@ impl Centre {
 
     /// What the centre does with the record of a number.
     pub(crate) fn arrival(&self, number: u64) -> Arrival
-        ensures { result ≡ arrival_of (length self.now.records) (held_count self.now) self.now.limits.records number }
+        ensures { result
+            ≡ arrival_of (length self.now.records) (held_count self.now) self.now.limits.records number }
     {
         let applied = self.base.count();
         if number == applied {

@@ -40,8 +40,10 @@ pub fn a_carry_has_rounds_enough()
 
 /// A carry that says `carried` has brought the centre every record of the edit list.
 pub fn a_carried_centre_has_every_record()
-    ensures { (w : World) (centre records items : ℕ) → IsSound w → (step_of_carry w centre).1 ≡ Carried records items
-        → (centre_at (step_of_carry w centre).0 centre).applied ≡ length (step_of_carry w centre).0.update.records }
+    ensures { (w : World) (centre records items : ℕ) → IsSound w
+        → (step_of_carry w centre).1 ≡ Carried records items
+        → (centre_at (step_of_carry w centre).0 centre).applied
+        ≡ length (step_of_carry w centre).0.update.records }
 {}
 
 /// What a caller is shown from the dial to the end of his call is shown by the steps of his seat, which begins as a new
@@ -57,6 +59,7 @@ pub fn caller_is_shown_the_steps_of_his_seat()
     // A dial at a free port shows the first screen, and the call is new.
     ensures begins { (w : World) (c p : ℕ) (choice : Choice) → call_at w c p ≡ None → c < length w.centres
         → p < length (calls_at w c).ports
-        → ((happens w (events.Dial c p) choice).1 ≡ outcomes.Shown (record { screen = screen_of_blank KeyAccount; ended = None }))
+        → ((happens w (events.Dial c p) choice).1
+        ≡ outcomes.Shown (record { screen = screen_of_blank KeyAccount; ended = None }))
         × (call_at (happens w (events.Dial c p) choice).0 c p ≡ Some first_call) }
 {}

@@ -76,7 +76,7 @@ impl Link {
         self.up.get(index as usize).copied()
     }
 
-    /// Hears that a centre has this many records. An end keeps the greatest count, of those up to this front.
+    /// Hears that a centre has `count` records. An end keeps the greatest count of those up to `front`.
     pub(crate) fn hear(&mut self, front: u64, count: u64)
         ensures { self.new ≡ heard_places self.old front count }
     {

@@ -6,7 +6,7 @@ ghost use Rattle.pv_editor.specs.declared.step.EditStep.TheVariants as steps;
 ghost use Rattle.pv_network.specs.declared.event.TheConstants.{MAX_CENTRES};
 ghost use Rattle.pv_network.specs.Traffic.{step_of_send, step_of_deliver, step_of_back, step_of_acknowledging, GoesOn, packet_room, with_ack_back, round_of_packet, step_of_round, step_of_carry};
 ghost use Rattle.pv_network.specs.World.{World, start};
-ghost use Rattle.pv_network.specs.Standing.{StandsFor, Performs, LetsHappen, IsPossible, takes_memory};
+ghost use Rattle.pv_network.specs.Standing.{StandsFor, Performs, TakesPlace, IsPossible, takes_memory};
 ghost use Rattle.pv_network.specs.Step.{step_of_request, step_of_seeding, step_of_line, step_of_said, step_of_edit, step_of_view, step_of_at, step_of_list};
 
 mod calling;
@@ -89,7 +89,7 @@ impl Network {
         requires { IsPossible self.old event.now }
 
         // Whatever world the network stood for, it stands for the next one, and the outcome is that answer.
-        ensures performs { IfOk result (LetsHappen event.now self.old self.new) }
+        ensures performs { IfOk result (TakesPlace event.now self.old self.new) }
         ensures centres { length self.new.centres ≡ length self.old.centres }
 
         // A network that is not out of memory succeeds, unless the event takes memory. One that is out of memory
@@ -110,7 +110,7 @@ impl Network {
     /// Lets an event happen.
     fn happen(&mut self, event: &Event) -> Result<Outcome, AllocError>
         requires { IsPossible self.old event.now }
-        ensures performs { IfOk result (LetsHappen event.now self.old self.new) }
+        ensures performs { IfOk result (TakesPlace event.now self.old self.new) }
         ensures centres { length self.new.centres ≡ length self.old.centres }
         ensures succeeds { takes_memory event.now ≡ false → IsOk result }
     {
@@ -169,7 +169,7 @@ impl Network {
         }
     }
 
-    /// Takes an editor's line at a port, and returns the step that it comes to.
+    /// Takes an editor's line at a port, and returns its step.
     fn take_line(&mut self, port: usize, line: &[u8]) -> EditStep
         requires { port < EDITORS }
         ensures performs { (said : Option EditLine) × Exactly (IsLine line.now) said
@@ -315,7 +315,8 @@ impl Network {
     /// An acknowledgement is taken back, if one was made.
     fn take_back(&mut self, centre: usize, ack: Option<u64>)
         requires { centre < length self.old.centres }
-        ensures stands { (w : World) → StandsFor self.old w → StandsFor self.new (with_ack_back w centre ack) }
+        ensures stands { (w : World) → StandsFor self.old w
+            → StandsFor self.new (with_ack_back w centre ack) }
         ensures centres { length self.new.centres ≡ length self.old.centres }
     {
         if let Some(index) = ack {

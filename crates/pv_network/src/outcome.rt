@@ -1,6 +1,6 @@
 ghost use Rattle.std.specs.Prelude.{◌≡◌};
 ghost use Rattle.pv_network.specs.Calls.{away_answer};
-ghost use Rattle.pv_network.specs.Keying.{is_owes, is_stored, is_over};
+ghost use Rattle.pv_network.specs.Keying.{is_owes, is_storing, is_over};
 ghost use Rattle.pv_network.specs.Traffic.{packet_in, ack_in};
 
 use crate::turns::Turns;
@@ -80,8 +80,8 @@ impl Outcome {
     }
 
     /// Whether what was owed was stored.
-    pub(crate) fn is_stored(&self) -> bool
-        ensures { result ≡ is_stored self.now }
+    pub(crate) fn is_storing(&self) -> bool
+        ensures { result ≡ is_storing self.now }
     {
         matches!(self, Outcome::Stored)
     }

@@ -3,7 +3,7 @@ use Rattle.std.specs.Prelude.{◌≡◌, [], ◌∷◌, Option, Some, None}
 use Rattle.pv_journal.specs.Log.{Log, IsAtRest, HasInHand}
 use Rattle.pv_node.specs.declared.rules.Rules as rules
 
--- a node: its journal, the state that its records come to, and the record that is in hand
+-- a node: its journal, the state of its records, and the record that is in hand
 pub record Parts (D State Rec : Type 0) : Type 0 where
   pub journal : Log D
   pub state : State

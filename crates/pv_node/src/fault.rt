@@ -18,7 +18,7 @@ pub enum NodeFault<D: Disk> {
     NotFormatted([u8; 8]),
     /// No byte is at this place, where a gate should, or the gate is open and no whole body follows.
     Broken { at: u64 },
-    /// A further body stands after as many records as the limit, which is this.
+    /// A further body stands after `count` records, which is the limit.
     TooMany { count: u64 },
     /// The body of this number, from 0, is no record's spelling, or the record has no room in the state.
     Unreadable { number: u64 },
@@ -84,7 +84,7 @@ where
 pub enum AskFault<D: Disk> {
     /// A call of the disk failed. A record may be in hand.
     Disk(D::Failure),
-    /// The request would store a record, and there are as many as the limit, which is this.
+    /// The request would store a record, and there are `count` records, which is the limit.
     Full { count: u64 },
 }
 

@@ -1,7 +1,7 @@
 //! A node: rules over a journal.
 //!
 //! [`Rules`] say what a state is, how a request is judged at it and how a record is spelled. A [`Node`]
-//! keeps the records of such rules in a journal, and the state that they come to in memory.
+//! keeps the records of such rules in a journal, and the state that follows from them in memory.
 //! [`Node::open`] reads the records of a formatted disk into a state, and takes all the memory that the
 //! node ever needs. [`Node::ask`] settles what is in hand, decides, stores and absorbs, in this order.
 //! Wherever a call of the disk fails, what a crash may leave then stands for the records, or for these
@@ -17,9 +17,8 @@
 //! If a call of the disk fails while a record is being stored, the record is in hand: it is on the
 //! disk or it is not. The next `ask`, or [`Node::settle`], finds out.
 //!
-//! Which records an image, a disk and a node stand for is said by `specs/Standing.antt`, what an ask and
-//! a settling answer by `specs/Asking.antt`, and how a node is opened, or why not, by
-//! `specs/Opening.antt`.
+//! `specs/Standing.antt` says which records an image, a disk and a node stand for. `specs/Asking.antt`
+//! says what an ask and a settling answer, and `specs/Opening.antt` how a node is opened, or why not.
 #![tactic(auto)]
 
 mod decision;

@@ -1,13 +1,13 @@
 //! What a node may do next, and the call that makes each transition.
 //!
 //! ```text
-//!                 open        a formatted disk becomes a node that is at rest
-//!   at rest    -> at rest     ask       a reply, or Full
-//!   at rest    -> in hand     ask       a call of the disk failed while a record was being stored
-//!   in hand    -> in hand     ask       a call of the disk failed in the settling, or with another record
-//!   in hand    -> at rest     ask       a reply, or Full; the record that was in hand is stored or is not
-//!   in hand    -> in hand     settle    a call of the disk failed
-//!   in hand    -> at rest     settle    the record, if it is stored
+//!                 open        a formatted disk becomes a node that is at rest.
+//!   at rest    -> at rest     ask       a reply, or Full.
+//!   at rest    -> in hand     ask       a call of the disk failed while a record was being stored.
+//!   in hand    -> in hand     ask       a call of the disk failed in the settling, or with another record.
+//!   in hand    -> at rest     ask       a reply, or Full; the record that was in hand is stored or is not.
+//!   in hand    -> in hand     settle    a call of the disk failed.
+//!   in hand    -> at rest     settle    the record, if it is stored.
 //! ```
 ghost use Rattle.std.specs.Prelude.{◌≡◌, ◌≢◌, ℕ, ◌+◌, ◌*◌, ◌<◌, ◌≤◌, List, length, take, Option, Some, None, Ok, IfOk, IfErr, IfSome, OnOk, OnErr, IsErr, IsOk};
 ghost use Rattle.pv_outside.specs.Disk.{HasCalls, IsEndless};

@@ -52,13 +52,18 @@ impl Rules for Counting {
 
     ghost one_meaning = { one_meaning };
 
-    ghost stored = { λ state request rec reply is judged. stored state.limits.frames state.count request rec reply judged };
+    ghost stored = { λ state request rec reply is judged.
+        stored state.limits.frames state.count request rec reply judged };
 
     ghost grows = { λ state records rec stands is room within. counts_more state.count records rec stands };
 
-    ghost same_room = { λ one other records rec stands same limits room. has_room_too one.count other.count one.limits.frames other.limits.frames (stands ∙ sym same) (ap (λ l. l.frames) limits) room };
+    ghost same_room = { λ one other records rec stands same limits room.
+        has_room_too one.count other.count one.limits.frames other.limits.frames
+        (stands ∙ sym same) (ap (λ l. l.frames) limits) room };
 
-    ghost same_judgement = { λ one other records request stands same limits is. judged_alike one.count other.count one.limits.frames other.limits.frames request (stands ∙ sym same) (ap (λ l. l.frames) limits) };
+    ghost same_judgement = { λ one other records request stands same limits is.
+        judged_alike one.count other.count one.limits.frames other.limits.frames request
+        (stands ∙ sym same) (ap (λ l. l.frames) limits) };
 
     ghost counted = { λ state records stands. stands };
 

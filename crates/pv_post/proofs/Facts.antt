@@ -73,7 +73,7 @@ no-fields = refl
 abbrev pub some_reply : Response
 some_reply = record { account = 12; name = record { page = 5; letter = 99 }; moment = 1; fields = codes "AB" ∷ [] }
 
--- a reply of which each part can be told from its neighbours
+-- a reply each part of which differs from its neighbours
 pub spelling-of_a_reply : item_bytes (Reply some_reply)
     ≡ 2 ∷ 0 ∷ 0 ∷ 0 ∷ 0 ∷ 0 ∷ 0 ∷ 0 ∷ 12 ∷ 0 ∷ 0 ∷ 0 ∷ 5 ∷ 99 ∷ 0 ∷ 0 ∷ 0 ∷ 1 ∷ 1 ∷ 2 ∷ 65 ∷ 66 ∷ []
 unfolding item_bytes response_bytes fields_bytes

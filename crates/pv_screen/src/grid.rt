@@ -98,6 +98,8 @@ impl Grid {
         requires to { row ≤ ROWS }
         requires column { column < COLUMNS }
         requires cell { IsCell cell }
+
+        // That cell alone is another one afterwards.
         ensures value { self.new ≡ with_cell self.old row column cell }
         ensures cells { IsGrid self.new }
     {

@@ -119,8 +119,10 @@ fn run<K: Sink>(alloc: Global, centres: u8, text: &[u8], out: &mut K) -> Result<
     requires short { length text.now ≤ LONGEST_SCRIPT }
     requires some { 1 ≤ centres }
     requires few { centres ≤ MAX_CENTRES }
-    ensures ok { IfOk result (λ network. IsPlayed centres (first_world centres) text.now network (K.written out.old)
-        (K.written out.new)) }
+
+    // The whole text was played; or the play ended before, for the reason that is returned.
+    ensures ok { IfOk result (λ network. IsPlayed centres (first_world centres) text.now network
+        (K.written out.old) (K.written out.new)) }
     ensures err { IfErr result (IsRunEnd centres (first_world centres) text.now
         (K.written out.old) (K.written out.new) (K.write_faults out.old) (K.write_faults out.new)) }
     ensures counted { K.write_faults out.old ≤ K.write_faults out.new }
@@ -149,8 +151,10 @@ fn run_lines<K: Sink>(
     requires some { 1 ≤ centres }
     requires few { centres ≤ MAX_CENTRES }
     requires new { StandsFor network.old (first_world centres) }
-    ensures ok { OnOk result (IsPlayed centres (first_world centres) text.now network.new (K.written out.old)
-        (K.written out.new)) }
+
+    // Every line was played; or the play ended at one, for the reason that is returned.
+    ensures ok { OnOk result (IsPlayed centres (first_world centres) text.now network.new
+        (K.written out.old) (K.written out.new)) }
     ensures err { IfErr result (IsRunEnd centres (first_world centres) text.now
         (K.written out.old) (K.written out.new) (K.write_faults out.old) (K.write_faults out.new)) }
     ensures counted { K.write_faults out.old ≤ K.write_faults out.new }
@@ -180,6 +184,8 @@ fn run_line<K: Sink>(
     requires centres { length network.old.centres ≡ centres }
     requires some { 1 ≤ centres }
     requires few { centres ≤ MAX_CENTRES }
+
+    // The line was played; or the play ends at it, for the reason that is returned.
     ensures ok { OnOk result (HasRun centres (number == 1) line.now network.old network.new (K.written out.old)
         (K.written out.new)) }
     ensures err { IfErr result (IsLineEnd centres line.now number network.old
@@ -215,6 +221,8 @@ fn begin_again<K: Sink>(
     requires centres { length network.old.centres ≡ centres }
     requires some { 1 ≤ centres }
     requires few { centres ≤ MAX_CENTRES }
+
+    // The answer is written; or memory ran out, or the write failed.
     ensures ok { OnOk result (GivesAnswer (commands.Limits limits) network.old network.new (K.written out.old)
         (K.written out.new)) }
     ensures err { IfErr result (IsAnswerEnd (commands.Limits limits) network.old

@@ -142,7 +142,7 @@ module _ (serial : Option ℕ) where
   full_same (phases.Owing wish) call after step goes = goes_same _ _ after step refl goes
   full_same phases.Over call after step goes = goes_same _ _ after step refl goes
 
-  -- a log-on that is stored under another serial comes to the same step
+  -- a log-on that is stored under another serial is the same step
   stored_same : (phase : Phase) (call after : CallState) (one other : ℕ) (step : Step)
       → Goes (storing_turn call phase (Serial one)) after step
       → (end : Option ℕ) × Goes (storing_turn (with_serial call serial) phase (Serial other)) (with_serial after end) step
@@ -160,7 +160,7 @@ stored_else serial call after one other step like happens =
     let same = stored_same serial call.phase call after one one step happens in
     (same.0, subst (λ (e : CallEvent). Happens (with_serial call serial) e (with_serial after same.0) step) like same.1)
 
--- whatever happens, it comes to the same step
+-- whatever happens, it is the same step
 event_same : (serial : Option ℕ) (call after : CallState) (event other : CallEvent) (step : Step) → IsLikeButSerial event other
     → Happens call event after step → (end : Option ℕ) × Happens (with_serial call serial) other (with_serial after end) step
 event_same serial call after (Keyed byte view) other step like happens = (

@@ -38,7 +38,7 @@ pub fn keys_are_kept_until_they_make_an_entry()
 
 /// A law: serials change no screen. Two calls whose log-ons were stored under different serials have the same steps.
 pub fn serials_change_no_screen()
-    ensures { (events others : List CallEvent) (call after : CallState) (serial : Option ℕ) (steps : List Step) →
-        AllZip IsLikeButSerial events others → AreSteps call events steps after →
+    ensures { (events others : List CallEvent) (call after : CallState) (serial : Option ℕ)
+        (steps : List Step) → AllZip IsLikeButSerial events others → AreSteps call events steps after →
         (end : Option ℕ) × AreSteps (with_serial call serial) others steps (with_serial after end) }
 {}

@@ -104,7 +104,7 @@ impl UdcState {
         count_at(&self.counts, centre)
     }
 
-    /// The record at a place. `None` exactly from the front on.
+    /// The record at a place. `None` exactly from the count of records on.
     pub fn rec_at(&self, n: u64) -> Option<&Record>
         ensures { option_copied result ≡ slice_get self.now.records n }
     {

@@ -119,7 +119,8 @@ pub fn three_as<
     requires { F.IsAlwaysCallable make }
     ensures { (makes : A.Value × B.Value × C.Value → E)
         → ((parts : A.Value × B.Value × C.Value) (made : E) → F.post make parts made → made ≡ makes parts)
-        → Exactly (Gives (AreThree (A.Writes first.now) (B.Writes second.now) (C.Writes third.now)) makes tail.now) result }
+        → Exactly (Gives
+        (AreThree (A.Writes first.now) (B.Writes second.now) (C.Writes third.now)) makes tail.now) result }
 {
     match three(first, second, third, tail) {
         Some(parts) => Some(make(parts)),

@@ -22,7 +22,8 @@ impl Network {
         requires centre { centre < length self.old.centres }
         requires port { port < PORTS }
         requires notation { IsNotation text.now }
-        ensures performs { IfOk result (λ outcome. AnswersKeys self.old self.new outcome centre port text.now) }
+        ensures performs { IfOk result
+            (λ outcome. AnswersKeys self.old self.new outcome centre port text.now) }
         ensures centres { length self.new.centres ≡ length self.old.centres }
     {
         if let Some(outcome) = self.centres[centre as usize].refusal(port) {
@@ -44,7 +45,8 @@ impl Network {
         requires centre { centre < length self.old.centres }
         requires port { port < PORTS }
         requires notation { IsNotation text.now }
-        ensures performs { OnOk result (TakesKeys self.old self.new turns.old turns.new centre port text.now) }
+        ensures performs { OnOk result
+            (TakesKeys self.old self.new turns.old turns.new centre port text.now) }
         ensures centres { length self.new.centres ≡ length self.old.centres }
     {
         let mut rest = text;
@@ -82,7 +84,7 @@ impl Network {
         ensures centres { length self.new.centres ≡ length self.old.centres }
     {
         let stored = self.store(centre, port);
-        if stored.is_stored() {
+        if stored.is_storing() {
             self.show(centre, port)
         } else {
             stored

@@ -2,14 +2,14 @@ use Rattle.std.proofs.Common.{Bool, Result, Ok, Err}
 use Rattle.std.specs.Prelude.{IfOk}
 use Rattle.pv_network.specs.declared.event.Event.{Event}
 use Rattle.pv_network.specs.declared.outcome.Outcome.{Outcome}
-use Rattle.pv_network.specs.Standing.{State, LetsHappen}
+use Rattle.pv_network.specs.Standing.{State, TakesPlace}
 use Rattle.pv_network.specs.Step.{happens}
 use Rattle.pv_network.proofs.Standing.{out_stands}
 use Rattle.pv_network.proofs.network.Network.step.Goals as goal
 
 -- what was performed stays so, whether memory ran out or not
 noted : {E : Type 0} (r : Result Outcome E) (old new : State) (out : Bool) (event : Event)
-    → IfOk r (LetsHappen event old new) → IfOk r (LetsHappen event old (record new { is_out = out }))
+    → IfOk r (TakesPlace event old new) → IfOk r (TakesPlace event old (record new { is_out = out }))
 noted (Ok outcome) old new out event is = λ w stands.
     let done = is w stands in (done.0, done.1, out_stands new (happens w event done.0).0 done.2 out, done.3)
 noted (Err e) old new out event is = tt
