@@ -7,6 +7,7 @@ use Rattle.pv_post.specs.Spelling.{item_bytes}
 use Rattle.pv_post.specs.declared.item.Item.TheVariants.{Reply, Mail}
 use Rattle.pv_post.specs.declared.fields.TheConstants.{MAX_FIELDS}
 use Rattle.pv_post.specs.declared.filled.TheConstants.{FILLED_BYTES}
+use Rattle.pv_post.specs.declared.letter.TheConstants.{MAX_WAITING}
 use Rattle.pv_post.specs.declared.mail.TheConstants.{TEXT_CELLS}
 
 -- a frame has at most eight fields of forty bytes, and a letter six rows of forty cells
@@ -18,6 +19,10 @@ bytes-of_a_field = refl
 
 pub cells-of_a_letter : TEXT_CELLS ≡ 240
 cells-of_a_letter = refl
+
+-- twenty letters wait for an account
+pub letters-of_an_account : MAX_WAITING ≡ 20
+letters-of_an_account = refl
 
 -- a letter shows the space to the tilde
 pub first-cell : is_text_cell 32 ≡ true

@@ -1,3 +1,4 @@
+mod Boxes
 pub mod CallerLemmas
 mod Facts
 mod Filling

@@ -1,2 +1,4 @@
+pub mod Boxes
 pub mod Item
+pub mod Rooms
 pub mod Spelling

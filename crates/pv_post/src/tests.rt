@@ -1,4 +1,4 @@
-use crate::{Fields, Filled, Item, Mail, Reply, TEXT_CELLS};
+use crate::{Fields, Filled, Item, Letter, MAX_WAITING, Mail, Mailboxes, Reply, TEXT_CELLS};
 use pv_charge::Line;
 use pv_fields::{In, Out};
 use pv_page::{AccountNo, FrameName};
@@ -137,5 +137,43 @@ fn a_field_takes_what_can_be_keyed(rt: HostRuntime) -> Result<(), Fail> {
     }
     assert!(rt; Fields::of_list(&[]).is_none());
     assert!(rt; Fields::of_list(&[Filled::empty(); 9]).is_none());
+    Ok(())
+}
+
+/// A letter of this number.
+fn letter(number: u64) -> Option<Letter> {
+    Some(Letter {
+        number,
+        sender: account()?,
+        moment: 9,
+        text: [b'A'; TEXT_CELLS],
+    })
+}
+
+#[test]
+fn letters_wait_in_order_until_they_are_removed(rt: HostRuntime) -> Result<(), Fail> {
+    let mut mail = Mailboxes::open(rt.alloc(), 1)?;
+    let to = account().ok_or("an account")?;
+    assert!(rt; mail.oldest(to).is_none());
+    assert!(rt; !mail.remove(to, 3));
+    for number in [3, 5] {
+        mail.arrive(to, &letter(number).ok_or("a letter")?);
+    }
+    assert_eq!(rt; mail.oldest(to).copied(), letter(3));
+    assert!(rt; mail.remove(to, 3));
+    assert_eq!(rt; mail.oldest(to).copied(), letter(5));
+    Ok(())
+}
+
+#[test]
+fn a_letter_after_the_twentieth_is_dropped_for_good(rt: HostRuntime) -> Result<(), Fail> {
+    let mut mail = Mailboxes::open(rt.alloc(), 1)?;
+    let to = account().ok_or("an account")?;
+    let last = MAX_WAITING as u64;
+    for number in 0..=last {
+        mail.arrive(to, &letter(number).ok_or("a letter")?);
+    }
+    assert!(rt; !mail.remove(to, last));
+    assert!(rt; mail.remove(to, last - 1));
     Ok(())
 }
