@@ -16,7 +16,7 @@ use std::alloc::{AllocError, Global};
 /// the laws at the end. Contracts see a state as its own model says, and what `absorb` leaves is to be a
 /// function of that, so two states that are equal there stay so.
 ///
-/// A node takes memory by `open` alone: a state has all its room from then on.
+/// A node takes memory by `open` and `copy` alone: a state has all its room from then on.
 pub trait Rules {
     /// What the node keeps in memory: all that follows from its records.
     type State: Drop;
@@ -61,6 +61,11 @@ pub trait Rules {
     fn open(alloc: Global, limits: Limits) -> Result<Self::State, AllocError>
         ensures nothing { IfOk result (λ state. stands state []) }
         ensures limits { IfOk result (λ state. limits_of state ≡ limits) };
+
+    /// Makes a copy of a state: it means the same and has the same limits, so it stands for the same
+    /// records. It takes all the memory that a state of these limits ever needs.
+    fn copy(alloc: Global, state: &Self::State) -> Result<Self::State, AllocError>
+        ensures { IfOk result (λ copy. copy ≡ state.now) };
 
     /// Decides on a request.
     fn decide(state: &Self::State, request: &Self::Request) -> Decision<Self::Rec, Self::Reply>

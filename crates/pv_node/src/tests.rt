@@ -75,6 +75,13 @@ impl Rules for Counting {
         Ok(Count { limits, count: 0 })
     }
 
+    fn copy(_alloc: Global, state: &Count) -> Result<Count, AllocError> {
+        Ok(Count {
+            limits: state.limits,
+            count: state.count,
+        })
+    }
+
     fn decide(state: &Count, request: &u8) -> Decision<u8, u64> {
         if *request < 128 && state.count < state.limits.frames as u64 {
             Decision::Store(*request, state.count)
