@@ -67,6 +67,27 @@ impl Base {
         })
     }
 
+    /// A copy that stands for the same records, with the same limits. Room for `limits.records` records
+    /// is reserved in it too.
+    pub fn copy(&self, alloc: Global) -> Result<Base, AllocError>
+        ensures same { (records : List Record) (places : List ℕ) → IsBaseOf self.now records places →
+            IfOk result (λ copy. IsBaseOf copy records places) }
+        ensures limits { IfOk result (λ copy. copy.limits ≡ self.now.limits) }
+    {
+        let room = self.limits.records as usize;
+        Ok(Base {
+            records: list_with_room(alloc, &self.records, room)?,
+            places: list_with_room(alloc, &self.places, room)?,
+            operator: self.operator,
+            limits: self.limits,
+            frames: self.frames,
+            accounts: self.accounts,
+            leased: self.leased,
+            heads: Vec::from_slice(alloc, &self.heads)?,
+            links: list_with_room(alloc, &self.links, room)?,
+        })
+    }
+
     /// Adds a record, with its place in the edit list. There is room for it.
     pub fn absorb(&mut self, rec: &Record, place: u64)
         requires fits { (records : List Record) (places : List ℕ) → IsBaseOf self.old records places →
@@ -352,6 +373,16 @@ impl Base {
             .rposition(|edit| is_edit_of(edit, account))?;
         Some(index)
     }
+}
+
+/// A copy of a list, with room for this many in all.
+fn list_with_room<T: Copy>(alloc: Global, list: &[T], room: usize) -> Result<Vec<T>, AllocError>
+    ensures same { IfOk result (λ copy. copy.items ≡ list.now) }
+    ensures room { IfOk result (λ copy. room ≤ vec_capacity copy) }
+{
+    let mut copy = Vec::with_capacity(alloc, room)?;
+    copy.extend_from_slice(list)?;
+    Ok(copy)
 }
 
 /// Whether the frame's group is 0 or one of the account's.
