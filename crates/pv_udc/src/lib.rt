@@ -21,7 +21,7 @@
 //!
 //! Contracts see a state as its edit list and its limits (`specs/EditList.antt`). How a request is judged
 //! is one definition over these, `judge` of `specs/Judgement.antt`: the first answer that applies, or the
-//! record. The calls have the contracts that a node's rules have. Only `open` takes memory.
+//! record. The calls have the contracts that a node's rules have. Only `open` and `copy` take memory.
 #![tactic(auto)]
 
 mod judging;

@@ -70,6 +70,10 @@ impl Rules for UdcRules {
         UdcState::open(alloc, limits)
     }
 
+    fn copy(alloc: Global, state: &UdcState) -> Result<UdcState, AllocError> {
+        state.copy(alloc)
+    }
+
     fn decide(state: &UdcState, request: &UdcRequest) -> Decision<Record, UdcReply> {
         state.decide(request)
     }

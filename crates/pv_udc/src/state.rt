@@ -55,6 +55,18 @@ impl UdcState {
         })
     }
 
+    /// A copy of the state. Room for `limits.records` records is reserved in it too.
+    pub fn copy(&self, alloc: Global) -> Result<UdcState, AllocError>
+        ensures { IfOk result (λ copy. copy ≡ self.now) }
+    {
+        Ok(UdcState {
+            base: self.base.copy(alloc)?,
+            limits: self.limits,
+            count: self.count,
+            counts: self.counts,
+        })
+    }
+
     /// Whether there is room for a record: its editor is an account, if it has one, and what it adds is
     /// within the limits.
     pub fn has_room(&self, rec: &Record) -> bool
