@@ -18,7 +18,7 @@
 //! ```
 //!
 //! What a list of the centre's records means is defined in `specs/History.antt`, how a request is
-//! judged in `specs/Deciding.antt`. Only `open` takes memory.
+//! judged in `specs/Deciding.antt`. Only `open` and `copy` take memory.
 #![tactic(auto)]
 
 mod law;

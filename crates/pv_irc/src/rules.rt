@@ -69,6 +69,10 @@ impl<const C: u8> Rules for IrcRules<C> {
         IrcState::open(alloc, C, limits)
     }
 
+    fn copy(alloc: Global, state: &IrcState) -> Result<IrcState, AllocError> {
+        state.copy(alloc)
+    }
+
     fn decide(state: &IrcState, request: &IrcRequest) -> Decision<CentreRecord, IrcReply> {
         state.decide(request)
     }

@@ -69,6 +69,22 @@ impl IrcState {
         })
     }
 
+    /// A copy of the state. Room for `limits.records` records is reserved in it too.
+    pub fn copy(&self, alloc: Global) -> Result<IrcState, AllocError>
+        ensures { IfOk result (λ copy. copy ≡ self.now) }
+    {
+        let mut items = Vec::with_capacity(alloc, self.limits.records as usize)?;
+        items.extend_from_slice(&self.items)?;
+        Ok(IrcState {
+            centre: self.centre,
+            base: self.base.copy(alloc)?,
+            limits: self.limits,
+            applied: self.applied,
+            items,
+            log_ons: self.log_ons,
+        })
+    }
+
     /// Decides on a request.
     ///
     /// A record that came down is to be stored if its place is the count of those that were applied and
