@@ -1,7 +1,9 @@
 -- The limits in figures, and three messages, computed from the definitions.
-use Rattle.std.proofs.Common.{◌≡◌, ◌-◌, codes, refl}
+use Rattle.std.proofs.Common.{◌≡◌, ◌+◌, ◌*◌, ◌-◌, codes, refl}
 use Rattle.std.specs.Prelude.{◌^◌}
 use Rattle.std.specs.Fmt.{digits}
+use Rattle.pv_outside.specs.declared.clock.TheConstants.{CLOCK_END}
+use Rattle.pv_outside.specs.declared.link.TheConstants.{MAX_PACKET}
 use Rattle.pv_outside.specs.declared.disk.TheConstants.{KEPT_CALLS, KEPT_BYTES, MAX_UNSYNCED}
 use Rattle.pv_outside.specs.declared.failed.TheConstants.{COUNT_END}
 use Rattle.pv_outside.specs.declared.limits.TheConstants.{MAX_FRAMES, MAX_RECORDS}
@@ -31,6 +33,14 @@ most_unsynced = refl
 -- counts and clocks end where 64 bits do
 pub last_count : COUNT_END ≡ 2 ^ 64 - 1
 last_count = refl
+
+-- a clock shows no moment after the last second of 2099: with 1970 these are 130 years, of which 32 are leap years
+pub last_second : CLOCK_END ≡ (130 * 365 + 32) * 86400 - 1
+last_second = refl
+
+-- a packet has at most 2,048 bytes
+pub longest_packet : MAX_PACKET ≡ 2048
+longest_packet = refl
 
 -- the message of a bad line has its number
 pub line_two : words_of (BadLine 2) ≡ codes "line 2: not a valid command"

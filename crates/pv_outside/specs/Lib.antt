@@ -1,6 +1,10 @@
 pub mod Calls
 pub mod Counts
 pub mod Disk
+pub mod Job
+pub mod Line
+pub mod Link
 pub mod Sink
+pub mod Slots
 pub mod Source
 pub mod Status
