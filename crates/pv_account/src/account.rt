@@ -51,6 +51,13 @@ impl Account {
         digest(self.number, password) == self.digest
     }
 
+    /// The account's parts are within their ranges, by its type. This does nothing.
+    pub fn within(&self)
+        ensures { IsProfile self.now }
+    {
+        let _ = &self.number;
+    }
+
     /// Appends the account's spelling. [`NoRoom`] exactly when it does not fit; some of it may then have
     /// been appended.
     #[tactic(auto, unfolding(crate::specs::Profile::profile_bytes))]

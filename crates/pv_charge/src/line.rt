@@ -67,6 +67,13 @@ impl Model for Line {
 }
 
 impl Line {
+    /// The line's parts are within their ranges, by its type. This does nothing.
+    pub fn within(&self)
+        ensures { IsCharge self.now }
+    {
+        let _ = &self.number;
+    }
+
     /// Appends the line's spelling. [`NoRoom`] exactly when it does not fit; some of it may then have
     /// been appended.
     #[tactic(auto, unfolding(crate::specs::Line::charge_bytes))]

@@ -1,6 +1,7 @@
--- What a proof in a crate above may cite: records are read as they are spelled, and what one record more does to a list.
+-- What a proof in a crate above may cite: records are read as they are spelled, how long they are, and what one record more does to a list.
 pub use Rattle.pv_edits.proofs.Counting.{frame_count-push, account_count-push, lease_count-push}
 pub use Rattle.pv_edits.proofs.Growing.{last_of-push, has_operator}
+pub use Rattle.pv_edits.proofs.Lengths.{length-item, length-record, length-down}
 use Rattle.std.proofs.Common.{◌≡◌, ℕ, zero, suc, List, [], ◌++◌, Some, Result, Ok, Err, refl, ap, lit<, arith}
 use Rattle.std.specs.Result.{result_ok}
 use Rattle.pv_fields.specs.Reading.{Reads, ReadsLast}

@@ -5,4 +5,5 @@ mod Facts
 mod Growing
 mod LastIndex
 mod Leases
+pub mod Lengths
 mod OneSpelling

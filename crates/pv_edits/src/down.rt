@@ -18,6 +18,15 @@ pub enum DownRecord {
 pub const BLANK_TAG: u8 = 6;
 
 impl DownRecord {
+    /// The parts are within their ranges, by its type. This does nothing.
+    pub fn within(&self)
+        ensures { IsDown self.now }
+    {
+        if let DownRecord::Whole(record) = self {
+            record.within();
+        }
+    }
+
     /// Appends the spelling. [`NoRoom`] exactly when it does not fit; some of it may then have been
     /// appended.
     #[tactic(auto, unfolding(crate::specs::Down::down_bytes, crate::specs::Record::record_bytes))]

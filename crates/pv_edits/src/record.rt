@@ -1,7 +1,7 @@
 ghost use Rattle.std.specs.Prelude.{◌≡◌, IsNone, IfSome};
 ghost use Rattle.pv_fields.specs.Out.{Puts};
 ghost use Rattle.pv_fields.specs.Reading.{Gives, GivesAll, same, whole};
-ghost use Rattle.pv_edits.specs.Record.{IsRecord, record_bytes, record_at, record_after};
+ghost use Rattle.pv_edits.specs.Record.{IsEditor, IsRecord, record_bytes, record_at, record_after};
 
 use crate::parts::{
     put_account, put_drop, put_frame, put_lease, read_account, read_drop, read_lease, read_put,
@@ -60,6 +60,42 @@ pub enum Record {
 }
 
 impl Record {
+    /// The record's parts are within their ranges, by its type. This does nothing.
+    pub fn within(&self)
+        ensures { IsRecord self.now }
+    {
+        match self {
+            Record::Put {
+                editor,
+                q,
+                name,
+                frame,
+            } => {
+                within_editor(*editor, *q);
+                name.within();
+                frame.within();
+            }
+            Record::Drop { editor, q, name } => {
+                within_editor(*editor, *q);
+                name.within();
+            }
+            Record::Account { editor, q, account } => {
+                within_editor(*editor, *q);
+                account.within();
+            }
+            Record::Lease {
+                editor,
+                q,
+                root,
+                account,
+            } => {
+                within_editor(*editor, *q);
+                let _numbers = (root.number(), account.number());
+            }
+            Record::Taken(taken) => taken.within(),
+        }
+    }
+
     /// Appends the record's spelling. [`NoRoom`] exactly when it does not fit; some of it may then have
     /// been appended.
     #[tactic(auto, unfolding(crate::specs::Record::record_bytes))]
@@ -125,6 +161,13 @@ impl Record {
             _ => Err(NoSpelling),
         }
     }
+}
+
+/// An editor and the number of his edit are within their ranges, by their types.
+fn within_editor(editor: AccountNo, _q: u32)
+    ensures { IsEditor editor _q }
+{
+    let _number = editor.number();
 }
 
 /// The record that the bytes spell, all of the bytes.

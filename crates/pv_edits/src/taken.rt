@@ -1,6 +1,6 @@
 ghost use Rattle.pv_fields.specs.Out.{Puts};
 ghost use Rattle.pv_fields.specs.Reading.{Gives, same};
-ghost use Rattle.pv_edits.specs.Taken.{taken_bytes, taken_at};
+ghost use Rattle.pv_edits.specs.Taken.{IsTaken, taken_bytes, taken_at};
 
 use pv_account::LAST_CENTRE;
 use pv_fields::{In, NoRoom, NoSpelling, Out};
@@ -31,6 +31,14 @@ impl Model for Taken {
 }
 
 impl Taken {
+    /// The parts are within their ranges, by its type. This does nothing.
+    pub fn within(&self)
+        ensures { IsTaken self.now }
+    {
+        let _number = self.k;
+        self.item.within();
+    }
+
     /// Appends the spelling of what was taken up. [`NoRoom`] exactly when it does not fit.
     #[tactic(auto, unfolding(crate::specs::Taken::taken_bytes))]
     pub fn put(&self, out: &mut Out) -> Result<(), NoRoom>

@@ -66,6 +66,13 @@ impl CheckedFrame {
         Ok(CheckedFrame { frame })
     }
 
+    /// The frame has a spelling, by its type. This does nothing.
+    pub fn within(&self)
+        ensures { HasSpelling self.now }
+    {
+        self.frame.within();
+    }
+
     /// The frame.
     pub fn frame(&self) -> &Frame
         ensures value { result.now ≡ self.now }

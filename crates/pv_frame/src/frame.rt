@@ -114,6 +114,13 @@ impl Frame {
         self.body[at..at + ROW_LENGTH].copy_from_slice(cells);
     }
 
+    /// The frame's parts are within their ranges, by its type. This does nothing.
+    pub fn within(&self)
+        ensures { IsFrame self.now }
+    {
+        let _ = &self.count;
+    }
+
     /// Whether the frame is valid. The error is the first that applies, in the order of
     /// [`FrameError`].
     pub fn check(&self) -> Result<(), FrameError>

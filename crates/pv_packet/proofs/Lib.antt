@@ -1,3 +1,4 @@
 mod Facts
 mod OneSpelling
+mod Readings
 mod Refusals

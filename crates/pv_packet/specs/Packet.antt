@@ -19,6 +19,13 @@ pub record IsNumbered (centre number : ℕ) : Type 0 where
   pub known : IsCentre centre
   pub wide : number < 2 ^ 64
 
+-- the centre that it goes to or comes from
+abbrev pub centre_of : Packet → ℕ
+centre_of (Down centre number rec) = centre
+centre_of (Up centre number item) = centre
+centre_of (DownHeard centre number) = centre
+centre_of (UpHeard centre number) = centre
+
 -- each part of the packet is within its range
 abbrev pub IsPacket : Packet → Type 0
 IsPacket (Down centre number rec) = IsNumbered centre number × IsDown rec

@@ -11,6 +11,9 @@ use pv_fields::{In, NoRoom, Out};
 /// How many bytes a packet's head has: its kind, its centre, and its number in eight.
 pub const HEAD_BYTES: usize = 10;
 
+/// How many bytes a packet has at most: the longest record goes down in as many.
+pub const PACKET_BYTES: usize = 1010;
+
 /// The greatest kind. Kinds are counted from 1.
 pub const LAST_KIND: u8 = 4;
 

@@ -15,7 +15,7 @@
 //! ```
 //!
 //! Contracts see a packet as its parts. `specs/Packet.antt` has its spelling, and which error is reported
-//! of bytes that spell none.
+//! of bytes that spell none; `specs/Reading.antt`, which packet they spell.
 #![tactic(auto)]
 
 mod error;
@@ -24,8 +24,8 @@ mod law;
 mod packet;
 
 pub use error::PacketError;
-pub use head::{HEAD_BYTES, LAST_KIND};
-pub use law::no_packet_begins_another;
+pub use head::{HEAD_BYTES, LAST_KIND, PACKET_BYTES};
+pub use law::{a_packet_is_read_as_it_is_spelled, no_packet_begins_another};
 pub use packet::Packet;
 
 #[cfg(test)]

@@ -1,7 +1,8 @@
 ghost use Rattle.std.specs.Prelude.{◌≡◌, IsErr, IsNone, IfOk, IfErr, IfSome};
 ghost use Rattle.pv_fields.specs.Out.{Puts};
 ghost use Rattle.pv_post.specs.Spelling.{IsItem, item_bytes};
-ghost use Rattle.pv_packet.specs.Packet.{IsPacket, packet_bytes, Refuses};
+ghost use Rattle.pv_edits.specs.Taken.{IsCentre};
+ghost use Rattle.pv_packet.specs.Packet.{centre_of, IsPacket, packet_bytes, Refuses};
 
 use crate::error::PacketError;
 use crate::head::{put_head, read_head};
@@ -51,6 +52,25 @@ pub enum Packet {
 }
 
 impl Packet {
+    /// The packet's parts are within their ranges, by their types, if its centre is. This does nothing.
+    pub fn within(&self)
+        ensures { IsCentre (centre_of self.now) → IsPacket self.now }
+    {
+        match self {
+            Packet::Down { number, rec, .. } => {
+                let _number = *number;
+                rec.within();
+            }
+            Packet::Up { number, item, .. } => {
+                let _number = *number;
+                item.within();
+            }
+            Packet::DownHeard { number, .. } | Packet::UpHeard { number, .. } => {
+                let _number = *number;
+            }
+        }
+    }
+
     /// Appends the packet's spelling. [`NoRoom`] exactly when it does not fit; some of it may then have
     /// been appended. What is written of a centre over the last one, `decode` refuses.
     #[tactic(auto, unfolding(crate::specs::Packet::packet_bytes))]

@@ -68,6 +68,13 @@ impl FrameName {
         out.written()
     }
 
+    /// The name's parts are within their ranges, by its type. This does nothing.
+    pub fn within(&self)
+        ensures { IsName self.now }
+    {
+        let _ = &self.page;
+    }
+
     /// The name of the page's next frame. `None` exactly after the letter `z`.
     pub fn next_letter(&self) -> Option<FrameName>
         ensures missing { IsNone result ↔ (self.now.letter ≡ LAST_LETTER) }

@@ -20,6 +20,17 @@ pub enum Item {
 }
 
 impl Item {
+    /// The item's parts are within their ranges, by its type. This does nothing.
+    pub fn within(&self)
+        ensures { IsItem self.now }
+    {
+        match self {
+            Item::Charge(line) => line.within(),
+            Item::Reply(reply) => reply.within(),
+            Item::Mail(mail) => mail.within(),
+        }
+    }
+
     /// Appends the item's spelling. [`NoRoom`] exactly when it does not fit; some of it may then have
     /// been appended.
     #[tactic(auto, unfolding(crate::specs::Spelling::item_bytes))]

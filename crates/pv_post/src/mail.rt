@@ -2,7 +2,7 @@ ghost use Rattle.std.specs.Prelude.{◌≡◌};
 ghost use Rattle.std.specs.List.{list_all};
 ghost use Rattle.pv_fields.specs.Out.{Puts};
 ghost use Rattle.pv_fields.specs.Reading.{Gives, same};
-ghost use Rattle.pv_post.specs.Item.{is_text_cell, message_bytes, message_at};
+ghost use Rattle.pv_post.specs.Item.{IsMessage, is_text_cell, message_bytes, message_at};
 
 use pv_charge::LAST_MOMENT;
 use pv_fields::{In, NoRoom, NoSpelling, Out};
@@ -45,6 +45,13 @@ impl Model for Mail {
 }
 
 impl Mail {
+    /// The letter's parts are within their ranges, by its type. This does nothing.
+    pub fn within(&self)
+        ensures { IsMessage self.now }
+    {
+        let _ = &self.moment;
+    }
+
     /// Appends the letter's spelling. [`NoRoom`] exactly when it does not fit.
     #[tactic(auto, unfolding(crate::specs::Item::message_bytes))]
     pub fn put(&self, out: &mut Out) -> Result<(), NoRoom>

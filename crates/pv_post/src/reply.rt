@@ -1,6 +1,6 @@
 ghost use Rattle.pv_fields.specs.Out.{Puts};
 ghost use Rattle.pv_fields.specs.Reading.{Gives, same};
-ghost use Rattle.pv_post.specs.Item.{response_bytes, response_at};
+ghost use Rattle.pv_post.specs.Item.{IsResponse, response_bytes, response_at};
 
 use crate::fields::Fields;
 use pv_charge::LAST_MOMENT;
@@ -40,6 +40,13 @@ impl Model for Reply {
 }
 
 impl Reply {
+    /// The reply's parts are within their ranges, by its type. This does nothing.
+    pub fn within(&self)
+        ensures { IsResponse self.now }
+    {
+        let _ = &self.moment;
+    }
+
     /// Appends the reply's spelling. [`NoRoom`] exactly when it does not fit.
     #[tactic(auto, unfolding(crate::specs::Item::response_bytes))]
     pub fn put(&self, out: &mut Out) -> Result<(), NoRoom>
