@@ -8,14 +8,14 @@ use Rattle.pv_post.specs.declared.letter.TheConstants.{MAX_WAITING}
 use Rattle.pv_post.specs.declared.mail.TheConstants.{TEXT_CELLS}
 
 -- a letter that waits: its number, from whom, when, and its text
-pub record Waiting : Type 0 where
+pub record WaitingLetter : Type 0 where
   pub number : ℕ
   pub sender : ℕ
   pub moment : ℕ
   pub text : List ℕ
 
 -- each part is within its range
-pub record IsWaiting (letter : Waiting) : Type 0 where
+pub record IsWaitingLetter (letter : WaitingLetter) : Type 0 where
   pub number : letter.number < 2 ^ 64
   pub sender : IsAccount letter.sender
   pub moment : letter.moment ≤ LAST_MOMENT
@@ -25,15 +25,15 @@ pub record IsWaiting (letter : Waiting) : Type 0 where
 -- ---- the letters of one account
 
 -- the letters after one more arrives: it goes last, or is dropped if as many wait as may
-abbrev pub with_letter : List Waiting → Waiting → List Waiting
+abbrev pub with_letter : List WaitingLetter → WaitingLetter → List WaitingLetter
 with_letter letters letter = if nat_lt (length letters) MAX_WAITING then letters ++ letter ∷ [] else letters
 
 -- a letter of this number waits
-abbrev pub has_letter : List Waiting → ℕ → Bool
+abbrev pub has_letter : List WaitingLetter → ℕ → Bool
 has_letter letters number = list_any (λ letter. letter.number == number) letters
 
 -- the letters without those of this number
-abbrev pub without_letter : List Waiting → ℕ → List Waiting
+abbrev pub without_letter : List WaitingLetter → ℕ → List WaitingLetter
 without_letter letters number = filter (λ letter. not (letter.number == number)) letters
 
 -- ---- the letters of all accounts
@@ -42,14 +42,14 @@ without_letter letters number = filter (λ letter. not (letter.number == number)
 pub record Boxes : Type 0 where
   pub room : ℕ
   pub owners : List ℕ
-  pub boxes : List (List Waiting)
+  pub boxes : List (List WaitingLetter)
 
 -- no account has a box
 abbrev pub no_boxes : ℕ → Boxes
 no_boxes room = record { room = room; owners = []; boxes = replicate room [] }
 
 -- the letters that wait for an account: those of the box at its index. After the last index nothing waits.
-abbrev pub letters_of : Boxes → ℕ → List Waiting
+abbrev pub letters_of : Boxes → ℕ → List WaitingLetter
 letters_of mail account = slice_index_or mail.boxes (position_or_len (λ owner. account == owner) mail.owners) []
 
 -- the account has a box

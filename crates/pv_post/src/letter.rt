@@ -24,16 +24,21 @@ pub struct Letter {
 }
 
 impl Model for Letter {
-    ghost use Rattle.pv_post.specs.Boxes.{Waiting, IsWaiting};
+    ghost use Rattle.pv_post.specs.Boxes.{WaitingLetter, IsWaitingLetter};
 
-    ghost Value = { Waiting };
+    ghost Value = { WaitingLetter };
 
     ghost view = { λ l. record { number = l.number; sender = l.sender; moment = l.moment; text = l.text } };
 
-    ghost invariant = { λ l. IsWaiting
+    ghost invariant = { λ l. IsWaitingLetter
         (record { number = l.number; sender = l.sender; moment = l.moment; text = l.text }) };
 
-    ghost inverse = { λ w. record { number = w.number; sender = w.sender; moment = w.moment; text = w.text } };
+    ghost inverse = { λ w. record {
+      number = w.number;
+      sender = w.sender;
+      moment = w.moment;
+      text = w.text;
+    } };
 }
 
 impl Letter {
@@ -65,13 +70,14 @@ impl Model for Mailbox {
     ghost use Rattle.std.specs.Prelude.{◌≤◌, List, length};
     ghost use Rattle.std.specs.Vec.{vec_capacity};
     ghost use Rattle.pv_post.specs.declared.letter.TheConstants.{MAX_WAITING};
-    ghost use Rattle.pv_post.specs.Boxes.{Waiting};
+    ghost use Rattle.pv_post.specs.Boxes.{WaitingLetter};
 
-    ghost Value = { List Waiting };
+    ghost Value = { List WaitingLetter };
 
     ghost view = { λ m. m.letters.items };
 
-    ghost invariant = { λ m. (MAX_WAITING ≤ vec_capacity m.letters) × (length m.letters.items ≤ MAX_WAITING) };
+    ghost invariant = { λ m. (MAX_WAITING ≤ vec_capacity m.letters)
+        × (length m.letters.items ≤ MAX_WAITING) };
 }
 
 impl Mailbox {

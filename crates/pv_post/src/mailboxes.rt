@@ -86,7 +86,8 @@ fn index_for(owners: &mut IndexSet<AccountNo>, to: AccountNo) -> usize
     ensures index { result ≡ position_or_len (nat_eq to) owners.old.keys }
     ensures owners { owners.new.keys ≡ insert_key nat_eq owners.old.keys to }
     ensures within { result < length owners.new.keys }
-    ensures reserved { index_set_len owners.old + spare owners.old ≤ index_set_len owners.new + spare owners.new }
+    ensures reserved { index_set_len owners.old + spare owners.old
+        ≤ index_set_len owners.new + spare owners.new }
 {
     match owners.get_index_of(&to) {
         Some(index) => index,
