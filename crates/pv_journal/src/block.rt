@@ -1,5 +1,6 @@
 ghost use Rattle.std.specs.Prelude.{◌≡◌, ℕ, ◌+◌, ◌≤◌};
 ghost use Rattle.pv_journal.specs.Block.{BeginsWith};
+ghost use Rattle.pv_journal.specs.Log.{longest};
 
 /// The first eight bytes of a formatted disk.
 pub const MARK: [u8; MARK_SIZE] = [b'P', b'V', b'J', b'O', b'U', b'R', b'N', b'1'];
@@ -18,6 +19,13 @@ pub(crate) const EMPTY_SIZE: usize = 9;
 
 /// How many bytes the longest block has.
 pub(crate) const MAX_BLOCK: usize = MAX_BODY + HEAD_SIZE;
+
+/// How many bytes a journal of so many bodies has at most.
+pub fn longest(bodies: u32) -> u64
+    ensures { result ≡ longest bodies }
+{
+    EMPTY_SIZE as u64 + MAX_BLOCK as u64 * bodies as u64
+}
 
 /// What comes after the bodies that were read.
 #[derive(Clone, Copy, Debug, PartialEq, Eq)]

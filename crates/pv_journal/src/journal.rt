@@ -266,6 +266,13 @@ impl<D: Disk> Journal<D> {
         self.count
     }
 
+    /// The disk, to look at.
+    pub fn disk(&self) -> &D
+        ensures { result.now ≡ self.now.disk }
+    {
+        &self.disk
+    }
+
     /// The disk.
     pub fn into_disk(self) -> D
         ensures { result ≡ self.disk }

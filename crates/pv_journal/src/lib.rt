@@ -29,7 +29,7 @@ mod law;
 mod opening;
 mod storing;
 
-pub use block::{MARK, MAX_BODY};
+pub use block::{MARK, MAX_BODY, longest};
 pub use fault::{AppendFault, OpenFault};
 pub use formatting::format;
 pub use journal::Journal;

@@ -90,6 +90,24 @@ impl MemDisk {
         self.left = None;
     }
 
+    /// A new disk of the same room that holds the image of this number, as [`MemDisk::crash`] would leave it,
+    /// and of which no call fails. This disk stays as it is. All memory is taken here.
+    pub fn image(&self, alloc: Global, image: u8) -> Result<MemDisk, AllocError>
+        ensures image { IfOk result (λ disk. disk.text ≡ image_of self.now image) }
+        ensures left { IfOk result (λ disk. IsImage (moment_of self.now) disk.text) }
+        ensures fresh { IfOk result (λ disk. disk ≡ record (new_disk self.now.room []) {
+          text = disk.text;
+          synced = disk.text;
+        }) }
+    {
+        let mut disk = MemDisk::new(alloc, self.room as u64, &[])?;
+        disk.text.extend_from_slice(&self.text).unwrap();
+        disk.synced.extend_from_slice(&self.synced).unwrap();
+        disk.pending.extend_from_slice(&self.pending).unwrap();
+        disk.crash(image);
+        Ok(disk)
+    }
+
     /// Counts a call, which fails if it is named to, if it is refused, or if no further one passes.
     fn begin(&mut self, is_refused: bool) -> Result<(), Failed>
         ensures ok { OnOk result (self.new ≡ disk_after_count self.old) }

@@ -261,6 +261,13 @@ impl<R: Rules, D: Disk> Node<R, D> {
         self.journal.count()
     }
 
+    /// The disk, to look at.
+    pub fn disk(&self) -> &D
+        ensures { result.now ≡ self.now.journal.disk }
+    {
+        self.journal.disk()
+    }
+
     /// The disk.
     pub fn into_disk(self) -> D
         ensures disk { result ≡ self.journal.disk }
