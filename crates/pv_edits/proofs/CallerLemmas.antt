@@ -2,6 +2,7 @@
 pub use Rattle.pv_edits.proofs.Counting.{frame_count-push, account_count-push, lease_count-push}
 pub use Rattle.pv_edits.proofs.Growing.{last_of-push, has_operator}
 pub use Rattle.pv_edits.proofs.Lengths.{length-item, length-record, length-down}
+pub use Rattle.pv_edits.proofs.LastRecord.{last_record-push, has_last-push}
 use Rattle.std.proofs.Common.{◌≡◌, ℕ, zero, suc, List, [], ◌++◌, Some, Result, Ok, Err, refl, ap, lit<, arith}
 use Rattle.std.specs.Result.{result_ok}
 use Rattle.pv_fields.specs.Reading.{Reads, ReadsLast}

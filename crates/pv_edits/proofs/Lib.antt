@@ -4,6 +4,7 @@ mod Counting
 mod Facts
 mod Growing
 mod LastIndex
+mod LastRecord
 mod Leases
 pub mod Lengths
 mod OneSpelling

@@ -1,0 +1,4 @@
+mod Asked
+pub mod Below
+mod Opened
+mod Spelled
