@@ -33,15 +33,20 @@ fn reply_to(state: &IrcState, n: u64, rec: DownRecord) -> (IrcReply, bool) {
     }
 }
 
+/// The reply to nothing but the place of a record.
+fn blank_at(state: &IrcState, n: u64) -> (IrcReply, bool) {
+    reply_to(state, n, DownRecord::Blank)
+}
+
 #[test]
 fn only_the_next_record_is_applied(rt: HostRuntime) -> Result<(), Fail> {
     let mut state = IrcState::open(rt.alloc(), 2, SMALL)?;
-    let blank = DownRecord::Blank;
-    assert_eq!(rt; reply_to(&state, 1, blank), (IrcReply::Early(0), false));
-    assert_eq!(rt; reply_to(&state, 0, blank), (IrcReply::Applied, true));
-    state.absorb(&CentreRecord::Applied { n: 0, rec: blank });
-    assert_eq!(rt; reply_to(&state, 0, blank), (IrcReply::Old(1), false));
-    assert_eq!(rt; reply_to(&state, 1, blank), (IrcReply::Applied, true));
+    assert_eq!(rt; blank_at(&state, 1), (IrcReply::Early(0), false));
+    assert_eq!(rt; blank_at(&state, 0), (IrcReply::Applied, true));
+    let rec = DownRecord::Blank;
+    state.absorb(&CentreRecord::Applied { n: 0, rec });
+    assert_eq!(rt; blank_at(&state, 0), (IrcReply::Old(1), false));
+    assert_eq!(rt; blank_at(&state, 1), (IrcReply::Applied, true));
     Ok(())
 }
 
