@@ -1,4 +1,5 @@
-ghost use Rattle.std.specs.Prelude.{◌≡◌, ◌≤◌, take, IsTrue};
+ghost use Rattle.std.specs.Prelude.{◌≡◌, ◌≤◌, ◌<◌, ◌↔◌, length, take, IsTrue, IsOk, IsErr, OnOk, OnErr};
+ghost use Rattle.pv_fields.specs.Out.{room_of, Appends};
 ghost use Rattle.pv_irc.specs.Record.{IsCentreRecord, centre_bytes};
 ghost use Rattle.pv_irc.specs.History.{centre_state_of, state_count, with_centre_record};
 ghost use Rattle.pv_irc.specs.Deciding.{IsCentreRequest, centre_has_room, centre_judgement};
@@ -86,14 +87,37 @@ impl<const C: u8> Rules for IrcRules<C> {
     }
 
     fn encode(rec: &CentreRecord, out: &mut Out) -> Result<(), NoRoom> {
-        let mut body = [0; MAX_BODY];
-        let size = spell(rec, &mut body);
-        out.run(&body[..size])
+        if out.room() < MAX_BODY {
+            return encode_apart(rec, out);
+        }
+        encode_straight(rec, out)
     }
 
     fn decode(bytes: &[u8]) -> Option<CentreRecord> {
         CentreRecord::decode(bytes)
     }
+}
+
+/// Appends the spelling of a record where there is room for any.
+fn encode_straight(rec: &CentreRecord, out: &mut Out) -> Result<(), NoRoom>
+    requires within { IsCentreRecord rec.now }
+    requires room { MAX_BODY ≤ room_of out.old }
+    ensures ok { IsOk result }
+    ensures appends { Appends out.old out.new (centre_bytes rec.now) }
+{
+    rec.encode(out)
+}
+
+/// Appends the spelling of a record, or nothing if it does not fit: it is spelled apart first.
+fn encode_apart(rec: &CentreRecord, out: &mut Out) -> Result<(), NoRoom>
+    requires within { IsCentreRecord rec.now }
+    ensures ok { OnOk result (Appends out.old out.new (centre_bytes rec.now)) }
+    ensures refused { IsErr result ↔ (room_of out.old < length (centre_bytes rec.now)) }
+    ensures err { OnErr result (out.new ≡ out.old) }
+{
+    let mut body = [0; MAX_BODY];
+    let size = spell(rec, &mut body);
+    out.run(&body[..size])
 }
 
 /// Puts the spelling of a record at the beginning, and returns how many bytes it has.

@@ -1,16 +1,19 @@
 -- A carry after which nothing is left to send has brought the centre every record.
 use Rattle.std.proofs.Common.{◌≡◌, ℕ, zero, suc, ◌+◌, ◌≤◌, Bool, true, false, cond, ◌&&◌, leb, ltb, length, Option, Some, None, refl, arith}
 use Rattle.std.specs.Prelude.{slice_get}
-use Rattle.std.proofs.lemmas.Bool.{leb-true}
+use Rattle.std.proofs.lemmas.Bool.{ltb-false}
 use Rattle.pv_edits.specs.declared.record.Record.{Record}
 use Rattle.pv_network.specs.declared.centre.Arrival.{Arrival}
 use Rattle.pv_network.specs.declared.centre.Arrival.TheVariants as arrivals
 use Rattle.pv_network.specs.declared.outcome.Outcome.{Outcome}
 use Rattle.pv_network.specs.declared.outcome.Outcome.TheVariants as outcomes
-use Rattle.pv_network.specs.declared.packet.Packet.{Packet}
+use Rattle.pv_packet.specs.declared.packet.Packet.{Packet}
+use Rattle.pv_network.specs.declared.delivery.Delivery.{Delivery}
+use Rattle.pv_link.specs.Sending.{SendingEnd, number_in_turn, number_to_give}
+use Rattle.pv_fields.specs.Reading.{◌>>=◌}
 use Rattle.pv_network.specs.declared.round.Round.{Round}
 use Rattle.pv_network.specs.declared.round.Round.TheVariants as rounds
-use Rattle.pv_network.specs.Link.{End, is_packets_full, number_to_send}
+use Rattle.pv_network.specs.Link.{is_packets_full, delivery_of}
 use Rattle.pv_network.specs.Sound.{IsSound}
 use Rattle.pv_network.specs.Traffic.{packet_in, round_by, round_of_send, round_of_number, step_of_round, after_round, carry_rounds, step_of_packing, step_of_number, step_of_send, step_of_arrival, step_of_packet, step_of_deliver}
 use Rattle.pv_network.specs.World.{World, centre_at, link_at}
@@ -21,14 +24,13 @@ abbrev HasAll : World → ℕ → Type 0
 HasAll w c = (centre_at w c).applied ≡ length w.update.records
 
 -- an end that has nothing to send of some records heard of all of them
-none_left : (end : End) (count : ℕ) → number_to_send end count ≡ None → count ≤ end.acknowledged
-none_left end count = by (leb count end.acknowledged) refl
+none_left : (end : SendingEnd) (count : ℕ) → number_to_give end count ≡ None → count ≤ end.acknowledged
+none_left end count = by (ltb end.acknowledged count) refl
   where
-    by : (all : Bool) → leb count end.acknowledged ≡ all
-        → cond all None (Some (cond (leb end.acknowledged end.next && ltb end.next count) end.next end.acknowledged)) ≡ None
+    by : (some : Bool) → ltb end.acknowledged count ≡ some → cond some (Some (number_in_turn end count)) None ≡ None
         → count ≤ end.acknowledged
-    by true is none = leb-true count end.acknowledged is
-    by false is none = absurd cc
+    by true is none = absurd cc
+    by false is none = ltb-false end.acknowledged count is
 
 -- what a delivery came to is no idle round, and stops one only as what it is
 never_idle : (o : Outcome) → round_by o ≡ rounds.Idle → ⊥
@@ -101,14 +103,14 @@ module _ (w : World) (c records items : ℕ) where
       numbered (Some number) is = pack number (slice_get w.update.records number) is
 
       full : (b : Bool)
-          → (cond b (w, outcomes.PacketsFull) (step_of_number w c (number_to_send (link_at w c).sending (length w.update.records)))).1
+          → (cond b (w, outcomes.PacketsFull) (step_of_number w c (number_to_give (link_at w c).sending (length w.update.records)))).1
           ≡ outcomes.Carried records items → ⊥
       full true is = cc
-      full false is = numbered (number_to_send (link_at w c).sending (length w.update.records)) is
+      full false is = numbered (number_to_give (link_at w c).sending (length w.update.records)) is
 
   -- a delivery is no carry
   delivery_is_none : (index : ℕ) → (step_of_deliver w c index).1 ≡ outcomes.Carried records items → ⊥
-  delivery_is_none index = arrives (slice_get (link_at w c).down index)
+  delivery_is_none index = arrives (slice_get (link_at w c).down index >>= delivery_of)
     where
       by : (number : ℕ) (arrival : Arrival) → (step_of_arrival w c number arrival).1 ≡ outcomes.Carried records items → ⊥
       by number arrivals.Taken is = cc
@@ -116,20 +118,20 @@ module _ (w : World) (c records items : ℕ) where
       by number arrivals.Early is = cc
       by number arrivals.Full is = cc
 
-      arrives : (found : Option Packet) → (step_of_packet w c found).1 ≡ outcomes.Carried records items → ⊥
+      arrives : (found : Option Delivery) → (step_of_packet w c found).1 ≡ outcomes.Carried records items → ⊥
       arrives None is = cc
-      arrives (Some packet) is = by packet.number _ is
+      arrives (Some delivery) is = by delivery.number _ is
 
 module _ (w : World) (c : ℕ) where
   -- a round after which nothing is left to send has found the centre with every record
   idle_has_all : IsSound w → (step_of_round w c).1 ≡ rounds.Idle → HasAll (step_of_round w c).0 c
-  idle_has_all sound = numbered (number_to_send (link_at w c).sending (length w.update.records)) refl
+  idle_has_all sound = numbered (number_to_give (link_at w c).sending (length w.update.records)) refl
     where
       sent : (v : World) (outcome : Outcome) (packet : Option ℕ) → (round_of_send v c outcome packet).1 ≡ rounds.Idle → ⊥
       sent v outcome None is = cc
       sent v outcome (Some index) is = never_idle (step_of_deliver v c index).1 is
 
-      numbered : (number : Option ℕ) → number_to_send (link_at w c).sending (length w.update.records) ≡ number
+      numbered : (number : Option ℕ) → number_to_give (link_at w c).sending (length w.update.records) ≡ number
           → (round_of_number w c number).1 ≡ rounds.Idle → HasAll (round_of_number w c number).0 c
       numbered None none is =
           omega (arith, none_left (link_at w c).sending (length w.update.records) none, (sound.links c).heard, sound.law.prefixes c)
@@ -137,7 +139,7 @@ module _ (w : World) (c : ℕ) where
 
   -- no round stops as a carry
   round_is_none : (records items : ℕ) → (step_of_round w c).1 ≡ rounds.Stopped (outcomes.Carried records items) → ⊥
-  round_is_none records items = numbered (number_to_send (link_at w c).sending (length w.update.records))
+  round_is_none records items = numbered (number_to_give (link_at w c).sending (length w.update.records))
     where
       sent : (packet : Option ℕ)
           → (round_of_send (step_of_send w c).0 c (step_of_send w c).1 packet).1 ≡ rounds.Stopped (outcomes.Carried records items) → ⊥

@@ -9,11 +9,15 @@ use Rattle.pv_network.specs.declared.centre.Arrival.{Arrival}
 use Rattle.pv_network.specs.declared.centre.Arrival.TheVariants as arrivals
 use Rattle.pv_network.specs.declared.outcome.Outcome.{Outcome}
 use Rattle.pv_network.specs.declared.outcome.Outcome.TheVariants as outcomes
-use Rattle.pv_network.specs.declared.packet.Packet.{Packet}
-use Rattle.pv_network.specs.declared.packet.TheConstants.{MAX_PACKETS}
+use Rattle.pv_packet.specs.declared.packet.Packet.{Packet}
+use Rattle.pv_packet.specs.declared.packet.Packet.TheVariants.{DownHeard}
+use Rattle.pv_link.specs.Sending.{number_to_give}
+use Rattle.pv_fields.specs.Reading.{◌>>=◌}
+use Rattle.pv_network.specs.declared.delivery.Delivery.{Delivery}
+use Rattle.pv_network.specs.declared.packets.TheConstants.{MAX_PACKETS}
 use Rattle.pv_network.specs.declared.round.Round.{Round}
 use Rattle.pv_network.specs.declared.round.Round.TheVariants as rounds
-use Rattle.pv_network.specs.Link.{Link, new_link, is_packets_full, packet_count, number_to_send, with_packet, heard_link}
+use Rattle.pv_network.specs.Link.{Link, new_link, is_packets_full, packet_count, packet_of, with_packet, delivery_of, heard_count, heard_link}
 use Rattle.pv_network.specs.Standing.{State, StandsFor, Performs}
 use Rattle.pv_network.specs.Traffic.{GoesOn, round_of_send, round_of_number, ack_in, packet_in, packet_room, with_ack_back, round_of_packet, step_of_round, after_round, carry_rounds, step_of_carry, step_of_packing, step_of_number, step_of_send, step_of_acknowledging, with_next_at, step_of_arrival, step_of_packet, step_of_deliver, step_of_heard, step_of_back}
 use Rattle.pv_network.specs.World.{World, centre_at, link_at, with_link}
@@ -52,11 +56,11 @@ module _ (w : World) (c : ℕ) (there : c < length w.links) where
   -- an acknowledgement is made, or none can be
   grows_acknowledged : Grows w (step_of_acknowledging w c).0
   grows_acknowledged = choice (Grows w) (is_packets_full w.links) _ _ (λ _. stays)
-      (λ _. grows_link _ (omega (arith, length-append (link_at w c).up ((centre_at w c).applied ∷ []))))
+      (λ _. grows_link _ (omega (arith, length-append (link_at w c).up (DownHeard c (centre_at w c).applied ∷ []))))
 
   -- an acknowledgement arrives
   grows_back : (index : ℕ) → Grows w (step_of_back w c index).0
-  grows_back index = by (slice_get (link_at w c).up index)
+  grows_back index = by (slice_get (link_at w c).up index >>= heard_count)
     where
       by : (found : Option ℕ) → Grows w (step_of_heard w c found).0
       by None = stays
@@ -73,9 +77,8 @@ module _ (w : World) (c : ℕ) (there : c < length w.links) where
           × (length (step_of_packing w c number found).0.links ≡ length w.links)
       pack number None none = absurd cc
       pack number (Some edit) some =
-          let link = with_packet (link_at w c) number edit in
-          let packet : Packet = record { number = number; edit = edit } in (
-            omega (arith, count_set link, length-append (link_at w c).down (packet ∷ [])),
+          let link = with_packet (link_at w c) (length w.update.records) (packet_of c number edit) in (
+            omega (arith, count_set link, length-append (link_at w c).down (packet_of c number edit ∷ [])),
             length-set w.links c link,
           )
 
@@ -86,19 +89,19 @@ module _ (w : World) (c : ℕ) (there : c < length w.links) where
       numbered (Some number) some = pack number (slice_get w.update.records number) some
 
       full : (b : Bool) → is_packets_full w.links ≡ b
-          → (let step = cond b (w, outcomes.PacketsFull) (step_of_number w c (number_to_send (link_at w c).sending (length w.update.records))) in
+          → (let step = cond b (w, outcomes.PacketsFull) (step_of_number w c (number_to_give (link_at w c).sending (length w.update.records))) in
           packet_in step.1 ≡ Some index → (packet_count w.links < MAX_PACKETS) × (packet_count step.0.links ≡ packet_count w.links + 1)
           × (length step.0.links ≡ length w.links))
       full true is none = absurd cc
       full false is some =
           let room = leb-false 20000 (packet_count w.links) is in
-          let next = numbered (number_to_send (link_at w c).sending (length w.update.records)) some in
+          let next = numbered (number_to_give (link_at w c).sending (length w.update.records)) some in
           (omega (arith, room), next.0, next.1)
 
 module _ (w : World) (c : ℕ) (there : c < length w.links) where
   -- a packet arrives
   grows_delivered : (index : ℕ) → Grows w (step_of_deliver w c index).0
-  grows_delivered index = arrives (slice_get (link_at w c).down index)
+  grows_delivered index = arrives (slice_get (link_at w c).down index >>= delivery_of)
     where
       next : Grows w (step_of_acknowledging (with_next_at w c) c).0
       next = let more = grows_acknowledged (with_next_at w c) c there in record { links = more.links; packets = more.packets }
@@ -109,9 +112,9 @@ module _ (w : World) (c : ℕ) (there : c < length w.links) where
       by number arrivals.Early = grows_acknowledged w c there
       by number arrivals.Full = stays w c there
 
-      arrives : (found : Option Packet) → Grows w (step_of_packet w c found).0
+      arrives : (found : Option Delivery) → Grows w (step_of_packet w c found).0
       arrives None = stays w c there
-      arrives (Some packet) = by packet.number _
+      arrives (Some delivery) = by delivery.number _
 
   -- an acknowledgement is taken back, if one was made
   grows_taken_back : (ack : Option ℕ) → Grows w (with_ack_back w c ack)
@@ -139,7 +142,7 @@ module _ (w : World) (c : ℕ) (there : c < length w.links) where
   -- a round before which another comes leaves less room for packets, and as many links
   round_takes_room : GoesOn (step_of_round w c).1
       → (packet_room (step_of_round w c).0.links < packet_room w.links) × (length (step_of_round w c).0.links ≡ length w.links)
-  round_takes_room = numbered (number_to_send (link_at w c).sending (length w.update.records))
+  round_takes_room = numbered (number_to_give (link_at w c).sending (length w.update.records))
     where
       sent : (packet : Option ℕ) → packet_in (step_of_send w c).1 ≡ packet
           → GoesOn (round_of_send (step_of_send w c).0 c (step_of_send w c).1 packet).1

@@ -17,7 +17,7 @@ use Rattle.pv_session.specs.Messages.{screen_of_blank}
 use Rattle.pv_network.specs.Call.{first_call, serial_of}
 use Rattle.pv_network.specs.Calls.{no_calls, call_in, dial_at, with_log_on, store_at}
 use Rattle.pv_network.specs.Centre.{arrival_of}
-use Rattle.pv_network.specs.Link.{number_to_send}
+use Rattle.pv_link.specs.Sending.{number_to_give}
 use Rattle.pv_network.specs.Traffic.{carry_rounds, step_of_carry, step_of_send}
 use Rattle.pv_network.specs.Verdict.{verdict_by}
 use Rattle.pv_network.specs.World.{start}
@@ -31,9 +31,9 @@ arrivals = (refl, refl, refl, refl, refl)
 
 -- An end sends in turn, begins again after the last record with the first that is not acknowledged, and sends nothing if all
 -- are acknowledged.
-pub turns : (number_to_send (record { acknowledged = 0; next = 1 }) 3 ≡ Some 1)
-    × (number_to_send (record { acknowledged = 1; next = 3 }) 3 ≡ Some 1)
-    × (number_to_send (record { acknowledged = 3; next = 3 }) 3 ≡ None)
+pub turns : (number_to_give (record { acknowledged = 0; next = 1 }) 3 ≡ Some 1)
+    × (number_to_give (record { acknowledged = 1; next = 3 }) 3 ≡ Some 1)
+    × (number_to_give (record { acknowledged = 3; next = 3 }) 3 ≡ None)
 turns = (refl, refl, refl)
 
 -- ---- verdicts

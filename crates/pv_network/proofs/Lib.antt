@@ -7,8 +7,9 @@ pub mod KeptSerials
 pub mod KeyTurns
 pub mod Keying
 pub mod Lists
-pub mod Packets
 pub mod Performing
+pub mod Rows
+pub mod Runs
 pub mod Screens
 pub mod SoundCalls
 pub mod Soundness

@@ -36,7 +36,9 @@ use Rattle.pv_network.specs.declared.event.Event.{Event}
 use Rattle.pv_network.specs.declared.event.Event.TheVariants as events
 use Rattle.pv_network.specs.declared.outcome.Outcome.{Outcome}
 use Rattle.pv_network.specs.declared.outcome.Turn.{Turn}
-use Rattle.pv_network.specs.declared.packet.Packet.{Packet}
+use Rattle.pv_packet.specs.declared.packet.Packet.{Packet}
+use Rattle.pv_packet.specs.declared.packet.Packet.TheVariants.{Down, Up, DownHeard, UpHeard}
+use Rattle.pv_link.specs.Sending.{SendingEnd, number_to_give, number_in_turn, end_after, end_that_heard}
 use Rattle.pv_network.specs.declared.round.Round.{Round}
 use Rattle.pv_network.specs.declared.round.Round.TheVariants as rounds
 use Rattle.pv_network.specs.declared.verdict.TheConstants.{FULL}
@@ -47,10 +49,10 @@ use Rattle.pv_network.specs.Calling.{calls_at, call_at, view_at, with_calls, ste
 use Rattle.pv_network.specs.Keying.{KeyedByte, first_entry, is_owes, is_storing, step_of_payment, step_of_key, screens_in, is_over, keys_from, keys_refusal, step_of_taken_keys}
 use Rattle.pv_network.specs.Calls.{Calls, no_calls}
 use Rattle.pv_network.specs.Centre.{Centre, new_centre, record_count, arrival_of}
-use Rattle.pv_network.specs.Link.{End, Link, new_link, is_packets_full, number_to_send, with_packet, with_acknowledgement, with_heard, heard_link}
+use Rattle.pv_network.specs.Link.{Link, new_link, is_packets_full, packet_of, with_packet, delivery_of, with_acknowledgement, heard_count, heard_link}
 use Rattle.pv_network.specs.OneList.{IsNextOfEditor, HasNumbersInOrder, StandsAt, HasOnePlaceEach, MatchesReceipt}
 use Rattle.pv_network.specs.Run.{EachFollows, MayFollow}
-use Rattle.pv_network.specs.Sound.{IsGenuine, serial_in, IsSoundLink, IsSoundCalls, IsSound}
+use Rattle.pv_network.specs.Sound.{IsGenuine, Acknowledges, serial_in, IsSoundLink, IsSoundCalls, IsSound}
 use Rattle.pv_network.specs.Step.{Choice, with_verdict, step_of_request, seeded_frame, step_of_line, step_of_said, step_of_edit, happens, after}
 use Rattle.pv_network.specs.Traffic.{packet_room, with_ack_back, round_of_send, round_of_number, step_of_round, after_round, carry_rounds, step_of_packing, step_of_number, step_of_send, step_of_acknowledging, with_next_at, step_of_arrival, step_of_packet, step_of_deliver, step_of_heard, step_of_back}
 use Rattle.pv_network.specs.Verdict.{editor_reply, verdict_by}
@@ -67,8 +69,8 @@ choice P false x y here there = there refl
 -- ---- a centre
 
 -- a centre that nothing has reached has a sound link beside any list
-sound_new : (edits : List Record) → IsSoundLink edits new_centre new_link
-sound_new edits = record {
+sound_new : (edits : List Record) (c : ℕ) → IsSoundLink edits c new_centre new_link
+sound_new edits c = record {
   packets = λ k d none. absurd (omega (arith, none));
   acknowledged = λ k d none. absurd
       (omega (arith, none));
@@ -77,7 +79,7 @@ sound_new edits = record {
 
 module _ (w : World) (c : ℕ) (sound : IsSound w) where
   -- another centre in the place of one, which has applied a prefix and has a sound link
-  sound_with_centre : (centre : Centre) → centre.applied ≤ length w.update.records → IsSoundLink w.update.records centre (link_at w c)
+  sound_with_centre : (centre : Centre) → centre.applied ≤ length w.update.records → IsSoundLink w.update.records c centre (link_at w c)
       → IsSoundCalls centre.calls → IsSound (with_centre w c centre)
   sound_with_centre centre within here calls = record {
     law = record {
@@ -90,7 +92,7 @@ module _ (w : World) (c : ℕ) (sound : IsSound w) where
     next = sound.next;
     records = sound.records;
     frames = sound.frames;
-    links = set_at (λ k centre. IsSoundLink w.update.records centre (link_at w k)) w.centres c centre new_centre sound.links here;
+    links = set_at (λ k centre. IsSoundLink w.update.records k centre (link_at w k)) w.centres c centre new_centre sound.links here;
     calls = set_at (λ k centre. IsSoundCalls centre.calls) w.centres c centre new_centre sound.calls calls;
   }
 
@@ -104,13 +106,13 @@ module _ (w : World) (c : ℕ) (sound : IsSound w) where
       }) here
 
   -- another sound link in the place of one
-  sound_with_link : (link : Link) → IsSoundLink w.update.records (centre_at w c) link → IsSound (with_link w c link)
+  sound_with_link : (link : Link) → IsSoundLink w.update.records c (centre_at w c) link → IsSound (with_link w c link)
   sound_with_link link here = record {
     law = sound.law;
     next = sound.next;
     records = sound.records;
     frames = sound.frames;
-    links = set_at (λ k link. IsSoundLink w.update.records (centre_at w k) link) w.links c link new_link sound.links here;
+    links = set_at (λ k link. IsSoundLink w.update.records k (centre_at w k) link) w.links c link new_link sound.links here;
     calls = sound.calls;
   }
 
@@ -125,11 +127,19 @@ kept_longer edits more receipt kept = record {
   numbered = kept.numbered;
 }
 
+-- a packet that carries a record of a list carries one of a longer list
+genuine_longer : (edits more : List Record) (c : ℕ) (packet : Packet) → IsGenuine edits c packet → IsGenuine (edits ++ more) c packet
+genuine_longer edits more c (Down centre number rec) is =
+    (is.0, record { edit = is.1.edit; there = get_prefix edits more number is.1.edit is.1.there; same = is.1.same })
+genuine_longer edits more c (Up centre number item) never = absurd never
+genuine_longer edits more c (DownHeard centre number) never = absurd never
+genuine_longer edits more c (UpHeard centre number) never = absurd never
+
 -- a link stays sound as the list grows
-link_longer : (edits more : List Record) (centre : Centre) (link : Link) → IsSoundLink edits centre link
-    → IsSoundLink (edits ++ more) centre link
-link_longer edits more centre link sound = record {
-  packets = λ k d within. get_prefix edits more _ _ (sound.packets k d within);
+link_longer : (edits more : List Record) (c : ℕ) (centre : Centre) (link : Link) → IsSoundLink edits c centre link
+    → IsSoundLink (edits ++ more) c centre link
+link_longer edits more c centre link sound = record {
+  packets = λ k d within. genuine_longer edits more c _ (sound.packets k d within);
   acknowledged = sound.acknowledged;
   heard = sound.heard;
 }
@@ -221,7 +231,7 @@ sound_stored w edit sound follows =
       next = next_push limits edits edit follows sound.next;
       records = omega (arith, follows.record_room, length-append edits (edit ∷ []));
       frames = frames_within limits edits edit sound.frames room;
-      links = λ c. link_longer edits (edit ∷ []) (centre_at w c) (link_at w c) (sound.links c);
+      links = λ c. link_longer edits (edit ∷ []) c (centre_at w c) (link_at w c) (sound.links c);
       calls = sound.calls;
     }
 
@@ -310,21 +320,30 @@ sound_edit w port said sound = by (step_of_line w port said).1
 
 -- ---- send
 
+-- an end that gives a number has heard no more
+heard_after : (end : SendingEnd) (front : ℕ) → (end_after end front).acknowledged ≡ end.acknowledged
+heard_after end front = by (ltb end.acknowledged front)
+  where
+    by : (test : Bool) → (cond test (record end { next = number_in_turn end front + 1 }) end).acknowledged ≡ end.acknowledged
+    by true = refl
+    by false = refl
+
 -- a sound world stays sound with a packet that carries the list's record of its number
 pub sound_packet : (w : World) (c number : ℕ) (edit : Record) → IsSound w → slice_get w.update.records number ≡ Some edit
-    → IsSound (with_link w c (with_packet (link_at w c) number edit))
+    → IsSound (with_link w c (with_packet (link_at w c) (length w.update.records) (packet_of c number edit)))
 sound_packet w c number edit sound is =
     let here = sound.links c in
-    sound_with_link w c sound (with_packet (link_at w c) number edit) (record {
-      packets = All-push (IsGenuine w.update.records) (link_at w c).down (record { number = number; edit = edit }) here.packets is;
+    sound_with_link w c sound _ (record {
+      packets = All-push (IsGenuine w.update.records c) (link_at w c).down (packet_of c number edit) here.packets
+          (refl, record { edit = edit; there = is; same = refl });
       acknowledged = here.acknowledged;
-      heard = here.heard;
+      heard = omega (arith, here.heard, heard_after (link_at w c).sending (length w.update.records));
     })
 
 -- a sound world stays sound if the next record is packed, or there is none to pack
 sound_send : (w : World) (c : ℕ) → IsSound w → IsSound (step_of_send w c).0
 sound_send w c sound = choice IsSound (is_packets_full w.links) _ _ (λ _. sound)
-    (λ _. numbered (number_to_send (link_at w c).sending (length w.update.records)))
+    (λ _. numbered (number_to_give (link_at w c).sending (length w.update.records)))
   where
     pack : (number : ℕ) (found : Option Record) → slice_get w.update.records number ≡ found → IsSound (step_of_packing w c number found).0
     pack number None is = sound
@@ -337,12 +356,13 @@ sound_send w c sound = choice IsSound (is_packets_full w.links) _ _ (λ _. sound
 -- ---- deliver
 
 -- a sound world stays sound with a centre's count on its link
-pub sound_count : (w : World) (c : ℕ) → IsSound w → IsSound (with_link w c (with_acknowledgement (link_at w c) (centre_at w c).applied))
+pub sound_count : (w : World) (c : ℕ) → IsSound w → IsSound (with_link w c (with_acknowledgement (link_at w c) c (centre_at w c).applied))
 sound_count w c sound =
     let here = sound.links c in
     sound_with_link w c sound _ (record {
       packets = here.packets;
-      acknowledged = All-push (λ n. n ≤ (centre_at w c).applied) (link_at w c).up (centre_at w c).applied here.acknowledged (omega arith);
+      acknowledged = All-push (Acknowledges c (centre_at w c).applied) (link_at w c).up (DownHeard c (centre_at w c).applied)
+          here.acknowledged (refl, omega arith);
       heard = here.heard;
     })
 
@@ -350,14 +370,21 @@ sound_count w c sound =
 sound_acknowledged : (w : World) (c : ℕ) → IsSound w → IsSound (step_of_acknowledging w c).0
 sound_acknowledged w c sound = choice IsSound (is_packets_full w.links) _ _ (λ _. sound) (λ _. sound_count w c sound)
 
+-- a packet that acknowledges no more than was applied acknowledges no more than that and one
+acknowledges_more : (c applied : ℕ) (packet : Packet) → Acknowledges c applied packet → Acknowledges c (applied + 1) packet
+acknowledges_more c applied (Down centre number rec) never = absurd never
+acknowledges_more c applied (Up centre number item) never = absurd never
+acknowledges_more c applied (DownHeard centre number) is = (is.0, omega (arith, is.1))
+acknowledges_more c applied (UpHeard centre number) never = absurd never
+
 -- the record that comes next is one of the list's
-pub sound_applied : (w : World) (c : ℕ) (packet : Packet) → IsSound w → IsGenuine w.update.records packet
-    → packet.number ≡ (centre_at w c).applied → IsSound (with_next_at w c)
-sound_applied w c packet sound is next =
+pub sound_applied : (w : World) (c number : ℕ) (edit : Record) → IsSound w → slice_get w.update.records number ≡ Some edit
+    → number ≡ (centre_at w c).applied → IsSound (with_next_at w c)
+sound_applied w c number edit sound is next =
     let here = sound.links c in
-    sound_with_centre w c sound _ (omega (arith, slice_get_within w.update.records packet.number packet.edit is, next)) (record {
+    sound_with_centre w c sound _ (omega (arith, slice_get_within w.update.records number edit is, next)) (record {
       packets = here.packets;
-      acknowledged = λ k d within. let le = here.acknowledged k d within in omega (arith, le);
+      acknowledged = λ k d within. acknowledges_more c (centre_at w c).applied _ (here.acknowledged k d within);
       heard = omega (arith, here.heard);
     }) (sound.calls c)
 
@@ -369,26 +396,32 @@ taken_is_next applied count limit number is = grind (arith, nat_tests)
 pub sound_deliver : (w : World) (c index : ℕ) → IsSound w → IsSound (step_of_deliver w c index).0
 sound_deliver w c index sound = arrives (slice_get (link_at w c).down index) refl
   where
-    by : (packet : Packet) (arrival : Arrival) → IsGenuine w.update.records packet
-        → arrival_of (centre_at w c).applied (record_count (centre_at w c)) w.update.limits.records packet.number ≡ arrival
-        → IsSound (step_of_arrival w c packet.number arrival).0
-    by packet arrivals.Taken is how = sound_acknowledged (with_next_at w c) c
-        (sound_applied w c packet sound is (taken_is_next (centre_at w c).applied
-        (record_count (centre_at w c)) w.update.limits.records packet.number how))
-    by packet arrivals.Old is how = sound_acknowledged w c sound
-    by packet arrivals.Early is how = sound_acknowledged w c sound
-    by packet arrivals.Full is how = sound
+    by : (number : ℕ) (edit : Record) (arrival : Arrival) → slice_get w.update.records number ≡ Some edit
+        → arrival_of (centre_at w c).applied (record_count (centre_at w c)) w.update.limits.records number ≡ arrival
+        → IsSound (step_of_arrival w c number arrival).0
+    by number edit arrivals.Taken is how = sound_acknowledged (with_next_at w c) c
+        (sound_applied w c number edit sound is (taken_is_next (centre_at w c).applied
+        (record_count (centre_at w c)) w.update.limits.records number how))
+    by number edit arrivals.Old is how = sound_acknowledged w c sound
+    by number edit arrivals.Early is how = sound_acknowledged w c sound
+    by number edit arrivals.Full is how = sound
 
-    arrives : (found : Option Packet) → slice_get (link_at w c).down index ≡ found → IsSound (step_of_packet w c found).0
+    brings : (packet : Packet) → IsGenuine w.update.records c packet → IsSound (step_of_packet w c (delivery_of packet)).0
+    brings (Down centre number rec) is = by number is.1.edit _ is.1.there refl
+    brings (Up centre number item) is = sound
+    brings (DownHeard centre number) is = sound
+    brings (UpHeard centre number) is = sound
+
+    arrives : (found : Option Packet) → slice_get (link_at w c).down index ≡ found → IsSound (step_of_packet w c (found >>= delivery_of)).0
     arrives None is = sound
-    arrives (Some packet) is = by packet _ (all_get (IsGenuine w.update.records) (link_at w c).down index packet
-        (sound.links c).packets is) refl
+    arrives (Some packet) is = brings packet (all_get (IsGenuine w.update.records c) (link_at w c).down index packet
+        (sound.links c).packets is)
 
 -- ---- back
 
 -- what an end heard of is no more than this if both were
-heard_within : (end : End) (front count most : ℕ) → end.acknowledged ≤ most → count ≤ most
-    → (with_heard end front count).acknowledged ≤ most
+heard_within : (end : SendingEnd) (front count most : ℕ) → end.acknowledged ≤ most → count ≤ most
+    → (end_that_heard end count front).acknowledged ≤ most
 heard_within end front count most old new = by (ltb end.acknowledged count && leb count front)
   where
     by : (test : Bool) → (cond test (record end { acknowledged = count }) end).acknowledged ≤ most
@@ -396,7 +429,7 @@ heard_within end front count most old new = by (ltb end.acknowledged count && le
     by false = old
 
 -- a sound world stays sound if an end hears an acknowledgement that was made
-pub sound_heard : (w : World) (c index count : ℕ) → IsSound w → slice_get (link_at w c).up index ≡ Some count
+pub sound_heard : (w : World) (c index count : ℕ) → IsSound w → (slice_get (link_at w c).up index >>= heard_count) ≡ Some count
     → IsSound (with_link w c (heard_link (link_at w c) (length w.update.records) count))
 sound_heard w c index count sound is =
     let here = sound.links c in
@@ -405,14 +438,27 @@ sound_heard w c index count sound is =
       packets = here.packets;
       acknowledged = here.acknowledged;
       heard = heard_within (link_at w c).sending (length w.update.records) count applied here.heard
-          (all_get (λ n. n ≤ applied) (link_at w c).up index count here.acknowledged is);
+          (counted (slice_get (link_at w c).up index) refl is);
     })
+  where
+    names : (packet : Packet) → Acknowledges c (centre_at w c).applied packet → heard_count packet ≡ Some count
+        → count ≤ (centre_at w c).applied
+    names (Down centre number rec) never is = absurd never
+    names (Up centre number item) never is = absurd never
+    names (DownHeard centre number) is same = let one : number ≡ count = cc in omega (arith, one, is.1)
+    names (UpHeard centre number) never is = absurd never
+
+    counted : (found : Option Packet) → slice_get (link_at w c).up index ≡ found → (found >>= heard_count) ≡ Some count
+        → count ≤ (centre_at w c).applied
+    counted None at same = absurd cc
+    counted (Some packet) at same = names packet (all_get (Acknowledges c (centre_at w c).applied) (link_at w c).up index packet
+        (sound.links c).acknowledged at) same
 
 -- a sound world stays sound whatever acknowledgement arrives
 sound_back : (w : World) (c index : ℕ) → IsSound w → IsSound (step_of_back w c index).0
-sound_back w c index sound = arrives (slice_get (link_at w c).up index) refl
+sound_back w c index sound = arrives (slice_get (link_at w c).up index >>= heard_count) refl
   where
-    arrives : (found : Option ℕ) → slice_get (link_at w c).up index ≡ found → IsSound (step_of_heard w c found).0
+    arrives : (found : Option ℕ) → (slice_get (link_at w c).up index >>= heard_count) ≡ found → IsSound (step_of_heard w c found).0
     arrives None is = sound
     arrives (Some count) is = sound_heard w c index count sound is
 
@@ -425,7 +471,7 @@ sound_ack_back w c (Some index) sound = sound_back w c index sound
 
 -- a sound world stays sound after a round
 pub sound_round : (w : World) (c : ℕ) → IsSound w → IsSound (step_of_round w c).0
-sound_round w c sound = numbered (number_to_send (link_at w c).sending (length w.update.records))
+sound_round w c sound = numbered (number_to_give (link_at w c).sending (length w.update.records))
   where
     sent : (v : World) (outcome : Outcome) (packet : Option ℕ) → IsSound v → IsSound (round_of_send v c outcome packet).0
     sent v outcome None next = next
@@ -558,6 +604,6 @@ sound_start centres limits = record {
   next = λ editor. refl;
   records = omega arith;
   frames = omega (arith, frame_count-none);
-  links = λ c. rw (copy_at new_centre centres c, copy_at new_link centres c) (sound_new []);
+  links = λ c. rw (copy_at new_centre centres c, copy_at new_link centres c) (sound_new [] c);
   calls = λ c. rw (copy_at new_centre centres c) sound_no_calls;
 }

@@ -12,14 +12,16 @@ use Rattle.pv_network.specs.declared.centre.Arrival.{Arrival}
 use Rattle.pv_network.specs.declared.centre.Arrival.TheVariants as arrivals
 use Rattle.pv_network.specs.declared.event.TheConstants.{PORTS}
 use Rattle.pv_network.specs.declared.outcome.Outcome.{Outcome}
-use Rattle.pv_network.specs.declared.packet.Packet.{Packet}
+use Rattle.pv_network.specs.declared.delivery.Delivery.{Delivery}
+use Rattle.pv_link.specs.Sending.{number_to_give}
+use Rattle.pv_fields.specs.Reading.{◌>>=◌}
 use Rattle.pv_network.specs.declared.round.Round.{Round}
 use Rattle.pv_network.specs.declared.round.Round.TheVariants as rounds
 use Rattle.pv_network.specs.Call.{Call}
 use Rattle.pv_network.specs.Calling.{calls_at, call_at, with_calls}
 use Rattle.pv_network.specs.Calls.{Calls, call_in, with_call}
 use Rattle.pv_network.specs.Centre.{Centre, new_centre, arrival_of, record_count}
-use Rattle.pv_network.specs.Link.{is_packets_full, number_to_send}
+use Rattle.pv_network.specs.Link.{is_packets_full, delivery_of, heard_count}
 use Rattle.pv_network.specs.Step.{step_of_request, step_of_line, step_of_said, step_of_edit}
 use Rattle.pv_network.specs.Traffic.{ack_in, with_ack_back, round_of_send, round_of_number, step_of_round, after_round, carry_rounds, step_of_packing, step_of_number, step_of_send, step_of_acknowledging, with_next_at, step_of_arrival, step_of_packet, step_of_deliver, step_of_heard, step_of_back}
 use Rattle.pv_network.specs.Verdict.{verdict_of}
@@ -59,7 +61,7 @@ module _ (c : ℕ) where
 
   pub send_same : (w : World) (d : ℕ) → Same w (step_of_send w d).0
   send_same w d = choice (Same w) (is_packets_full w.links) _ _ (λ _. refl)
-      (λ _. by (number_to_send (link_at w d).sending (length w.update.records)))
+      (λ _. by (number_to_give (link_at w d).sending (length w.update.records)))
     where
       pack : (number : ℕ) (found : Option Record) → Same w (step_of_packing w d number found).0
       pack number None = refl
@@ -78,7 +80,7 @@ module _ (c : ℕ) where
       set_at (λ k centre. centre.calls ≡ calls_at w k) w.centres d (record (centre_at w d) { applied = _ }) new_centre (λ k. refl) refl c
 
   pub deliver_same : (w : World) (d index : ℕ) → Same w (step_of_deliver w d index).0
-  deliver_same w d index = arrives (slice_get (link_at w d).down index)
+  deliver_same w d index = arrives (slice_get (link_at w d).down index >>= delivery_of)
     where
       by : (number : ℕ) (arrival : Arrival) → Same w (step_of_arrival w d number arrival).0
       by number arrivals.Taken = acknowledging_same (with_next_at w d) d ∙ next_same w d
@@ -86,13 +88,13 @@ module _ (c : ℕ) where
       by number arrivals.Early = acknowledging_same w d
       by number arrivals.Full = refl
 
-      arrives : (found : Option Packet) → Same w (step_of_packet w d found).0
+      arrives : (found : Option Delivery) → Same w (step_of_packet w d found).0
       arrives None = refl
-      arrives (Some packet) = by packet.number (arrival_of (centre_at w d).applied
-          (record_count (centre_at w d)) w.update.limits.records packet.number)
+      arrives (Some delivery) = by delivery.number (arrival_of (centre_at w d).applied
+          (record_count (centre_at w d)) w.update.limits.records delivery.number)
 
   pub back_same : (w : World) (d index : ℕ) → Same w (step_of_back w d index).0
-  back_same w d index = by (slice_get (link_at w d).up index)
+  back_same w d index = by (slice_get (link_at w d).up index >>= heard_count)
     where
       by : (found : Option ℕ) → Same w (step_of_heard w d found).0
       by None = refl
@@ -103,7 +105,7 @@ module _ (c : ℕ) where
   ack_same w d (Some index) = back_same w d index
 
   round_same : (w : World) (d : ℕ) → Same w (step_of_round w d).0
-  round_same w d = numbered (number_to_send (link_at w d).sending (length w.update.records))
+  round_same w d = numbered (number_to_give (link_at w d).sending (length w.update.records))
     where
       sent : (v : World) (outcome : Outcome) (packet : Option ℕ) → Same v (round_of_send v d outcome packet).0
       sent v outcome None = refl

@@ -5,6 +5,7 @@ pub mod Centre
 pub mod Keying
 pub mod Link
 pub mod OneList
+pub mod Packets
 pub mod Run
 pub mod Screens
 pub mod Sound

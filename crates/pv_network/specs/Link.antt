@@ -1,25 +1,24 @@
--- The link between the Update Centre and a centre: its packets, and the end that sends down.
-use Rattle.std.specs.Prelude.{ℕ, ◌+◌, ◌<◌, All, Bool, ◌&&◌, nat_lt, nat_le, List, [], ◌∷◌, ◌++◌, length, map, Option, Some, None, slice_index_or, if◌then◌else◌}
+-- The link between the Update Centre and a centre: every packet that was made on it, and the end that sends down.
+use Rattle.std.specs.Prelude.{ℕ, ◌+◌, ◌<◌, All, Bool, nat_le, List, [], ◌∷◌, ◌++◌, length, map, Option, Some, None, slice_index_or, slice_get}
 use Rattle.std.specs.List.{sum_by}
-use Rattle.pv_frame.specs.Content.{blank_frame}
+use Rattle.pv_fields.specs.Reading.{◌>>=◌}
+use Rattle.pv_link.specs.Sending.{SendingEnd, new_end, end_after, end_that_heard}
+use Rattle.pv_edits.specs.declared.down.DownRecord.{DownRecord}
+use Rattle.pv_edits.specs.declared.down.DownRecord.TheVariants.{Whole, Blank}
 use Rattle.pv_edits.specs.declared.record.Record.{Record}
-use Rattle.pv_edits.specs.declared.record.Record.TheVariants.{Put}
-use Rattle.pv_network.specs.declared.packet.Packet.{Packet}
+use Rattle.pv_packet.specs.declared.packet.Packet.{Packet}
+use Rattle.pv_packet.specs.declared.packet.Packet.TheVariants.{Down, DownHeard}
+use Rattle.pv_network.specs.declared.delivery.Delivery.{Delivery}
 
--- an end that sends: all numbers below the one are acknowledged, and the other is to be sent next
-pub record End : Type 0 where
-  pub acknowledged : ℕ
-  pub next : ℕ
-
--- a link: the packets that went down and the acknowledgements that went up, in the order made, and the end that sends down
+-- a link: the packets that went down and those that went up, each in the order made, and the end that sends down
 pub record Link : Type 0 where
   pub down : List Packet
-  pub up : List ℕ
-  pub sending : End
+  pub up : List Packet
+  pub sending : SendingEnd
 
 -- a link on which nothing was sent
 abbrev pub new_link : Link
-new_link = record { down = []; up = []; sending = record { acknowledged = 0; next = 0 } }
+new_link = record { down = []; up = []; sending = new_end }
 
 -- the link of a centre; after the last centre there is none, and a new one stands for it
 abbrev pub link_in : List Link → ℕ → Link
@@ -33,46 +32,68 @@ packet_count links = sum_by (λ link. length link.down + length link.up) links
 abbrev pub is_packets_full : List Link → Bool
 is_packets_full links = nat_le 20000 (packet_count links)
 
--- The number that an end sends next, of those below a count: from the acknowledged one up, in turn, and again. There is
--- none if all of them are acknowledged.
-abbrev pub number_to_send : End → ℕ → Option ℕ
-number_to_send end count = if nat_le count end.acknowledged then None
-    else Some (if nat_le end.acknowledged end.next && nat_lt end.next count then end.next else end.acknowledged)
+-- ---- packets that go down
 
--- a record goes down in a packet, and the end goes on after it
-abbrev pub with_packet : Link → ℕ → Record → Link
-with_packet link number edit = record link {
-  down = link.down ++ record { number = number; edit = edit } ∷ [];
-  sending = record { acknowledged = link.sending.acknowledged; next = number + 1 };
-}
+-- what goes down of a record: all of it
+abbrev pub sent_of : Record → DownRecord
+sent_of edit = Whole edit
 
--- an acknowledgement of this many records goes up
-abbrev pub with_acknowledgement : Link → ℕ → Link
-with_acknowledgement link count = record link { up = link.up ++ count ∷ [] }
+-- the packet of the record of a number, for a centre
+abbrev pub packet_of : ℕ → ℕ → Record → Packet
+packet_of c number edit = Down c number (sent_of edit)
 
--- an end that hears of `count` records, if there are that many: it keeps the greatest count that it heard of
-abbrev pub with_heard : End → ℕ → ℕ → End
-with_heard end front count = if nat_lt end.acknowledged count && nat_le count front then record end { acknowledged = count } else end
+-- a packet goes down of the number that the end gives, of those below the front
+abbrev pub with_packet : Link → ℕ → Packet → Link
+with_packet link front packet = record link { down = link.down ++ packet ∷ []; sending = end_after link.sending front }
 
--- a link whose sending end hears of this many records
+-- what a packet brings to a centre: the record and its number, if it has one
+abbrev pub delivery_of : Packet → Option Delivery
+delivery_of (Down centre number rec) = Some (record { number = number; rec = rec })
+delivery_of _ = None
+
+-- what the packet of an index brings, of those that went down
+abbrev pub delivery_in : List Packet → ℕ → Option Delivery
+delivery_in packets index = slice_get packets index >>= delivery_of
+
+-- the record that came down, if it came down whole
+abbrev pub record_of_down : DownRecord → Option Record
+record_of_down (Whole edit) = Some edit
+record_of_down Blank = None
+
+-- ---- packets that go up
+
+-- an acknowledgement of `count` records goes up from a centre
+abbrev pub with_acknowledgement : Link → ℕ → ℕ → Link
+with_acknowledgement link c count = record link { up = link.up ++ DownHeard c count ∷ [] }
+
+-- how many records a packet acknowledges, if it does
+abbrev pub heard_count : Packet → Option ℕ
+heard_count (DownHeard centre number) = Some number
+heard_count _ = None
+
+-- how many records the packet of an index acknowledges, of those that went up
+abbrev pub heard_in : List Packet → ℕ → Option ℕ
+heard_in packets index = slice_get packets index >>= heard_count
+
+-- a link whose sending end hears of `count` records
 abbrev pub heard_link : Link → ℕ → ℕ → Link
-heard_link link front count = record link { sending = with_heard link.sending front count }
+heard_link link front count = record link { sending = end_that_heard link.sending count front }
 
 -- ---- how the code keeps the links: all packets in one row, and of each link the places of its own
 
--- of a link: the places of the packets that went down, the acknowledgements that went up, and the end that sends down
+-- of a link: the places of the packets that went down and of those that went up, and the end that sends down
 pub record Places : Type 0 where
   pub down : List ℕ
   pub up : List ℕ
-  pub sending : End
+  pub sending : SendingEnd
 
 -- no place on a link on which nothing was sent
 abbrev pub no_places : Places
-no_places = record { down = []; up = []; sending = record { acknowledged = 0; next = 0 } }
+no_places = record { down = []; up = []; sending = new_end }
 
 -- a packet that is in no row
 abbrev pub no_packet : Packet
-no_packet = record { number = 0; edit = Put 0 0 (record { page = 1; letter = 97 }) blank_frame }
+no_packet = DownHeard 0 0
 
 -- the packet at a place of the row
 abbrev pub packet_at : List Packet → ℕ → Packet
@@ -80,31 +101,37 @@ packet_at packets place = slice_index_or packets place no_packet
 
 -- the link whose packets are at these places
 abbrev pub link_of : List Packet → Places → Link
-link_of packets here = record { down = map (packet_at packets) here.down; up = here.up; sending = here.sending }
+link_of packets here = record {
+  down = map (packet_at packets) here.down;
+  up = map (packet_at packets) here.up;
+  sending = here.sending;
+}
 
 -- the links, each by its places
 abbrev pub links_of : List Packet → List Places → List Link
 links_of packets links = map (link_of packets) links
 
--- each place is one of the row
+-- the places of a link are in the row
+pub record IsWithin (packets : List Packet) (here : Places) : Type 0 where
+  pub down : All (λ place. place < length packets) here.down
+  pub up : All (λ place. place < length packets) here.up
+
+-- the places of each link are
 abbrev pub AreWithin : List Packet → List Places → Type 0
-AreWithin packets links = All (λ here. All (λ place. place < length packets) here.down) links
+AreWithin packets links = All (IsWithin packets) links
 
 -- how many packets the places are of, in both directions
 abbrev pub place_count : List Places → ℕ
 place_count links = sum_by (λ here. length here.down + length here.up) links
 
--- one more place goes down, with the number of its packet, and the end goes on after it
+-- one more place goes down, and the end goes on
 abbrev pub with_place : Places → ℕ → ℕ → Places
-with_place here number place = record here {
-  down = here.down ++ place ∷ [];
-  sending = record { acknowledged = here.sending.acknowledged; next = number + 1 };
-}
+with_place here front place = record here { down = here.down ++ place ∷ []; sending = end_after here.sending front }
 
--- an acknowledgement of this many records goes up
-abbrev pub with_count : Places → ℕ → Places
-with_count here count = record here { up = here.up ++ count ∷ [] }
+-- one more goes up
+abbrev pub with_place_up : Places → ℕ → Places
+with_place_up here place = record here { up = here.up ++ place ∷ [] }
 
--- the sending end hears of this many records
+-- the sending end hears of `count` records
 abbrev pub heard_places : Places → ℕ → ℕ → Places
-heard_places here front count = record here { sending = with_heard here.sending front count }
+heard_places here front count = record here { sending = end_that_heard here.sending count front }

@@ -1,16 +1,17 @@
 -- Packets: what a send, an arrival and a carry make of the world, and the answers to them.
 use Rattle.std.specs.Prelude.{ℕ, zero, suc, ◌+◌, ◌-◌, List, length, Option, Some, None, slice_get, if◌then◌else◌}
+use Rattle.pv_link.specs.Sending.{number_to_give}
 use Rattle.pv_edits.specs.declared.record.Record.{Record}
 use Rattle.pv_network.specs.declared.centre.Arrival.{Arrival}
 use Rattle.pv_network.specs.declared.centre.Arrival.TheVariants as arrivals
 use Rattle.pv_network.specs.declared.outcome.Outcome.{Outcome}
 use Rattle.pv_network.specs.declared.outcome.Outcome.TheVariants as outcomes
-use Rattle.pv_network.specs.declared.packet.Packet.{Packet}
-use Rattle.pv_network.specs.declared.packet.TheConstants.{MAX_PACKETS}
+use Rattle.pv_network.specs.declared.delivery.Delivery.{Delivery}
+use Rattle.pv_network.specs.declared.packets.TheConstants.{MAX_PACKETS}
 use Rattle.pv_network.specs.declared.round.Round.{Round}
 use Rattle.pv_network.specs.declared.round.Round.TheVariants as rounds
 use Rattle.pv_network.specs.Centre.{with_next, record_count, arrival_of}
-use Rattle.pv_network.specs.Link.{Link, is_packets_full, packet_count, number_to_send, with_packet, with_acknowledgement, heard_link}
+use Rattle.pv_network.specs.Link.{Link, is_packets_full, packet_count, packet_of, with_packet, delivery_in, with_acknowledgement, heard_in, heard_link}
 use Rattle.pv_network.specs.World.{World, centre_at, link_at, with_centre, with_link}
 
 -- ---- send
@@ -19,12 +20,12 @@ use Rattle.pv_network.specs.World.{World, centre_at, link_at, with_centre, with_
 abbrev pub step_of_packing : World → ℕ → ℕ → Option Record → World × Outcome
 step_of_packing w c number None = (w, outcomes.Idle)
 step_of_packing w c number (Some edit) = (
-  with_link w c (with_packet (link_at w c) number edit),
+  with_link w c (with_packet (link_at w c) (length w.update.records) (packet_of c number edit)),
   outcomes.SentRecord
       (length (link_at w c).down) number,
 )
 
--- the record of the number that is sent next is packed, if there is such a number
+-- the record of the number that the end gives is packed, if it gives one
 abbrev pub step_of_number : World → ℕ → Option ℕ → World × Outcome
 step_of_number w c None = (w, outcomes.Idle)
 step_of_number w c (Some number) = step_of_packing w c number (slice_get w.update.records number)
@@ -32,7 +33,7 @@ step_of_number w c (Some number) = step_of_packing w c number (slice_get w.updat
 -- the next record is packed for a centre, unless no packet can be made
 abbrev pub step_of_send : World → ℕ → World × Outcome
 step_of_send w c = if is_packets_full w.links then (w, outcomes.PacketsFull)
-    else step_of_number w c (number_to_send (link_at w c).sending (length w.update.records))
+    else step_of_number w c (number_to_give (link_at w c).sending (length w.update.records))
 
 -- ---- deliver
 
@@ -40,7 +41,7 @@ step_of_send w c = if is_packets_full w.links then (w, outcomes.PacketsFull)
 -- acknowledgement's index.
 abbrev pub step_of_acknowledging : World → ℕ → World × Option ℕ
 step_of_acknowledging w c = if is_packets_full w.links then (w, None)
-    else (with_link w c (with_acknowledgement (link_at w c) (centre_at w c).applied), Some (length (link_at w c).up))
+    else (with_link w c (with_acknowledgement (link_at w c) c (centre_at w c).applied), Some (length (link_at w c).up))
 
 -- the world with the next record applied at a centre
 abbrev pub with_next_at : World → ℕ → World
@@ -54,15 +55,15 @@ step_of_arrival w c number arrivals.Old = let a = step_of_acknowledging w c in (
 step_of_arrival w c number arrivals.Early = let a = step_of_acknowledging w c in (a.0, outcomes.Early number a.1)
 step_of_arrival w c number arrivals.Full = (w, outcomes.Full (record_count (centre_at w c)))
 
--- a packet that was made arrives
-abbrev pub step_of_packet : World → ℕ → Option Packet → World × Outcome
+-- what a packet brings arrives, if there is such a packet and it brings a record
+abbrev pub step_of_packet : World → ℕ → Option Delivery → World × Outcome
 step_of_packet w c None = (w, outcomes.NoPacket)
-step_of_packet w c (Some packet) = step_of_arrival w c packet.number
-    (arrival_of (centre_at w c).applied (record_count (centre_at w c)) w.update.limits.records packet.number)
+step_of_packet w c (Some delivery) = step_of_arrival w c delivery.number
+    (arrival_of (centre_at w c).applied (record_count (centre_at w c)) w.update.limits.records delivery.number)
 
 -- the packet of an index arrives at a centre
 abbrev pub step_of_deliver : World → ℕ → ℕ → World × Outcome
-step_of_deliver w c index = step_of_packet w c (slice_get (link_at w c).down index)
+step_of_deliver w c index = step_of_packet w c (delivery_in (link_at w c).down index)
 
 -- ---- back
 
@@ -72,9 +73,9 @@ step_of_heard w c None = (w, outcomes.NoPacket)
 step_of_heard w c (Some count) =
     (with_link w c (heard_link (link_at w c) (length w.update.records) count), outcomes.Heard count)
 
--- the acknowledgement of an index arrives
+-- the packet of an index arrives at the Update Centre
 abbrev pub step_of_back : World → ℕ → ℕ → World × Outcome
-step_of_back w c index = step_of_heard w c (slice_get (link_at w c).up index)
+step_of_back w c index = step_of_heard w c (heard_in (link_at w c).up index)
 
 -- ---- carry: what is read of an outcome
 
@@ -113,14 +114,14 @@ abbrev pub round_of_send : World → ℕ → Outcome → Option ℕ → World ×
 round_of_send w c sent None = (w, rounds.Stopped sent)
 round_of_send w c sent (Some index) = round_of_packet w c index
 
--- a round sends the record of the number that is sent next, if there is such a number
+-- a round sends the record of the number that the end gives, if it gives one
 abbrev pub round_of_number : World → ℕ → Option ℕ → World × Round
 round_of_number w c None = (w, rounds.Idle)
 round_of_number w c (Some number) = let sent = step_of_send w c in round_of_send sent.0 c sent.1 (packet_in sent.1)
 
 -- a round: a record is sent and delivered, and its acknowledgement taken back
 abbrev pub step_of_round : World → ℕ → World × Round
-step_of_round w c = round_of_number w c (number_to_send (link_at w c).sending (length w.update.records))
+step_of_round w c = round_of_number w c (number_to_give (link_at w c).sending (length w.update.records))
 
 -- another round comes after it
 abbrev pub GoesOn : Round → Type 0

@@ -24,13 +24,14 @@
 mod call;
 mod calls;
 mod centre;
+mod delivery;
 mod event;
 mod laws;
 mod link;
 mod links;
 mod network;
 mod outcome;
-mod packet;
+mod packets;
 mod round;
 mod turns;
 mod verdict;

@@ -1,36 +1,30 @@
-ghost use Rattle.std.specs.Prelude.{◌≡◌, ◌+◌, ◌<◌, ◌^◌, ℕ, length, slice_get, IfOk};
-ghost use Rattle.pv_network.specs.declared.packet.TheConstants.{MAX_PACKETS};
-ghost use Rattle.pv_network.specs.Link.{no_places, number_to_send, with_place, with_count, heard_places};
+ghost use Rattle.std.specs.Prelude.{◌≡◌, ◌↔◌, ◌<◌, ◌≤◌, ℕ, length, slice_get, IfOk};
+ghost use Rattle.pv_link.specs.Sending.{number_to_give};
+ghost use Rattle.pv_network.specs.declared.packets.TheConstants.{MAX_PACKETS};
+ghost use Rattle.pv_network.specs.Link.{no_places, with_place, with_place_up, heard_places};
 
-use crate::packet::MAX_PACKETS;
+use crate::packets::MAX_PACKETS;
+use pv_link::DownEnd;
 use std::alloc::{AllocError, Global};
 use std::marker::Model;
 
-/// The link between the Update Centre and a centre: the places of the packets that went down it, the acknowledgements
-/// that went up, and the end that sends down. `open` reserves all room.
+/// The link between the Update Centre and a centre: the places of the packets that went down it, of those that went
+/// up, and the end that sends down. `open` reserves all room.
 #[derive(Debug, Drop)]
 pub struct Link {
-    down: Vec<usize>,
-    up: Vec<u64>,
-    acknowledged: u64,
-    next: u64,
+    down: Vec<u16>,
+    up: Vec<u16>,
+    sending: DownEnd,
 }
 
 impl Model for Link {
     ghost use Rattle.std.specs.Prelude.{◌≤◌, vec_capacity};
-    ghost use Rattle.pv_network.specs.declared.packet.TheConstants.{MAX_PACKETS};
+    ghost use Rattle.pv_network.specs.declared.packets.TheConstants.{MAX_PACKETS};
     ghost use Rattle.pv_network.specs.Link as Spec;
 
     ghost Value = { Spec.Places };
 
-    ghost view = { λ l. record {
-      down = l.down.items;
-      up = l.up.items;
-      sending = record {
-        acknowledged = l.acknowledged;
-        next = l.next;
-      };
-    } };
+    ghost view = { λ l. record { down = l.down.items; up = l.up.items; sending = l.sending } };
 
     ghost invariant = { λ l. (MAX_PACKETS ≤ vec_capacity l.down) × (MAX_PACKETS ≤ vec_capacity l.up) };
 }
@@ -43,69 +37,59 @@ impl Link {
         Ok(Link {
             down: Vec::with_capacity(alloc, MAX_PACKETS)?,
             up: Vec::with_capacity(alloc, MAX_PACKETS)?,
-            acknowledged: 0,
-            next: 0,
+            sending: DownEnd::new(),
         })
     }
 
+    /// The number that goes down next, of those below the front. `None` if all of them are acknowledged.
+    pub(crate) fn next_number(&self, front: u64) -> Option<u64>
+        ensures { result ≡ number_to_give self.now.sending front }
+    {
+        let mut end = self.sending;
+        end.next(front)
+    }
+
     /// The place of the packet of an index that went down.
-    pub(crate) fn place(&self, index: u64) -> Option<usize>
+    pub(crate) fn down(&self, index: u64) -> Option<u16>
         ensures { result ≡ slice_get self.now.down index }
     {
         self.down.get(index as usize).copied()
     }
 
-    /// The number that is sent next, of those below this count. `None` if all of them are acknowledged.
-    pub(crate) fn next_number(&self, count: u64) -> Option<u64>
-        ensures { result ≡ number_to_send self.now.sending count }
-    {
-        if count <= self.acknowledged {
-            return None;
-        }
-        if self.acknowledged <= self.next && self.next < count {
-            Some(self.next)
-        } else {
-            Some(self.acknowledged)
-        }
-    }
-
-    /// The count that the acknowledgement of an index names.
-    pub(crate) fn count(&self, index: u64) -> Option<u64>
+    /// The place of the packet of an index that went up.
+    pub(crate) fn up(&self, index: u64) -> Option<u16>
         ensures { result ≡ slice_get self.now.up index }
     {
         self.up.get(index as usize).copied()
     }
 
-    /// Hears that a centre has `count` records. An end keeps the greatest count of those up to `front`.
+    /// The end hears that a centre has `count` records, of `front` in all.
     pub(crate) fn hear(&mut self, front: u64, count: u64)
         ensures { self.new ≡ heard_places self.old front count }
     {
-        if self.acknowledged < count && count <= front {
-            self.acknowledged = count;
-        }
+        self.sending.acknowledged(count, front);
     }
 
-    /// Sends the packet of a number at a place down, and returns its index.
-    pub(crate) fn pack(&mut self, number: u64, place: usize) -> u64
-        requires room { length self.old.down < MAX_PACKETS }
-        requires next { number + 1 < 2 ^ 64 }
+    /// Sends the packet at a place down, under the number that the end gives, and returns its index.
+    pub(crate) fn send_down(&mut self, front: u64, place: u16) -> u64
+        requires { length self.old.down < MAX_PACKETS }
         ensures index { result ≡ length self.old.down }
-        ensures packed { self.new ≡ with_place self.old number place }
+        ensures sent { self.new ≡ with_place self.old front place }
     {
         let index = self.down.len() as u64;
         self.down.push_reserved(place);
-        self.next = number + 1;
+        let _ = self.sending.next(front);
         index
     }
 
-    /// Sends an acknowledgement of this many records up, and returns its index.
-    pub(crate) fn acknowledge(&mut self, count: u64) -> u64
+    /// Sends the packet at a place up, and returns its index.
+    pub(crate) fn send_up(&mut self, place: u16) -> u64
         requires { length self.old.up < MAX_PACKETS }
         ensures index { result ≡ length self.old.up }
-        ensures made { self.new ≡ with_count self.old count }
+        ensures sent { self.new ≡ with_place_up self.old place }
     {
         let index = self.up.len() as u64;
-        self.up.push_reserved(count);
+        self.up.push_reserved(place);
         index
     }
 }

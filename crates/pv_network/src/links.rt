@@ -1,38 +1,45 @@
-ghost use Rattle.std.specs.Prelude.{◌≡◌, ◌+◌, ◌<◌, ◌^◌, ℕ, false, length, replicate, option_copied, slice_get, slice_set, IfOk};
-ghost use Rattle.pv_network.specs.Link.{new_link, link_in, is_packets_full, number_to_send, with_packet, with_acknowledgement, heard_link};
+ghost use Rattle.std.specs.Prelude.{◌≡◌, ◌+◌, ◌<◌, ◌≤◌, ℕ, false, length, replicate, slice_set, IfOk};
+ghost use Rattle.pv_edits.specs.Taken.{IsCentre};
+ghost use Rattle.pv_link.specs.Sending.{number_to_give};
+ghost use Rattle.pv_packet.specs.declared.packet.Packet.TheVariants.{Down};
+ghost use Rattle.pv_network.specs.declared.event.TheConstants.{MAX_CENTRES};
+ghost use Rattle.pv_network.specs.Link.{new_link, link_in, is_packets_full, with_packet, delivery_in, with_acknowledgement, heard_in, heard_link};
 
+use crate::delivery::Delivery;
+use crate::event::MAX_CENTRES;
 use crate::link::Link;
-use crate::packet::{MAX_PACKETS, Packet};
-use pv_edits::Record;
+use crate::packets::{MAX_PACKETS, Packets};
+use pv_edits::DownRecord;
+use pv_packet::Packet;
 use std::alloc::{AllocError, Global};
 use std::marker::Model;
 
-/// The links of all centres, with a count of the packets that were made on them. All packets that went down are in one
-/// row, in room that `open` reserves, and each link has the places of its own.
+/// The links of all centres. All packets that were made on them are in one row, in room that `open` reserves, and each
+/// link has the places of its own.
 #[derive(Debug, Drop)]
 pub struct Links {
     links: Vec<Link>,
-    packets: Vec<Packet>,
-    made: usize,
+    packets: Packets,
 }
 
 impl Model for Links {
-    ghost use Rattle.std.specs.Prelude.{◌≡◌, ◌≤◌, List, length, vec_capacity};
-    ghost use Rattle.pv_network.specs.declared.packet.TheConstants.{MAX_PACKETS};
+    ghost use Rattle.std.specs.Prelude.{◌≡◌, ◌≤◌, List, length};
+    ghost use Rattle.pv_network.specs.declared.event.TheConstants.{MAX_CENTRES};
     ghost use Rattle.pv_network.specs.Link as Spec;
 
     ghost Value = { List Spec.Link };
 
-    ghost view = { λ l. Spec.links_of l.packets.items l.links.items };
+    ghost view = { λ l. Spec.links_of l.packets l.links.items };
 
-    ghost invariant = { λ l. Spec.AreWithin l.packets.items l.links.items
-        × (l.made ≡ Spec.place_count l.links.items)
-        × (length l.packets.items ≤ l.made) × (MAX_PACKETS ≤ vec_capacity l.packets) };
+    ghost invariant = { λ l. Spec.AreWithin l.packets l.links.items
+        × (length l.packets ≡ Spec.place_count l.links.items)
+        × (length l.links.items ≤ MAX_CENTRES) };
 }
 
 impl Links {
-    /// This many links on which nothing was sent.
+    /// `count` links on which nothing was sent, one for each centre.
     pub(crate) fn open(alloc: Global, count: u8) -> Result<Links, AllocError>
+        requires { count ≤ MAX_CENTRES }
         ensures { IfOk result (λ links. links ≡ replicate count new_link) }
     {
         let mut links = Vec::with_capacity(alloc, count as usize)?;
@@ -41,37 +48,45 @@ impl Links {
         }
         Ok(Links {
             links,
-            packets: Vec::with_capacity(alloc, MAX_PACKETS)?,
-            made: 0,
+            packets: Packets::open(alloc)?,
         })
     }
 
     /// Whether as many packets were made as may be.
-    #[tactic(auto, using(crate::proofs::Packets::count_of_places))]
+    #[tactic(auto, using(crate::proofs::Rows::count_of_places))]
     pub(crate) fn is_full(&self) -> bool
         ensures { result ≡ is_packets_full self.now }
     {
-        self.made >= MAX_PACKETS
+        self.packets.len() >= MAX_PACKETS
     }
 
-    /// The packet of an index that went down a link.
-    pub(crate) fn packet(&self, link: usize, index: u64) -> Option<&Packet>
+    /// What the packet of an index brings that went down a link. `None` if there is no such packet, or it brings no
+    /// record.
+    pub(crate) fn delivery(&self, link: usize, index: u64) -> Option<Delivery>
         requires { link < length self.now }
-        ensures { option_copied result ≡ slice_get (link_in self.now link).down index }
+        ensures { result ≡ delivery_in (link_in self.now link).down index }
     {
-        let place = self.links[link].place(index)?;
-        Some(&self.packets[place])
+        let place = self.links[link].down(index)?;
+        match self.packets.get(usize::from(place)) {
+            Some(Packet::Down { number, rec, .. }) => Some(Delivery { number, rec }),
+            _ => None,
+        }
     }
 
-    /// The count that the acknowledgement of an index names that went up a link.
-    pub(crate) fn count(&self, link: usize, index: u64) -> Option<u64>
+    /// How many records the packet of an index acknowledges that went up a link. `None` if there is no such packet,
+    /// or it acknowledges none.
+    pub(crate) fn heard(&self, link: usize, index: u64) -> Option<u64>
         requires { link < length self.now }
-        ensures { result ≡ slice_get (link_in self.now link).up index }
+        ensures { result ≡ heard_in (link_in self.now link).up index }
     {
-        self.links[link].count(index)
+        let place = self.links[link].up(index)?;
+        match self.packets.get(usize::from(place)) {
+            Some(Packet::DownHeard { number, .. }) => Some(number),
+            _ => None,
+        }
     }
 
-    /// The end that sends down a link hears that a centre has this many records, of this many in all.
+    /// The end that sends down a link hears that a centre has `count` records, of `front` in all.
     pub(crate) fn hear(&mut self, link: usize, front: u64, count: u64)
         requires { link < length self.old }
         ensures { self.new ≡ slice_set self.old link (heard_link (link_in self.old link) front count) }
@@ -79,46 +94,52 @@ impl Links {
         self.links[link].hear(front, count);
     }
 
-    /// The number that a link sends next, of those below this count. `None` if all of them are acknowledged.
-    pub(crate) fn next_number(&self, link: usize, count: u64) -> Option<u64>
+    /// The number that goes down a link next, of those below the front. `None` if all of them are acknowledged.
+    pub(crate) fn next_number(&self, link: usize, front: u64) -> Option<u64>
         requires { link < length self.now }
-        ensures { result ≡ number_to_send (link_in self.now link).sending count }
+        ensures { result ≡ number_to_give (link_in self.now link).sending front }
     {
-        self.links[link].next_number(count)
+        self.links[link].next_number(front)
     }
 
-    /// Packs a record on a link, and returns the packet's index.
-    #[tactic(auto, using(crate::proofs::Packets::count_of_places))]
-    pub(crate) fn pack(&mut self, link: usize, number: u64, edit: &Record) -> u64
+    /// Sends a record down a link in a packet, under the number that the end gives, and returns the packet's index.
+    #[tactic(auto, using(crate::proofs::Rows::count_of_places))]
+    pub(crate) fn pack(&mut self, link: usize, front: u64, number: u64, rec: DownRecord) -> u64
         requires there { link < length self.old }
         requires room { is_packets_full self.old ≡ false }
-        requires next { number + 1 < 2 ^ 64 }
         ensures index { result ≡ length (link_in self.old link).down }
         ensures packed { self.new
-            ≡ slice_set self.old link (with_packet (link_in self.old link) number edit.now) }
+            ≡ slice_set self.old link (with_packet (link_in self.old link) front (Down link number rec)) }
     {
-        prove!(self.made < MAX_PACKETS);
-        let index = self.links[link].pack(number, self.packets.len());
-        self.packets.push_reserved(Packet {
+        let place = self.packets.len() as u16;
+        let index = self.links[link].send_down(front, place);
+        let packet = Packet::Down {
+            centre: link as u8,
             number,
-            edit: *edit,
-        });
-        self.made += 1;
+            rec,
+        };
+        packet.within();
+        self.packets.push(&packet);
         index
     }
 
-    /// Sends an acknowledgement of this many records up a link, and returns its index.
-    #[tactic(auto, using(crate::proofs::Packets::count_of_places))]
+    /// Sends an acknowledgement of `count` records up a link, and returns its index.
+    #[tactic(auto, using(crate::proofs::Rows::count_of_places))]
     pub(crate) fn acknowledge(&mut self, link: usize, count: u64) -> u64
         requires there { link < length self.old }
         requires room { is_packets_full self.old ≡ false }
         ensures index { result ≡ length (link_in self.old link).up }
         ensures made { self.new ≡ slice_set self.old link
-            (with_acknowledgement (link_in self.old link) count) }
+            (with_acknowledgement (link_in self.old link) link count) }
     {
-        prove!(self.made < MAX_PACKETS);
-        let index = self.links[link].acknowledge(count);
-        self.made += 1;
+        let place = self.packets.len() as u16;
+        let index = self.links[link].send_up(place);
+        let packet = Packet::DownHeard {
+            centre: link as u8,
+            number: count,
+        };
+        packet.within();
+        self.packets.push(&packet);
         index
     }
 }

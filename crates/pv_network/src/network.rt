@@ -19,7 +19,7 @@ use crate::outcome::{Outcome, Turn};
 use crate::round::Round;
 use crate::verdict::{responses, store};
 use pv_editor::{EditStep, EditorSeat, closing_text, reply_text};
-use pv_edits::{EditWish, OPERATOR};
+use pv_edits::{DownRecord, EditWish, OPERATOR};
 use pv_frame::{FIRST_ROW, Frame};
 use pv_outside::Limits;
 use pv_page::{AccountNo, FrameName};
@@ -206,13 +206,16 @@ impl Network {
         if self.links.is_full() {
             return Outcome::PacketsFull;
         }
-        let Some(number) = self.links.next_number(centre, self.update.front()) else {
+        let front = self.update.front();
+        let Some(number) = self.links.next_number(centre, front) else {
             return Outcome::Idle;
         };
         let Some(edit) = self.update.rec_at(number) else {
             return Outcome::Idle;
         };
-        let index = self.links.pack(centre, number, edit);
+        let index = self
+            .links
+            .pack(centre, front, number, DownRecord::Whole(*edit));
         Outcome::SentRecord { index, number }
     }
 
@@ -222,13 +225,16 @@ impl Network {
         ensures performs { Performs self.old self.new result (λ w. step_of_deliver w centre index) }
         ensures centres { length self.new.centres ≡ length self.old.centres }
     {
-        let Some(packet) = self.links.packet(centre, index) else {
+        let Some(delivery) = self.links.delivery(centre, index) else {
             return Outcome::NoPacket;
         };
-        let number = packet.number;
+        let Some(edit) = delivery.record() else {
+            return Outcome::NoPacket;
+        };
+        let number = delivery.number;
         match self.centres[centre].arrival(number) {
             Arrival::Taken => {
-                self.centres[centre].take(&packet.edit);
+                self.centres[centre].take(edit);
                 let ack = self.acknowledge(centre);
                 Outcome::Taken { number, ack }
             }
@@ -253,7 +259,7 @@ impl Network {
         ensures performs { Performs self.old self.new result (λ w. step_of_back w centre index) }
         ensures centres { length self.new.centres ≡ length self.old.centres }
     {
-        let Some(number) = self.links.count(centre, index) else {
+        let Some(number) = self.links.heard(centre, index) else {
             return Outcome::NoPacket;
         };
         self.links.hear(centre, self.update.front(), number);

@@ -16,7 +16,7 @@ use Rattle.pv_edits.specs.declared.down.DownRecord.TheVariants.{Whole, Blank}
 use Rattle.pv_edits.specs.declared.down.TheConstants.{BLANK_TAG}
 use Rattle.pv_edits.proofs.CallerLemmas.{Reads-record, length-item, length-down}
 use Rattle.pv_packet.specs.Packet.{IsPacket, packet_bytes}
-use Rattle.pv_packet.specs.Reading.{down_in, centre_and_number, packet_in}
+use Rattle.pv_packet.specs.Reading.{down_of_bytes, centre_and_number, packet_of_bytes}
 use Rattle.pv_packet.specs.declared.head.TheConstants.{PACKET_BYTES}
 use Rattle.pv_packet.specs.declared.packet.Packet.{Packet}
 use Rattle.pv_packet.specs.declared.packet.Packet.TheVariants.{Down, Up, DownHeard, UpHeard}
@@ -36,7 +36,7 @@ record_read edit is =
     ap (whole record_at) (sym (append-nil (record_tag edit ∷ record_body edit))) ∙ rw (Reads-record.again edit [] refl is) refl
 
 -- what goes down
-down_read : (down : DownRecord) → IsDown down → down_in (down_bytes down) ≡ Some down
+down_read : (down : DownRecord) → IsDown down → down_of_bytes (down_bytes down) ≡ Some down
 unfolding down_bytes
 down_read Blank is = refl
 down_read (Whole edit) is = rw (not_blank edit, record_read edit is) refl
@@ -52,8 +52,8 @@ head_read centre number rest known wide =
     (Reads-within 0 LAST_CENTRE (lit< tt) Reads-byte & Reads-eight).again (centre, number) rest tt ((omega arith, known), wide)
 
 -- a packet
-pub packet_read : (packet : Packet) → IsPacket packet → packet_in (packet_bytes packet) ≡ Some packet
-unfolding packet_in packet_bytes
+pub packet_read : (packet : Packet) → IsPacket packet → packet_of_bytes (packet_bytes packet) ≡ Some packet
+unfolding packet_of_bytes packet_bytes
 packet_read (Down centre number rec) is = rw (head_read centre number (down_bytes rec) is.0.known is.0.wide, down_read rec is.1) refl
 packet_read (Up centre number item) is = rw (head_read centre number (item_bytes item) is.0.known is.0.wide, item_read item is.1) refl
 packet_read (DownHeard centre number) is = rw (head_read centre number [] is.known is.wide) refl

@@ -12,23 +12,23 @@ use Rattle.pv_packet.specs.declared.packet.Packet.{Packet}
 use Rattle.pv_packet.specs.declared.packet.Packet.TheVariants.{Down, Up, DownHeard, UpHeard}
 
 -- the down record that all of the bytes spell
-abbrev pub down_in : List ℕ → Option DownRecord
-down_in [] = None
-down_in (tag ∷ rest) = if tag == BLANK_TAG && length rest == 0 then Some Blank else option_map Whole (whole record_at (tag ∷ rest))
+abbrev pub down_of_bytes : List ℕ → Option DownRecord
+down_of_bytes [] = None
+down_of_bytes (tag ∷ rest) = if tag == BLANK_TAG && length rest == 0 then Some Blank else option_map Whole (whole record_at (tag ∷ rest))
 
 -- the centre and the number of a packet, after its kind
 abbrev pub centre_and_number : Parser (ℕ × ℕ)
 centre_and_number = within 0 LAST_CENTRE byte_at ⊗ number_at w64
 
 -- the packet of a kind with this centre and number, by the bytes that follow them
-abbrev pub carried_in : ℕ → ℕ → ℕ → List ℕ → Option Packet
-carried_in (suc zero) centre number bytes = option_map (Down centre number) (down_in bytes)
-carried_in (suc (suc zero)) centre number bytes = option_map (Up centre number) (whole item_at bytes)
-carried_in (suc (suc (suc zero))) centre number [] = Some (DownHeard centre number)
-carried_in (suc (suc (suc (suc zero)))) centre number [] = Some (UpHeard centre number)
-carried_in _ centre number bytes = None
+abbrev pub carried_packet : ℕ → ℕ → ℕ → List ℕ → Option Packet
+carried_packet (suc zero) centre number bytes = option_map (Down centre number) (down_of_bytes bytes)
+carried_packet (suc (suc zero)) centre number bytes = option_map (Up centre number) (whole item_at bytes)
+carried_packet (suc (suc (suc zero))) centre number [] = Some (DownHeard centre number)
+carried_packet (suc (suc (suc (suc zero)))) centre number [] = Some (UpHeard centre number)
+carried_packet _ centre number bytes = None
 
 -- the packet that all of the bytes spell, if they spell one
-unfoldable pub packet_in : List ℕ → Option Packet
-packet_in bytes =
-    byte_at bytes >>= λ kind. centre_and_number kind.1 >>= λ head. carried_in kind.0 head.0.0 head.0.1 head.1
+unfoldable pub packet_of_bytes : List ℕ → Option Packet
+packet_of_bytes bytes =
+    byte_at bytes >>= λ kind. centre_and_number kind.1 >>= λ head. carried_packet kind.0 head.0.0 head.0.1 head.1

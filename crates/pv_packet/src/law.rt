@@ -3,7 +3,7 @@
 ghost use Rattle.std.specs.Prelude.{◌≡◌, ◌≤◌, length, Some};
 ghost use Rattle.pv_fields.specs.Reading.{ReadsBack};
 ghost use Rattle.pv_packet.specs.Packet.{IsPacket, packet_bytes};
-ghost use Rattle.pv_packet.specs.Reading.{packet_in};
+ghost use Rattle.pv_packet.specs.Reading.{packet_of_bytes};
 ghost use Rattle.pv_packet.specs.declared.head.TheConstants.{PACKET_BYTES};
 ghost use Rattle.pv_packet.specs.declared.packet.Packet.{Packet};
 
@@ -20,6 +20,6 @@ pub fn no_packet_begins_another()
 
 /// A law: the spelling of a packet is read as that packet, and has at most [`PACKET_BYTES`](crate::PACKET_BYTES) bytes.
 pub fn a_packet_is_read_as_it_is_spelled()
-    ensures read { (packet : Packet) → IsPacket packet → packet_in (packet_bytes packet) ≡ Some packet }
+    ensures read { (packet : Packet) → IsPacket packet → packet_of_bytes (packet_bytes packet) ≡ Some packet }
     ensures size { (packet : Packet) → IsPacket packet → length (packet_bytes packet) ≤ PACKET_BYTES }
 {}

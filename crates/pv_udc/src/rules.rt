@@ -1,4 +1,5 @@
-ghost use Rattle.std.specs.Prelude.{◌≡◌, ◌≤◌, length, take, IsTrue};
+ghost use Rattle.std.specs.Prelude.{◌≡◌, ◌≤◌, ◌<◌, ◌↔◌, length, take, IsTrue, IsOk, IsErr, OnOk, OnErr};
+ghost use Rattle.pv_fields.specs.Out.{room_of, Appends};
 ghost use Rattle.pv_edits.specs.Record.{IsRecord, record_bytes};
 ghost use Rattle.pv_edits.specs.Room.{has_room};
 ghost use Rattle.pv_udc.specs.EditList.{with_record};
@@ -87,14 +88,37 @@ impl Rules for UdcRules {
     }
 
     fn encode(edit: &Record, out: &mut Out) -> Result<(), NoRoom> {
-        let mut body = [0; MAX_BODY];
-        let size = spell(edit, &mut body);
-        out.run(&body[..size])
+        if out.room() < MAX_BODY {
+            return encode_apart(edit, out);
+        }
+        encode_straight(edit, out)
     }
 
     fn decode(bytes: &[u8]) -> Option<Record> {
         Record::decode(bytes)
     }
+}
+
+/// Appends the spelling of a record where there is room for any.
+fn encode_straight(edit: &Record, out: &mut Out) -> Result<(), NoRoom>
+    requires within { IsRecord edit.now }
+    requires room { MAX_BODY ≤ room_of out.old }
+    ensures ok { IsOk result }
+    ensures appends { Appends out.old out.new (record_bytes edit.now) }
+{
+    edit.encode(out)
+}
+
+/// Appends the spelling of a record, or nothing if it does not fit: it is spelled apart first.
+fn encode_apart(edit: &Record, out: &mut Out) -> Result<(), NoRoom>
+    requires within { IsRecord edit.now }
+    ensures ok { OnOk result (Appends out.old out.new (record_bytes edit.now)) }
+    ensures refused { IsErr result ↔ (room_of out.old < length (record_bytes edit.now)) }
+    ensures err { OnErr result (out.new ≡ out.old) }
+{
+    let mut body = [0; MAX_BODY];
+    let size = spell(edit, &mut body);
+    out.run(&body[..size])
 }
 
 /// Puts the spelling of a record at the beginning, and returns how many bytes it has.

@@ -10,5 +10,5 @@ all_new (suc n) = ap (λ ls. new_link ∷ ls) (all_new n)
 
 pub returns : goal.returns
 returns c =
-    rw (c.in_ok-with_capacity.ensures.items, c.loop.invariant)
+    rw (c.in_ok-open-2.ensures, c.loop.invariant)
     (all_new c.loop.counter ∙ ap (λ n. replicate n new_link) (omega (arith, c.loop-test.false, c.loop.auto.counter-end)))

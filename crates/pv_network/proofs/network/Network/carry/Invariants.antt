@@ -1,5 +1,5 @@
 use Rattle.std.proofs.Common.{◌≡◌, ◌+◌, ◌≤◌, length}
-use Rattle.pv_network.specs.declared.packet.TheConstants.{MAX_PACKETS}
+use Rattle.pv_network.specs.declared.packets.TheConstants.{MAX_PACKETS}
 use Rattle.pv_network.specs.Standing.{StandsFor}
 use Rattle.pv_network.specs.Traffic.{packet_room}
 use Rattle.pv_network.specs.World.{World}

@@ -19,8 +19,8 @@ sent : (c : After-pack-index) (w : World) → StandsFor (before c) w
     → StandsFor (record (before c) { links = c.pack-index.new.self }) (step_of_send w c.args.centre).0 ×
     (SentRecord c.pack-index.result c.in-Some.number ≡ (step_of_send w c.args.centre).1)
 sent c w stands =
-    sends _ w stands c.args.centre c.pack-index.new.self c.front.result c.in-Some.number c.pack-index.result c.in-Some-rec_at.edit.now
-    (sym c.if-is_full.ensures) c.front.ensures.value (sym c.in-Some.ensures)
+    sends _ w stands c.args.centre c.pack-index.new.self c.front-front.result c.in-Some.number c.pack-index.result c.in-Some-rec_at.edit.now
+    (sym c.if-is_full.ensures) c.front-front.ensures.value (sym c.in-Some.ensures)
     (sym (rw stands.update at c.in-Some-rec_at.ensures)) c.pack-index.ensures.index c.pack-index.ensures.packed
 
 pub invariant_of-self : goal.invariant_of-self
