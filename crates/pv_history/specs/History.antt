@@ -2,6 +2,10 @@
 use Rattle.std.specs.Prelude.{ℕ, ◌≡◌, ◌==◌, true, List, [], ◌∷◌, ◌++◌, length, MatchBool}
 use Rattle.logbook.specs.Pages.{Cell, Step, View, Book, Named}
 
+-- the book that has a history, by its names
+abbrev pub HistoryBook : Type 0
+HistoryBook = Book
+
 -- The first word of the book is the length of the history. A book has two words; the second stays 0.
 abbrev pub IsKept : {E : Type 0} → List Cell → List E → Type 0
 IsKept cells history = cells ≡ (length history, true) ∷ (0, true) ∷ []

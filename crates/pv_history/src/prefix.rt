@@ -111,7 +111,9 @@ impl<E, N: HistoryName> Prefix<E, N> {
         requires room { length self.old + 1 < 2 ^ 64 }
         ensures { MatchBool result (self.new ≡ self.old ++ entry.now ∷ []) (IsPrefix self.old self.new) }
     {
-        let mut offer: Offer<E, u64, IsLength<E>, NoGain> = self.seen.plain::<NoGain, E, Add>(entry);
+        let mut offer: Offer<E, u64, IsLength<E>, NoGain> = self
+            .seen
+            .plain::<NoGain, E, Add>(entry);
         let mut pen = self.seen.no_pen();
         let count = self.count;
         let found = appender

@@ -1,0 +1,4 @@
+mod Asks
+mod Desks
+mod Lists
+mod States

@@ -1,0 +1,217 @@
+ghost use Rattle.std.specs.Prelude.{◌≡◌, ◌<◌, ◌≤◌, length, vec_len, [], None, IfOk, IfErr, OnOk};
+ghost use mathlib.Core.List.{IsPrefix};
+ghost use Rattle.pv_node.specs.Standing.{StandsFor};
+ghost use Rattle.pv_live.specs.Pass.{new_passes};
+ghost use Rattle.pv_live.specs.Asking.{HasAsked, HasFailed};
+ghost use Rattle.pv_live.specs.Closing.{IsClosed};
+
+use crate::copies::{Change, Published};
+use crate::desk::{Closed, Desk};
+use crate::entry::Entry;
+use crate::fault::LiveFault;
+use crate::known::Known;
+use crate::pass::Pass;
+use crate::run::{FailedLedger, Run, ToldLedger};
+use left_right::{Absorb, WriteHandle};
+use pv_history::NewHistory;
+use pv_node::{Node, Rules, Told};
+use pv_outside::Disk;
+use std::alloc::{AllocError, Global};
+use std::marker::Model;
+use std::sync::ledger::{Blank, Share};
+use std::sync::{Mutex, Wait};
+
+/// How many passes a node can have.
+pub const MAX_PASSES: usize = 64;
+
+/// A node under a lock. [`Live`] says what the last two parameters are.
+#[derive(Drop)]
+pub struct LiveNode<
+    R: Rules,
+    D: Disk,
+    N: Run<R::Rec>,
+    H: Wait + Drop,
+    T: Absorb<O, State = [Entry<R::Rec>; 0]> + Drop,
+    O: Drop,
+> {
+    desk: Mutex<Desk<R, D, N, H, T, O>>,
+}
+
+/// A node of these rules over this disk, in the run of this name, that threads share. `H` is the runtime
+/// that its writer waits by.
+pub type Live<R, D, N, H> = LiveNode<R, D, N, H, Published<R, N>, Change<R, N>>;
+
+/// What a run is named by: its empty history and its two ledgers. It takes no memory.
+#[derive(Drop)]
+pub struct Start<T> {
+    history: NewHistory<Entry<T>>,
+    told: Blank,
+    failed: Blank,
+}
+
+impl<T> Model for Start<T> {
+    ghost use Rattle.std.specs.Prelude.{◌≡◌};
+    ghost use Rattle.pv_live.specs.Opening.{RunName};
+
+    ghost Value = { RunName };
+
+    ghost view = { λ s. record {
+      book = s.history;
+      told = s.told.name;
+      failed = s.failed.name;
+      passes = s.told.parts;
+    } };
+
+    ghost invariant = { λ s. s.failed.parts ≡ s.told.parts };
+}
+
+impl<T> Start<T> {
+    /// What a run of this many passes is named by.
+    pub fn new(passes: u64) -> Start<T>
+        ensures { result.passes ≡ passes }
+    {
+        Start {
+            history: NewHistory::new(),
+            told: Blank::new(passes),
+            failed: Blank::new(passes),
+        }
+    }
+}
+
+/// Makes the passes, which know the opening.
+fn make_passes<R: Rules, N: Run<R::Rec>, H: Wait + Drop>(
+    alloc: Global,
+    writer: &WriteHandle<Published<R, N>, Change<R, N>, H>,
+    known: &Known<R::Rec, N>,
+    told: &mut Share<ToldLedger<R::Rec, N>>,
+    failed: &mut Share<FailedLedger<R::Rec, N>>,
+    passes: usize,
+) -> Result<Vec<Pass<R, N>>, AllocError>
+    requires known { known.now ≡ [] }
+    requires told { (told.old.parts ≡ passes) × (told.old.amount ≡ 0) }
+    requires failed { (failed.old.parts ≡ passes) × (failed.old.amount ≡ 0) }
+    ensures { IfOk result (λ all. all.items ≡ new_passes passes) }
+{
+    let mut all = Vec::with_capacity(alloc, passes)?;
+    for number in 0..passes {
+        let reader = writer.handle()?;
+        all.push(Pass {
+            reader,
+            number: number as u64,
+            known: known.copy(),
+            told: told.split_off(1, 0),
+            failed: failed.split_off(1, 0),
+            looks: 0,
+        })?;
+    }
+    Ok(all)
+}
+
+/// Shares a node, of which no record is in hand, among this many passes. The run is named by what it starts
+/// with. If no memory is found the node is dropped, and its disk keeps what it held.
+pub fn open_live<R: Rules, D: Disk + Drop, N: Run<R::Rec>, H: Wait + Drop>(
+    rt: H,
+    alloc: Global,
+    node: Node<R, D>,
+    passes: usize,
+    start: Start<R::Rec>,
+) -> Result<(Live<R, D, N, H>, Vec<Pass<R, N>>), AllocError>
+    requires stands { StandsFor ⟦<R as Rules>⟧ D.Reports node N.opening }
+    requires at_rest { node.hand ≡ None }
+    requires limits { R.limits_of node.state ≡ N.limits }
+    requires passes { (passes ≡ N.passes) × (0 < passes) × (passes ≤ MAX_PASSES) }
+    requires start { start ≡ record {
+      book = N.book;
+      told = N.told;
+      failed = N.failed;
+      passes = N.passes;
+    } }
+    ensures { IfOk result (λ r. r.1.items ≡ new_passes passes) }
+{
+    let Start {
+        history,
+        told,
+        failed,
+    } = start;
+    let (appender, entries) = history.named::<N>();
+    let known = Known::opening(entries, node.count());
+    let first = Published::new(R::copy(alloc, node.state())?, known.copy());
+    let second = Published::new(R::copy(alloc, node.state())?, known.copy());
+    let writer: WriteHandle<Published<R, N>, Change<R, N>, H> = WriteHandle::new(
+        alloc, rt, first, second, passes,
+    )?;
+    let (told, mut all_told) = told.open::<ToldLedger<R::Rec, N>>();
+    let (failed, mut all_failed) = failed.open::<FailedLedger<R::Rec, N>>();
+    let no_told = all_told.empty();
+    let no_failed = all_failed.empty();
+    let all = make_passes(
+        alloc,
+        &writer,
+        &known,
+        &mut all_told,
+        &mut all_failed,
+        passes,
+    )?;
+    let desk = Desk {
+        node,
+        appender,
+        known,
+        writer,
+        kept: None,
+        maker: 0,
+        told,
+        failed,
+        no_told,
+        no_failed,
+    };
+    let live = LiveNode {
+        desk: Mutex::new(desk),
+    };
+    Ok((live, all))
+}
+
+impl<R: Rules, D: Disk, N: Run<R::Rec>, H: Wait + Drop> LiveNode<
+    R,
+    D,
+    N,
+    H,
+    Published<R, N>,
+    Change<R, N>,
+> {
+    /// Answers a request of a pass of this node. One thread at a time asks, the others wait. On success the
+    /// pass has seen all records that the reply stands on.
+    pub fn ask<W: Wait>(
+        &self,
+        rt: &W,
+        pass: &mut Pass<R, N>,
+        request: &R::Request,
+    ) -> Result<Told<R::Reply>, LiveFault<D>>
+        requires valid { R.is_request request.now }
+
+        // The reply is what is decided at the records that the pass has seen, or, if one was stored, before the last.
+        ensures told { IfOk result (λ told. HasAsked ⟦<R as Rules>⟧ N.limits N.opening request.now
+            pass.old pass.new told) }
+        ensures seen { IsPrefix pass.old.seen pass.new.seen }
+        ensures same { pass.new ≡ record pass.old {
+          seen = pass.new.seen;
+          told = pass.new.told;
+          failed = pass.new.failed;
+        } }
+        ensures not_failed { OnOk result (pass.new.failed ≡ pass.old.failed) }
+
+        // Each fault has its cause.
+        ensures failed { IfErr result (λ fault. HasFailed ⟦<R as Rules>⟧ N.limits N.opening request.now
+            pass.old pass.new fault) }
+    {
+        self.desk.lock(rt).ask(rt, pass, request)
+    }
+
+    /// Gives the node back. These are all its passes.
+    pub fn close<W: Wait>(self, rt: &W, passes: Vec<Pass<R, N>>) -> Closed<R, D>
+        requires { vec_len passes ≡ N.passes }
+        ensures { IsClosed ⟦<R as Rules>⟧ D.Reports N.limits N.opening passes.items result.node result.asked }
+    {
+        let LiveNode { desk } = self;
+        desk.into_inner().close(rt, passes)
+    }
+}

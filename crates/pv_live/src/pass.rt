@@ -1,0 +1,124 @@
+ghost use Rattle.std.specs.Prelude.{◌≡◌, ◌+◌, ◌-◌, ◌^◌, min, length as count, IfOk, OnOk, OnErr, IfSome};
+ghost use Rattle.std.specs.Fn.{FnOnceReturnsAt};
+ghost use mathlib.Core.List.{IsPrefix};
+ghost use Rattle.pv_live.specs.Entries.{with_opening};
+ghost use Rattle.pv_live.specs.Run.{IsStateOf};
+
+use crate::copies::Published;
+use crate::known::Known;
+use crate::run::{FailedLedger, Run, ToldLedger};
+use left_right::ReadHandle;
+use pv_node::Rules;
+use std::marker::Model;
+use std::sync::ledger::Share;
+
+/// A look was not let in by `left_right`. Nothing has changed, and it may be made again.
+#[derive(Debug, Drop)]
+pub struct NotEntered;
+
+/// One thread's right to look at a node, and to ask it. Contracts see its number, what it has seen, and its
+/// counts.
+#[derive(Drop)]
+pub struct Pass<R: Rules, N: Run<R::Rec>> {
+    pub(crate) reader: ReadHandle<Published<R, N>>,
+    pub(crate) number: u64,
+    pub(crate) known: Known<R::Rec, N>,
+    pub(crate) told: Share<ToldLedger<R::Rec, N>>,
+    pub(crate) failed: Share<FailedLedger<R::Rec, N>>,
+    pub(crate) looks: u64,
+}
+
+impl<R: Rules, N: Run<R::Rec>> Model for Pass<R, N> {
+    ghost use Rattle.std.specs.Prelude.{◌≡◌};
+    ghost use Rattle.pv_live.specs.Pass.{Standing};
+
+    ghost Value = { Standing R.Rec };
+
+    ghost view = { λ p. record {
+      number = p.number;
+      seen = p.known;
+      told = p.told.amount;
+      failed = p.failed.amount;
+      looks = p.looks;
+    } };
+
+    ghost invariant = { λ p. (p.told.parts ≡ 1) × (p.failed.parts ≡ 1) };
+}
+
+/// What f returns on the copy, and the records that this stands for; `None` exactly if it stands for fewer
+/// than are known.
+fn read_copy<R: Rules, N: Run<R::Rec>, T, F: FnOnce(&R::State) -> T>(
+    copy: &Published<R, N>,
+    known: &Known<R::Rec, N>,
+    f: F,
+) -> Option<(T, Known<R::Rec, N>)>
+    requires { F.IsAlwaysCallable f }
+    ensures later { IfSome result (λ r. IsPrefix known.now r.1) }
+    ensures answer { IfSome result (λ r. (state : R.State)
+        × IsStateOf ⟦<R as Rules>⟧ N.limits state (with_opening N.opening r.1)
+        × FnOnceReturnsAt F.FnOnce f state r.0) }
+{
+    let now = copy.known.copy();
+    if !known.is_prefix_of(&now) {
+        return None;
+    }
+    Some((f(&copy.state), now))
+}
+
+/// The same of the copy that is published.
+fn read_published<R: Rules, N: Run<R::Rec>, T, F: FnOnce(&R::State) -> T>(
+    reader: &mut ReadHandle<Published<R, N>>,
+    known: &Known<R::Rec, N>,
+    f: F,
+) -> Option<(T, Known<R::Rec, N>)>
+    requires { F.IsAlwaysCallable f }
+    ensures later { IfSome result (λ r. IsPrefix known.now r.1) }
+    ensures answer { IfSome result (λ r. (state : R.State)
+        × IsStateOf ⟦<R as Rules>⟧ N.limits state (with_opening N.opening r.1)
+        × FnOnceReturnsAt F.FnOnce f state r.0) }
+{
+    let guard = reader.enter()?;
+    read_copy(&guard, known, f)
+}
+
+impl<R: Rules, N: Run<R::Rec>> Pass<R, N> {
+    /// How many records it has seen, with those of the opening.
+    pub fn length(&self) -> u64
+        ensures { result ≡ count N.opening + count self.now.seen }
+    {
+        self.known.length()
+    }
+
+    /// How many of its looks were answered. At the end of its type the count stands still.
+    pub fn looks(&self) -> u64
+        ensures { result ≡ self.now.looks }
+    {
+        self.looks
+    }
+
+    /// What f returns on a published state, which is no older than what this pass has seen or was told. It is
+    /// handed no runtime, so it takes no lock and never waits.
+    pub fn look<T, F: FnOnce(&R::State) -> T>(&mut self, f: F) -> Result<T, NotEntered>
+        requires { F.IsAlwaysCallable f }
+
+        // f was called on a state of all that the pass has seen now, which is what it had seen and perhaps more.
+        ensures seen { IsPrefix self.old.seen self.new.seen }
+        ensures answer { IfOk result (λ t. (state : R.State)
+            × IsStateOf ⟦<R as Rules>⟧ N.limits state (with_opening N.opening self.new.seen)
+            × FnOnceReturnsAt F.FnOnce f state t) }
+        ensures looks { OnOk result (self.new ≡ record self.old {
+          seen = self.new.seen;
+          looks = min (self.old.looks + 1) (2 ^ 64 - 1);
+        }) }
+        ensures refused { OnErr result (self.new ≡ self.old) }
+    {
+        match read_published(&mut self.reader, &self.known, f) {
+            None => Err(NotEntered),
+            Some((answer, now)) => {
+                self.known = now;
+                self.looks = self.looks.saturating_add(1);
+                Ok(answer)
+            }
+        }
+    }
+}
