@@ -4,4 +4,5 @@ mod Facts
 mod ImageLemmas
 mod Moments
 mod PastLemmas
+mod PipeLemmas
 mod Writes

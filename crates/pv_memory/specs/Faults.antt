@@ -1,17 +1,13 @@
 -- Which calls of an object in memory fail, and how often one has.
-use Rattle.std.specs.Prelude.{ℕ, ◌+◌, ◌==◌, Bool, List, min, if◌then◌else◌}
+use Rattle.std.specs.Prelude.{ℕ, ◌==◌, Bool, List, if◌then◌else◌}
 use Rattle.std.specs.List.{list_any}
-use Rattle.pv_outside.specs.declared.failed.TheConstants.{COUNT_END}
+use Rattle.pv_outside.specs.Counts.{one_more}
 
 -- the number of the next call, the numbers of the calls that fail, and how many have failed
 pub record Plan : Type 0 where
   pub call : ℕ
   pub failing : List ℕ
   pub faults : ℕ
-
--- one more, up to the end of the count
-abbrev pub one_more : ℕ → ℕ
-one_more n = min (n + 1) COUNT_END
 
 -- whether the next call fails
 abbrev pub fails_now : Plan → Bool
