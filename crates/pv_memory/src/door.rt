@@ -116,7 +116,8 @@ impl Door for MemDoor {
     fn finish(&mut self, line: MemLine)
         requires { length self.old.finished < self.old.accepted }
         ensures finished { length self.new.finished ≡ one_more (length self.old.finished) }
-        ensures lines { Some self.new.finished ≡ option_map (λ before. before ++ line ∷ []) (Some self.old.finished) }
+        ensures lines { Some self.new.finished
+            ≡ option_map (λ before. before ++ line ∷ []) (Some self.old.finished) }
 
         // No line is accepted by this.
         ensures accepted { self.new.accepted ≡ self.old.accepted }

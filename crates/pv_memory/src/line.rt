@@ -55,7 +55,8 @@ impl Source for MemLine {
         ensures failed { IsErr result → Rose self.old.source.plan.faults self.new.source.plan.faults }
 
         // Its source alone is read, and fails at the calls that were named.
-        ensures exact { self.new ≡ record self.old { source = source_after_read self.old.source (length into.old) } }
+        ensures exact { self.new
+            ≡ record self.old { source = source_after_read self.old.source (length into.old) } }
         ensures fails { is_err result ≡ fails_now self.old.source.plan }
         ensures kept { OnErr result (into.new ≡ into.old) }
 

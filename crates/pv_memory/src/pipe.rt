@@ -120,8 +120,11 @@ impl Link for Pipe {
         ensures account { CountsFaults self.old.plan.faults self.new.plan.faults result }
         ensures given { self.new.given ≡ successes_after result self.old.given }
         ensures taken { self.new.taken ≡ self.old.taken }
+
+        // It holds no packet but this one and those that it held.
         ensures packets { GainsPacket packet.now result (Some self.old.packets) (Some self.new.packets) }
-        ensures only { (held : List ℕ) → Contains self.new.packets held → Contains self.old.packets held ⊎ (held ≡ packet.now) }
+        ensures only { (held : List ℕ) → Contains self.new.packets held
+            → Contains self.old.packets held ⊎ (held ≡ packet.now) }
 
         // It fails exactly at the calls that were named, and a full pipe loses its oldest packet.
         ensures exact { self.new ≡ pipe_after_give packet.now self.old }
@@ -143,7 +146,8 @@ impl Link for Pipe {
         ensures packets { HandsOut into.new result (Some self.old.packets) (Some self.new.packets) }
 
         // What it hands out is a packet that it held.
-        ensures held { IfOk result (λ length. IfSome length (λ n. Contains self.old.packets (take n into.new))) }
+        ensures held { IfOk result (λ length. IfSome length (λ n.
+            Contains self.old.packets (take n into.new))) }
         ensures only { (held : List ℕ) → Contains self.new.packets held → Contains self.old.packets held }
 
         // It fails exactly at the calls that were named.
