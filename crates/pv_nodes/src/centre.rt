@@ -1,7 +1,7 @@
 ghost use Rattle.std.specs.Prelude.{◌≡◌, ◌<◌, ◌≤◌, [], IfOk, OnOk, OnErr};
 ghost use Rattle.pv_memory.specs.Medium.{image_of};
 ghost use Rattle.pv_irc.specs.Deciding.{IsCentreRequest, centre_judgement};
-ghost use Rattle.pv_irc.specs.History.{centre_state_of, record_count};
+ghost use Rattle.pv_irc.specs.History.{centre_state_of, state_count};
 ghost use Rattle.pv_nodes.specs.Nodes.{told_of, stored_of};
 ghost use Rattle.pv_nodes.specs.OnDisk.{CentreIsOnDisk, centre_with};
 ghost use Rattle.pv_nodes.specs.AnyNode.{on_disk};
@@ -75,10 +75,10 @@ impl CentreNode {
     /// of a node that is full. Takes no memory.
     pub fn ask(&mut self, request: &IrcRequest) -> Result<Told<IrcReply>, u64>
         requires { IsCentreRequest request.now }
-        ensures told { result ≡ told_of self.old.state.limits.records (record_count self.old.state)
+        ensures told { result ≡ told_of self.old.state.limits.records (state_count self.old.state)
             (centre_judgement self.old.state request.now) }
         ensures state { self.new.state ≡ centre_with self.old.state
-            (stored_of self.old.state.limits.records (record_count self.old.state)
+            (stored_of self.old.state.limits.records (state_count self.old.state)
             (centre_judgement self.old.state request.now)) }
         ensures on_disk { CentreIsOnDisk self.new }
     {
@@ -94,7 +94,7 @@ impl CentreNode {
 
     /// How many records it has.
     pub fn count(&self) -> u64
-        ensures count { result ≡ record_count self.now.state }
+        ensures count { result ≡ state_count self.now.state }
         ensures within { result ≤ self.now.state.limits.records }
     {
         on_node!(&self.node, node => node.count())
@@ -126,10 +126,10 @@ fn ask_node<const C: u8>(
     request: &IrcRequest,
 ) -> Result<Told<IrcReply>, u64>
     requires { IsCentreRequest request.now }
-    ensures told { result ≡ told_of node.old.state.limits.records (record_count node.old.state)
+    ensures told { result ≡ told_of node.old.state.limits.records (state_count node.old.state)
         (centre_judgement node.old.state request.now) }
     ensures state { node.new.state ≡ centre_with node.old.state
-        (stored_of node.old.state.limits.records (record_count node.old.state)
+        (stored_of node.old.state.limits.records (state_count node.old.state)
         (centre_judgement node.old.state request.now)) }
     ensures on_disk { CentreIsOnDisk (on_disk node.new) }
 {
