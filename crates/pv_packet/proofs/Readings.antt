@@ -1,5 +1,5 @@
 -- A packet's spelling is read as the packet, and has at most so many bytes.
-use Rattle.std.proofs.Common.{◌≡◌, ℕ, ◌≤◌, ◌<◌, ◌^◌, ◌&&◌, false, eqb, cond, List, [], ◌∷◌, ◌++◌, length, Option, Some, option_map, refl, sym, ap, ◌∙◌, lit<, arith, append-nil}
+use Rattle.std.proofs.Common.{◌≡◌, ℕ, ◌≤◌, ◌<◌, ◌^◌, false, eqb, List, [], ◌∷◌, ◌++◌, length, Some, refl, sym, ap, ◌∙◌, lit<, arith, append-nil}
 use Rattle.std.specs.Int.{w64, to_be_bytes}
 use Rattle.pv_fields.specs.Reading.{whole}
 use Rattle.pv_fields.proofs.Readings.{◌&◌, Reads-byte, Reads-eight, Reads-within}
