@@ -182,7 +182,7 @@ module _ (s : State) (w : World) (stands : StandsFor s w) (c : ℕ) where
       how_there : arrival_of (centre_at w c).applied (record_count (centre_at w c)) w.update.limits.records delivery.number ≡ arrival
       how_there = rw (held_there w.update here (centre_at w c) stood, count_there, stood.limits) at how
 
-      -- so is what it comes to
+      -- so is its step
       pub delivers : step_of_deliver w c index ≡ step_of_arrival w c delivery.number arrival
       delivers = rw (found_there, how_there) refl
 

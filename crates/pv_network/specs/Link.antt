@@ -42,7 +42,7 @@ sent_of edit = Whole edit
 abbrev pub packet_of : ℕ → ℕ → Record → Packet
 packet_of c number edit = Down c number (sent_of edit)
 
--- a packet goes down of the number that the end gives, of those below the front
+-- a packet goes down under the number that the end gives, if there are `front` records
 abbrev pub with_packet : Link → ℕ → Packet → Link
 with_packet link front packet = record link { down = link.down ++ packet ∷ []; sending = end_after link.sending front }
 

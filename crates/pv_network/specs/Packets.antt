@@ -27,7 +27,7 @@ pub record IsSpelled (bytes : List ℕ) (span : Span) : Type 0 where
   pub valid : IsPacket packet
   pub spelling : run_of bytes span ≡ packet_bytes packet
 
--- each span's bytes spell a packet, and there are not more bytes than so many packets can have
+-- each span's bytes spell a packet, and there are no more bytes than that many packets of the greatest size have
 pub record AreSpelled (bytes : List ℕ) (spans : List Span) : Type 0 where
   pub each : All (IsSpelled bytes) spans
   pub size : length bytes ≤ length spans * PACKET_BYTES

@@ -6,7 +6,7 @@
 //! centre, and `pv_session` has their seats. An [`Event`] happens to the
 //! network, one at a time, and an [`Outcome`] says what came of it.
 //! Packets are numbered in the order in which they were made; any of them may be delivered at any time,
-//! never, or again.
+//! never, or again. Each is kept in bytes, as `pv_packet` spells it, and decoded when it arrives.
 //!
 //! ```text
 //! let mut network = Network::open(alloc, 1, limits)?;

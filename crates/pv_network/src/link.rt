@@ -41,7 +41,7 @@ impl Link {
         })
     }
 
-    /// The number that goes down next, of those below the front. `None` if all of them are acknowledged.
+    /// The number that goes down next, if there are `front` records. `None` if all of them are acknowledged.
     pub(crate) fn next_number(&self, front: u64) -> Option<u64>
         ensures { result ≡ number_to_give self.now.sending front }
     {
@@ -70,7 +70,7 @@ impl Link {
         self.sending.acknowledged(count, front);
     }
 
-    /// Sends the packet at a place down, under the number that the end gives, and returns its index.
+    /// Sends the packet at a place down, under the number that the end gives of `front` records. Returns its index.
     pub(crate) fn send_down(&mut self, front: u64, place: u16) -> u64
         requires { length self.old.down < MAX_PACKETS }
         ensures index { result ≡ length self.old.down }

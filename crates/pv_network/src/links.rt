@@ -94,7 +94,7 @@ impl Links {
         self.links[link].hear(front, count);
     }
 
-    /// The number that goes down a link next, of those below the front. `None` if all of them are acknowledged.
+    /// The number that goes down a link next, if there are `front` records. `None` if all of them are acknowledged.
     pub(crate) fn next_number(&self, link: usize, front: u64) -> Option<u64>
         requires { link < length self.now }
         ensures { result ≡ number_to_give (link_in self.now link).sending front }
@@ -102,7 +102,8 @@ impl Links {
         self.links[link].next_number(front)
     }
 
-    /// Sends a record down a link in a packet, under the number that the end gives, and returns the packet's index.
+    /// Sends a record down a link in a packet, under the number that the end gives of `front` records. Returns the
+    /// packet's index.
     #[tactic(auto, using(crate::proofs::Rows::count_of_places))]
     pub(crate) fn pack(&mut self, link: usize, front: u64, number: u64, rec: DownRecord) -> u64
         requires there { link < length self.old }
