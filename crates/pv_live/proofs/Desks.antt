@@ -131,3 +131,8 @@ module _ {S State Request Rec Reply D : Type 0} (r : rules.Ghosts S State Reques
           reply = reply_is.0;
           judged = rw seen (old.state, node_state, reply_is.1);
         }
+
+    -- and nothing has changed
+    pub refusing_same : (F : Type 0) (new : Parts D State Rec) (count : ℕ)
+        → CarriesOut r d {F = F} (r.judgement old.state request) old new (Err (Full count)) → new ≡ old
+    refusing_same F new count carried = (carries F new (Err (Full count)) carried).same

@@ -1,4 +1,5 @@
 mod Asks
 mod Desks
+mod Growing
 mod Lists
 mod States

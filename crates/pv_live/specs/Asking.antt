@@ -1,5 +1,5 @@
 -- What an ask answers, and what it does to its pass.
-use Rattle.std.specs.Prelude.{◌≡◌, ◌⊎◌, ℕ, ◌+◌, ◌<◌, ◌≤◌, List, [], ◌∷◌, ◌++◌, length, Option, Some, None, Result, Ok, Err, MatchOption}
+use Rattle.std.specs.Prelude.{◌≡◌, ◌⊎◌, ℕ, ◌+◌, ◌<◌, ◌≤◌, List, [], ◌∷◌, ◌++◌, length, Option, Some, None, Result, Ok, Err, MatchOption, All}
 use mathlib.Core.List.{IsPrefix}
 use Rattle.pv_outside.specs.declared.limits.Limits.{Limits}
 use Rattle.pv_node.specs.declared.rules.Rules as rules
@@ -35,6 +35,18 @@ Waits {D} {State} {Rec} opening pass board place =
 abbrev pub IfKept : {D F : Type 0} → LiveFault D F → (ℕ → Type 0) → Type 0
 IfKept (Memory (Some place)) P = P place
 IfKept _ P = Unit {0}
+
+-- the entry is for this pass; or its record was in hand, and it is for the pass whose ask made it
+abbrev pub IsFor : {D State Rec : Type 0} → Board D State Rec → ℕ → Entry Rec → Type 0
+IsFor board number entry = (entry.pass ≡ number) ⊎ ((board.node.hand ≡ Some entry.rec) × (entry.pass ≡ board.maker))
+
+-- The history has grown by entries for this pass, and perhaps by the record that was in hand. What is in hand now was so before, or is
+-- for this pass.
+pub record Grows {D State Rec : Type 0} (old new : Board D State Rec) (number : ℕ) : Type 0 where
+  pub added : List (Entry Rec)
+  pub log : new.log ≡ old.log ++ added
+  pub each : All (IsFor old number) added
+  pub hand : (new.node.hand ≡ None) ⊎ (((new.node.hand ≡ old.node.hand) × (new.maker ≡ old.maker)) ⊎ (new.maker ≡ number))
 
 -- the fault is not that there was no memory to publish
 abbrev pub IsUnkept : {D F : Type 0} → LiveFault D F → Type 0

@@ -11,7 +11,7 @@ ghost use Rattle.pv_live.specs.Entries.{with_opening};
 ghost use Rattle.pv_live.specs.Run.{Judges, IsMade, IsRun};
 ghost use Rattle.pv_live.specs.Pass.{Standing, all_told, all_failed, EachHasSeenPrefix};
 ghost use Rattle.pv_live.specs.Board.{waiting_changes};
-ghost use Rattle.pv_live.specs.Asking.{EndsInDiskFault, IsUnkept, Waits, IfKept, HasSeenAll, HasAsked, HasFailed};
+ghost use Rattle.pv_live.specs.Asking.{EndsInDiskFault, IsUnkept, Waits, IfKept, HasSeenAll, Grows, HasAsked, HasFailed};
 ghost use Rattle.pv_live.specs.Closing.{IsClosed};
 
 use crate::copies::{Change, Published};
@@ -213,7 +213,7 @@ impl<R: Rules, D: Disk, N: Run<R::Rec>, H: Wait + Drop> Desk<
         requires published { self.old.waiting ≡ 0 }
         requires seen { pass.old.seen ≡ self.old.log }
 
-        ensures log { IsPrefix self.old.log self.new.log }
+        ensures grows { Grows self.old self.new pass.old.number }
         ensures settled { OnOk result ((self.new.node.hand ≡ None) × (pass.new ≡ pass.old)) }
         ensures unsettled { OnErr result ((self.new.log ≡ self.old.log)
             × (pass.new ≡ record pass.old { failed = pass.old.failed + 1 })
@@ -261,7 +261,7 @@ impl<R: Rules, D: Disk, N: Run<R::Rec>, H: Wait + Drop> Desk<
         ensures unkept { IfErr result IsUnkept }
         ensures same { pass.new ≡ record pass.old { told = pass.new.told; failed = pass.new.failed } }
         ensures not_failed { OnOk result (pass.new.failed ≡ pass.old.failed) }
-        ensures log { IsPrefix self.old.log self.new.log }
+        ensures grows { Grows self.old self.new pass.old.number }
         ensures spends { Spends D.Reports 6 (EndsInDiskFault result)
             self.old.node.journal.disk self.new.node.journal.disk }
     {
@@ -305,7 +305,7 @@ impl<R: Rules, D: Disk, N: Run<R::Rec>, H: Wait + Drop> Desk<
         ensures unkept { IfErr result IsUnkept }
         ensures same { pass.new ≡ record pass.old { told = pass.new.told; failed = pass.new.failed } }
         ensures not_failed { OnOk result (pass.new.failed ≡ pass.old.failed) }
-        ensures log { IsPrefix self.old.log self.new.log }
+        ensures grows { Grows self.old self.new pass.old.number }
         ensures spends { Spends D.Reports 6 (EndsInDiskFault result)
             self.old.node.journal.disk self.new.node.journal.disk }
     {
@@ -361,7 +361,7 @@ impl<R: Rules, D: Disk, N: Run<R::Rec>, H: Wait + Drop> Desk<
         ensures kept { IfErr result (λ fault. IfKept fault (Waits N.opening pass.old self.new)) }
         ensures spends { Spends D.Reports 8 (EndsInDiskFault result)
             self.old.node.journal.disk self.new.node.journal.disk }
-        ensures log { IsPrefix self.old.log self.new.log }
+        ensures grows { Grows self.old self.new pass.old.number }
     {
         if !self.publish(rt, pass) {
             return Err(LiveFault::Memory { stored: None });

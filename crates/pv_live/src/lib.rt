@@ -18,3 +18,6 @@ pub use known::Known;
 pub use live::{Live, LiveNode, MAX_PASSES, Start, open_live};
 pub use pass::{NotEntered, Pass};
 pub use run::{FailedLedger, Run, ToldLedger};
+
+#[cfg(test)]
+mod tests;

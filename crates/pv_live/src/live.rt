@@ -90,7 +90,8 @@ fn make_passes<R: Rules, N: Run<R::Rec>, H: Wait + Drop>(
     requires known { known.now ≡ [] }
     requires told { (told.old.parts ≡ passes) × (told.old.amount ≡ 0) }
     requires failed { (failed.old.parts ≡ passes) × (failed.old.amount ≡ 0) }
-    ensures { IfOk result (λ all. all.items ≡ new_passes passes) }
+    ensures passes { IfOk result (λ all. all.items ≡ new_passes passes) }
+    ensures count { IfOk result (λ all. vec_len all ≡ passes) }
 {
     let mut all = Vec::with_capacity(alloc, passes)?;
     for number in 0..passes {
@@ -126,7 +127,8 @@ pub fn open_live<R: Rules, D: Disk + Drop, N: Run<R::Rec>, H: Wait + Drop>(
       failed = N.failed;
       passes = N.passes;
     } }
-    ensures { IfOk result (λ r. r.1.items ≡ new_passes passes) }
+    ensures passes { IfOk result (λ r. r.1.items ≡ new_passes passes) }
+    ensures count { IfOk result (λ r. vec_len r.1 ≡ passes) }
 {
     let Start {
         history,

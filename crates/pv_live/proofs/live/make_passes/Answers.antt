@@ -1,4 +1,4 @@
-use Rattle.std.proofs.Common.{◌≡◌, ◌+◌, suc, arith, ap, ◌∙◌}
+use Rattle.std.proofs.Common.{◌≡◌, ℕ, ◌+◌, suc, arith, ap, ◌∙◌}
 use Rattle.pv_live.specs.Pass.{new_passes}
 use Rattle.pv_live.proofs.live.make_passes.Goals as goal
 
@@ -10,8 +10,9 @@ loop-number-preserved g c =
     let told = c.split_off.ensures in
     let failed = c.split_off-in-loop-number.ensures in (
       c.in_ok-push.ensures.items ∙ rw (i.0, c.copy.ensures ∙ c.requires.known, told.amount, failed.amount) (ap (new_passes {T = g.row.R-Rec.Denot}) next),
-      omega (arith, i.1, told.parts_left),
-      omega (arith, i.2, told.amount_left),
-      omega (arith, i.3, failed.parts_left),
-      omega (arith, i.4, failed.amount_left),
+      c.in_ok-push.ensures.len ∙ ap (λ (n : ℕ). n + 1) i.1,
+      omega (arith, i.2, told.parts_left),
+      omega (arith, i.3, told.amount_left),
+      omega (arith, i.4, failed.parts_left),
+      omega (arith, i.5, failed.amount_left),
     )

@@ -4,6 +4,7 @@ use Rattle.pv_journal.specs.Journal.{Spends}
 use Rattle.pv_journal.proofs.CallerLemmas.{spends_most, spends_none, spends_then}
 use Rattle.pv_history.proofs.CallerLemmas.{prefix_trans}
 use Rattle.pv_live.specs.Asking.{EndsInDiskFault}
+use Rattle.pv_live.proofs.Growing.{grows_then, grows_published, grows_asked}
 use Rattle.pv_live.proofs.Asks.{seen_since, asked_earlier, kept_for}
 use Rattle.pv_live.proofs.desk.Desk+R+D+N+H+Published+R+N+Change+R+N.ask.Goals as goal
 
@@ -62,3 +63,40 @@ returns-clause-told g c =
     rw (third.seen, ap (λ b. b.log) c.publish-3.ensures.same)
     (asked_earlier g.R.Rules g.N.Run.limits g.N.Run.opening c.args.request.now c.args.pass.now c.publish-2.new.pass since.0 since.1 since.2
     (record c.decide.new.pass { seen = c.decide.new.self.log }) c.in-Ok.told c.in-Ok.ensures.told)
+
+pub returns-then-not-publish-clause-grows : goal.returns-then-not-publish-clause-grows
+returns-then-not-publish-clause-grows g c = grows_published c.args.pass.now.number c.args.self.now c.publish.new.self c.publish.ensures.same
+
+pub returns-in-Err-decide-clause-grows : goal.returns-in-Err-decide-clause-grows
+returns-in-Err-decide-clause-grows g c =
+    let first = c.publish.ensures.done c.if-not-publish.false in
+    let second = c.publish-2.ensures.done c.if-not-publish-2.false in
+    let since = seen_since c.args.pass.now c.publish.new.pass c.settle.new.pass c.publish-2.new.pass c.publish.new.self c.publish-2.new.self
+    first c.in_default.ensures.settled.1 second in
+    grows_asked c.args.pass.now.number c.args.self.now c.publish.new.self c.settle.new.self c.publish-2.new.self c.decide.new.self
+    c.publish.new.pass.number c.publish-2.new.pass.number c.publish.ensures.same c.settle.ensures.grows (ap (λ p. p.number) first.seen)
+    c.publish-2.ensures.same c.decide.ensures.grows since.1
+
+pub returns-then-not-publish-3-clause-grows : goal.returns-then-not-publish-3-clause-grows
+returns-then-not-publish-3-clause-grows g c =
+    let first = c.publish.ensures.done c.if-not-publish.false in
+    let second = c.publish-2.ensures.done c.if-not-publish-2.false in
+    let since = seen_since c.args.pass.now c.publish.new.pass c.settle.new.pass c.publish-2.new.pass c.publish.new.self c.publish-2.new.self
+    first c.in_default.ensures.settled.1 second in
+    let asked = grows_asked c.args.pass.now.number c.args.self.now c.publish.new.self c.settle.new.self c.publish-2.new.self c.decide.new.self
+    c.publish.new.pass.number c.publish-2.new.pass.number c.publish.ensures.same c.settle.ensures.grows (ap (λ p. p.number) first.seen)
+    c.publish-2.ensures.same c.decide.ensures.grows since.1 in
+    grows_then c.args.pass.now.number c.args.self.now c.decide.new.self c.publish-3.new.self asked
+    (grows_published c.args.pass.now.number c.decide.new.self c.publish-3.new.self c.publish-3.ensures.same)
+
+pub returns-clause-grows : goal.returns-clause-grows
+returns-clause-grows g c =
+    let first = c.publish.ensures.done c.if-not-publish.false in
+    let second = c.publish-2.ensures.done c.if-not-publish-2.false in
+    let since = seen_since c.args.pass.now c.publish.new.pass c.settle.new.pass c.publish-2.new.pass c.publish.new.self c.publish-2.new.self
+    first c.in_default.ensures.settled.1 second in
+    let asked = grows_asked c.args.pass.now.number c.args.self.now c.publish.new.self c.settle.new.self c.publish-2.new.self c.decide.new.self
+    c.publish.new.pass.number c.publish-2.new.pass.number c.publish.ensures.same c.settle.ensures.grows (ap (λ p. p.number) first.seen)
+    c.publish-2.ensures.same c.decide.ensures.grows since.1 in
+    grows_then c.args.pass.now.number c.args.self.now c.decide.new.self c.publish-3.new.self asked
+    (grows_published c.args.pass.now.number c.decide.new.self c.publish-3.new.self c.publish-3.ensures.same)

@@ -1,4 +1,4 @@
-use Rattle.std.proofs.Common.{◌≡◌, ◌+◌, ◌≤◌, ◌++◌, ◌∷◌, [], length, List, Some, Ok, Err, refl, arith, ap, sym, subst, ◌∙◌}
+use Rattle.std.proofs.Common.{◌≡◌, inl, inr, ◌+◌, ◌≤◌, ◌++◌, ◌∷◌, [], length, List, Some, Ok, Err, refl, arith, ap, sym, subst, ◌∙◌}
 use mathlib.Core.List.{IsPrefix}
 use Rattle.left_right.specs.Handles.{published, pending}
 use Rattle.pv_node.specs.Asking.{to_store}
@@ -6,7 +6,8 @@ use Rattle.pv_history.proofs.CallerLemmas.{prefix_self}
 use Rattle.pv_live.specs.declared.entry.Entry.{Entry}
 use Rattle.pv_live.specs.Asking.{HasAsked}
 use Rattle.pv_live.proofs.Lists.{fold_last}
-use Rattle.pv_live.proofs.Desks.{node_state, node_count, desk_more, desk_taken, reply_is, storing, taking, refusing}
+use Rattle.pv_live.proofs.Desks.{node_state, node_count, desk_more, desk_taken, reply_is, storing, taking, refusing, refusing_same}
+use Rattle.pv_live.proofs.Growing.{grows_none}
 use Rattle.pv_live.proofs.desk.Desk+R+D+N+H+Published+R+N+Change+R+N.store.Goals as goal
 
 pub take_in-requires-clause-made : goal.take_in-requires-clause-made
@@ -102,3 +103,19 @@ returns-in-Err-Full-clause-failed g c =
       refusing g.R.Rules g.D.Reports g.N.Run.limits g.N.Run.opening d.known d.told.total d.failed.total d.node c.self.invariant.0
           c.args.request.now c.args.rec c.requires.valid judged g.row.D-Failure.Denot c.ask.new.self c.in-Err-Full.count c.args.pass.now seen carried,
     )
+
+-- what is in hand is for this pass
+pub returns-in-Err-Disk-clause-grows : goal.returns-in-Err-Disk-clause-grows
+returns-in-Err-Disk-clause-grows g c =
+    grows_none c.args.pass.now.number c.args.self.now _ (ap (λ b. b.log) c.self.view_is) (inr (inr (ap (λ p. p.number) c.pass.view_is)))
+
+pub returns-in-Err-Full-clause-grows : goal.returns-in-Err-Full-clause-grows
+returns-in-Err-Full-clause-grows g c =
+    let d = c.self.inside in
+    let node = ap (λ b. b.node) c.self.view_is in
+    let judged = rw (← node) at c.requires.judged in
+    let none = ap (λ n. n.hand) node ∙ c.requires.settled in
+    let carried = rw c.in-Err-Full.field-0-is at c.in-Err-Full.ensures.answers none in
+    let same = refusing_same g.R.Rules g.D.Reports g.N.Run.limits g.N.Run.opening d.known d.told.total d.failed.total d.node
+    c.self.invariant.0 c.args.request.now c.args.rec c.requires.valid judged g.row.D-Failure.Denot c.ask.new.self c.in-Err-Full.count carried in
+    grows_none c.args.pass.now.number c.args.self.now _ (ap (λ b. b.log) c.self.view_is) (inl (ap (λ n. n.hand) same ∙ none))
