@@ -1,12 +1,11 @@
 -- What an ask has done to its pass, from what its steps did.
-use Rattle.std.proofs.Common.{◌≡◌, ℕ, ◌+◌, List, Option, Some, None, MatchOption, IfSome, sym, ◌∙◌, ap, subst}
+use Rattle.std.proofs.Common.{◌≡◌, ℕ, ◌+◌, List, Option, Some, None, MatchOption, IfSome, ◌∙◌, ap, subst}
 use mathlib.Core.List.{IsPrefix}
 use Rattle.pv_outside.specs.declared.limits.Limits.{Limits}
 use Rattle.pv_node.specs.declared.rules.Rules as rules
 use Rattle.pv_node.specs.declared.decision.Told.{Told}
 use Rattle.pv_history.proofs.CallerLemmas.{prefix_trans}
 use Rattle.pv_live.specs.declared.entry.Entry.{Entry}
-use Rattle.pv_live.specs.declared.fault.LiveFault.{LiveFault}
 use Rattle.pv_live.specs.declared.fault.LiveFault.TheVariants.{Memory}
 use Rattle.pv_live.specs.Pass.{Standing}
 use Rattle.pv_live.specs.Board.{Board}
@@ -18,7 +17,8 @@ pub seen_since : {D State Rec : Type 0} (first one settled two : Standing Rec) (
     → IsPrefix first.seen two.seen × (two.number ≡ first.number) × (two.told ≡ first.told)
 seen_since first one settled two board later a same b = (
   rw (ap (λ p. p.seen) b.seen)
-      (prefix_trans first.seen board.log later.log a.prefix (subst (λ l. IsPrefix l later.log) (ap (λ p. p.seen) (same ∙ a.seen)) b.prefix)),
+      (prefix_trans first.seen board.log later.log a.prefix
+      (subst (λ l. IsPrefix l later.log) (ap (λ p. p.seen) (same ∙ a.seen)) b.prefix)),
   ap (λ p. p.number) b.seen ∙ ap (λ p. p.number) (same ∙ a.seen),
   ap (λ p. p.told) b.seen ∙ ap (λ p. p.told) (same ∙ a.seen),
 )
@@ -42,8 +42,10 @@ module _ {S State Request Rec Reply : Type 0} (r : rules.Ghosts S State Request 
   asked_earlier new answer asked = by answer.number asked
     where
       by : (place : Option ℕ)
-          → MatchOption place (HasAnswered r limits opening request old new answer.reply) (HasStoredFor r limits opening request old new answer.reply)
-          → MatchOption place (HasAnswered r limits opening request first new answer.reply) (HasStoredFor r limits opening request first new answer.reply)
+          → MatchOption place (HasAnswered r limits opening request old new answer.reply)
+          (HasStoredFor r limits opening request old new answer.reply)
+          → MatchOption place (HasAnswered r limits opening request first new answer.reply)
+          (HasStoredFor r limits opening request first new answer.reply)
       by None is = record { told = is.told ∙ told; judged = is.judged }
       by (Some place) is = record {
         before = is.before;
@@ -61,7 +63,8 @@ module _ {S State Request Rec Reply : Type 0} (r : rules.Ghosts S State Request 
   kept_for {D} {S'} F new answer board waiting seen still asked waits = by answer.number asked waits
     where
       by : (place : Option ℕ)
-          → MatchOption place (HasAnswered r limits opening request old new answer.reply) (HasStoredFor r limits opening request old new answer.reply)
+          → MatchOption place (HasAnswered r limits opening request old new answer.reply)
+          (HasStoredFor r limits opening request old new answer.reply)
           → IfSome place (λ place. waiting ≡ 1)
           → IfKept {D = D} {F = F} (Memory place) (Waits opening first board)
       by None is waits = tt

@@ -1,5 +1,5 @@
 -- What the steps of the node do to a desk.
-use Rattle.std.proofs.Common.{◌≡◌, ℕ, ◌+◌, ◌<◌, ◌≤◌, List, [], ◌∷◌, ◌++◌, length, Option, Some, None, IfSome, Result, Ok, Err, refl, ap, sym, ◌∙◌, subst, arith, length-append}
+use Rattle.std.proofs.Common.{◌≡◌, ℕ, ◌+◌, ◌<◌, ◌≤◌, List, [], ◌∷◌, ◌++◌, length, Option, Some, None, IfSome, Result, Ok, Err, refl, ap, sym, ◌∙◌, subst, arith}
 use Rattle.pv_outside.specs.declared.limits.Limits.{Limits}
 use Rattle.pv_outside.specs.declared.reports.Reports as reports
 use Rattle.pv_node.specs.declared.rules.Rules as rules
@@ -13,7 +13,7 @@ use Rattle.pv_node.specs.declared.fault.AskFault.{AskFault}
 use Rattle.pv_node.specs.declared.fault.AskFault.TheVariants.{Disk, Full}
 use Rattle.pv_live.specs.declared.entry.Entry.{Entry}
 use Rattle.pv_live.specs.Entries.{with_opening}
-use Rattle.pv_live.specs.Run.{IsStateOf, Judges, IsMade}
+use Rattle.pv_live.specs.Run.{IsStateOf, IsMade}
 use Rattle.pv_live.specs.Board.{count_in_hand, IsDesk}
 use Rattle.pv_live.specs.Pass.{Standing}
 use Rattle.pv_live.specs.Asking.{IsFullFor}
@@ -77,7 +77,8 @@ module _ {S State Request Rec Reply D : Type 0} (r : rules.Ghosts S State Reques
     hand = rw taken.hand made;
     reported = desk.reported;
     accounted =
-        let before : length log + 0 ≤ told + failed = subst (λ (h : Option Rec). length log + count_in_hand h ≤ told + failed) none desk.accounted in
+        let before : length log + 0 ≤ told + failed =
+        subst (λ (h : Option Rec). length log + count_in_hand h ≤ told + failed) none desk.accounted in
         rw taken.hand (omega (arith, before));
   }
 

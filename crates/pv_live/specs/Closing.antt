@@ -8,7 +8,7 @@ use Rattle.pv_node.specs.Standing.{StandsFor}
 use Rattle.pv_live.specs.declared.entry.Entry.{Entry}
 use Rattle.pv_live.specs.Entries.{with_opening}
 use Rattle.pv_live.specs.Run.{IsRun}
-use Rattle.pv_live.specs.Pass.{Standing, all_told, all_failed, EachHasSeenPrefix}
+use Rattle.pv_live.specs.Pass.{Standing, told_count, failed_count, EachHasSeenPrefix}
 
 module _ {S State Request Rec Reply D : Type 0} (r : rules.Ghosts S State Request Rec Reply) (d : reports.Ghosts D) (limits : Limits)
     (opening : List Rec) (passes : List (Standing Rec)) where
@@ -20,5 +20,5 @@ module _ {S State Request Rec Reply D : Type 0} (r : rules.Ghosts S State Reques
     pub run : IsRun r limits opening log
     pub seen : EachHasSeenPrefix log passes
     pub count : asked ≡ length log
-    pub least : all_told passes ≤ asked
-    pub most : asked ≤ all_told passes + all_failed passes
+    pub least : told_count passes ≤ asked
+    pub most : asked ≤ told_count passes + failed_count passes

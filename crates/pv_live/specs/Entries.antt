@@ -1,5 +1,5 @@
 -- Records with the numbers of their passes.
-use Rattle.std.specs.Prelude.{◌≡◌, ℕ, ◌<◌, List, [], ◌∷◌, ◌++◌, map}
+use Rattle.std.specs.Prelude.{List, ◌++◌, map}
 use Rattle.pv_live.specs.declared.entry.Entry.{Entry}
 
 -- the records of these entries

@@ -3,8 +3,8 @@ use Rattle.std.specs.Prelude.{ℕ, zero, suc, ◌+◌, List, [], ◌∷◌, ◌+
 use mathlib.Core.List.{IsPrefix}
 use Rattle.pv_live.specs.declared.entry.Entry.{Entry}
 
--- a pass: its number, the entries after the opening that it has seen, how many records its asks reported as stored, how many of its asks
--- failed on the disk, and how many of its looks were answered
+-- A pass: its number, and the entries after the opening that it has seen. It counts the records that its asks reported as stored, the
+-- asks that failed on the disk, and the looks that were answered.
 pub record Standing (T : Type 0) : Type 0 where
   pub number : ℕ
   pub seen : List (Entry T)
@@ -22,14 +22,14 @@ new_passes zero = []
 new_passes (suc n) = new_passes n ++ new_pass n ∷ []
 
 -- how many records the asks of all these passes reported as stored
-abbrev pub all_told : {T : Type 0} → List (Standing T) → ℕ
-all_told [] = 0
-all_told (pass ∷ passes) = pass.told + all_told passes
+abbrev pub told_count : {T : Type 0} → List (Standing T) → ℕ
+told_count [] = 0
+told_count (pass ∷ passes) = pass.told + told_count passes
 
 -- how many of their asks failed on the disk
-abbrev pub all_failed : {T : Type 0} → List (Standing T) → ℕ
-all_failed [] = 0
-all_failed (pass ∷ passes) = pass.failed + all_failed passes
+abbrev pub failed_count : {T : Type 0} → List (Standing T) → ℕ
+failed_count [] = 0
+failed_count (pass ∷ passes) = pass.failed + failed_count passes
 
 -- what each of these passes has seen is a prefix of the list
 abbrev pub EachHasSeenPrefix : {T : Type 0} → List (Entry T) → List (Standing T) → Type 0

@@ -9,7 +9,7 @@ ghost use Rattle.pv_node.specs.declared.decision.Decision.TheVariants.{Store};
 ghost use Rattle.pv_live.specs.declared.entry.Entry.{Entry};
 ghost use Rattle.pv_live.specs.Entries.{with_opening};
 ghost use Rattle.pv_live.specs.Run.{Judges, IsMade, IsRun};
-ghost use Rattle.pv_live.specs.Pass.{Standing, all_told, all_failed, EachHasSeenPrefix};
+ghost use Rattle.pv_live.specs.Pass.{Standing, told_count, failed_count, EachHasSeenPrefix};
 ghost use Rattle.pv_live.specs.Board.{waiting_changes};
 ghost use Rattle.pv_live.specs.Asking.{EndsInDiskFault, IsUnkept, Waits, IfKept, HasSeenAll, Grows, HasAsked, HasFailed};
 ghost use Rattle.pv_live.specs.Closing.{IsClosed};
@@ -112,8 +112,8 @@ fn hand_over<T: Absorb<O> + Drop, O: Drop, H: Wait + Drop>(
     }
 }
 
-/// Adds a record to the history, all of which is known. There are so many records then. Returns the change
-/// that is to be published.
+/// Adds a record to the history, all of which is known. `count` is how many records there are then. Returns
+/// the change that is to be published.
 fn take_in<R: Rules, N: Run<R::Rec>, W: Wait>(
     rt: &W,
     appender: &Appender<Entry<R::Rec>, N>,
@@ -140,8 +140,8 @@ fn gather<R: Rules, N: Run<R::Rec>, W: Wait>(
 )
     ensures parts { (told.new.parts ≡ told.old.parts + vec_len passes)
         × (failed.new.parts ≡ failed.old.parts + vec_len passes) }
-    ensures amounts { (told.new.amount ≡ told.old.amount + all_told passes.items)
-        × (failed.new.amount ≡ failed.old.amount + all_failed passes.items) }
+    ensures amounts { (told.new.amount ≡ told.old.amount + told_count passes.items)
+        × (failed.new.amount ≡ failed.old.amount + failed_count passes.items) }
     ensures seen { EachHasSeenPrefix known.now passes.items }
 {
     let mut passes = passes;
@@ -256,9 +256,13 @@ impl<R: Rules, D: Disk, N: Run<R::Rec>, H: Wait + Drop> Desk<
         ensures told { IfOk result (λ told. HasAsked ⟦<R as Rules>⟧ N.limits N.opening request.now pass.old
             (record pass.new { seen = self.new.log }) told) }
         ensures waits { OnOk result (self.new.waiting ≡ 1) }
+
+        // Each fault has its cause, and none is of publishing.
         ensures failed { IfErr result (λ fault. HasFailed ⟦<R as Rules>⟧ N.limits N.opening request.now
             pass.old pass.new fault) }
         ensures unkept { IfErr result IsUnkept }
+
+        // What it does to the pass, to the history and to the disk.
         ensures same { pass.new ≡ record pass.old { told = pass.new.told; failed = pass.new.failed } }
         ensures not_failed { OnOk result (pass.new.failed ≡ pass.old.failed) }
         ensures grows { Grows self.old self.new pass.old.number }
@@ -300,9 +304,13 @@ impl<R: Rules, D: Disk, N: Run<R::Rec>, H: Wait + Drop> Desk<
         ensures told { IfOk result (λ told. HasAsked ⟦<R as Rules>⟧ N.limits N.opening request.now pass.old
             (record pass.new { seen = self.new.log }) told) }
         ensures waits { IfOk result (λ told. IfSome told.number (λ place. self.new.waiting ≡ 1)) }
+
+        // Each fault has its cause, and none is of publishing.
         ensures failed { IfErr result (λ fault. HasFailed ⟦<R as Rules>⟧ N.limits N.opening request.now
             pass.old pass.new fault) }
         ensures unkept { IfErr result IsUnkept }
+
+        // What it does to the pass, to the history and to the disk.
         ensures same { pass.new ≡ record pass.old { told = pass.new.told; failed = pass.new.failed } }
         ensures not_failed { OnOk result (pass.new.failed ≡ pass.old.failed) }
         ensures grows { Grows self.old self.new pass.old.number }
@@ -359,6 +367,8 @@ impl<R: Rules, D: Disk, N: Run<R::Rec>, H: Wait + Drop> Desk<
         ensures failed { IfErr result (λ fault. HasFailed ⟦<R as Rules>⟧ N.limits N.opening request.now
             pass.old pass.new fault) }
         ensures kept { IfErr result (λ fault. IfKept fault (Waits N.opening pass.old self.new)) }
+
+        // A failure of the disk is one of its count of faults. What is added is for this pass.
         ensures spends { Spends D.Reports 8 (EndsInDiskFault result)
             self.old.node.journal.disk self.new.node.journal.disk }
         ensures grows { Grows self.old self.new pass.old.number }
@@ -401,11 +411,11 @@ impl<R: Rules, D: Disk, N: Run<R::Rec>, H: Wait + Drop> Desk<
             no_told,
             no_failed,
         } = self;
-        let mut all_told = no_told;
-        let mut all_failed = no_failed;
-        gather(rt, &known, &mut all_told, &mut all_failed, passes);
-        told.audit(&mut all_told);
-        failed.audit(&mut all_failed);
+        let mut told_count = no_told;
+        let mut failed_count = no_failed;
+        gather(rt, &known, &mut told_count, &mut failed_count, passes);
+        told.audit(&mut told_count);
+        failed.audit(&mut failed_count);
         writer.take();
         Closed {
             node,

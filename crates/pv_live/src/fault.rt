@@ -8,6 +8,6 @@ pub enum LiveFault<D: Disk> {
     Memory { stored: Option<u64> },
     /// A call of the disk failed. A record may be in hand.
     Disk(D::Failure),
-    /// The request would store a record, and there are as many as the limit, which is this.
+    /// The request would store a record, and the node has `count` records, as many as its limit.
     Full { count: u64 },
 }

@@ -78,7 +78,7 @@ impl<T, N: Run<T>> Known<T, N> {
         self.length = other.length;
     }
 
-    /// Adds an entry to the history, all of which is known. There are so many records then.
+    /// Adds an entry to the history, all of which is known. `length` is how many records there are then.
     pub(crate) fn append<W: Wait>(
         &mut self,
         rt: &W,

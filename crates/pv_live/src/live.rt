@@ -121,6 +121,8 @@ pub fn open_live<R: Rules, D: Disk + Drop, N: Run<R::Rec>, H: Wait + Drop>(
     requires at_rest { node.hand ≡ None }
     requires limits { R.limits_of node.state ≡ N.limits }
     requires passes { (passes ≡ N.passes) × (0 < passes) × (passes ≤ MAX_PASSES) }
+
+    // The name is that of what it starts with.
     requires start { start ≡ record {
       book = N.book;
       told = N.told;
@@ -142,16 +144,16 @@ pub fn open_live<R: Rules, D: Disk + Drop, N: Run<R::Rec>, H: Wait + Drop>(
     let writer: WriteHandle<Published<R, N>, Change<R, N>, H> = WriteHandle::new(
         alloc, rt, first, second, passes,
     )?;
-    let (told, mut all_told) = told.open::<ToldLedger<R::Rec, N>>();
-    let (failed, mut all_failed) = failed.open::<FailedLedger<R::Rec, N>>();
-    let no_told = all_told.empty();
-    let no_failed = all_failed.empty();
+    let (told, mut told_count) = told.open::<ToldLedger<R::Rec, N>>();
+    let (failed, mut failed_count) = failed.open::<FailedLedger<R::Rec, N>>();
+    let no_told = told_count.empty();
+    let no_failed = failed_count.empty();
     let all = make_passes(
         alloc,
         &writer,
         &known,
-        &mut all_told,
-        &mut all_failed,
+        &mut told_count,
+        &mut failed_count,
         passes,
     )?;
     let desk = Desk {

@@ -10,7 +10,13 @@ absorb-requires-clause-room g c =
     let log = c.self.inside.known in
     let ends = c.operation.invariant in
     let more : length c.operation.inside.known ≡ length log + 1 =
-    omega (arith, c.if-length-place.false, c.length.ensures, c.length-place.ensures, last_count ends.before c.operation.inside.known c.operation.inside.entry ends.is) in
+    omega (
+      arith,
+      c.if-length-place.false,
+      c.length.ensures,
+      c.length-place.ensures,
+      last_count ends.before c.operation.inside.known c.operation.inside.entry ends.is,
+    ) in
     let next = next_change g.R.Rules g.N.Run.limits g.N.Run.opening log c.operation.inside.known c.operation.inside.entry ends
     (c.is_prefix_of.ensures.yes c.if-not-is_prefix_of.false) more in
     (made_fits g.R.Rules g.N.Run.limits g.N.Run.opening laws.stored laws.same_room c.self.inside.state (with_opening g.N.Run.opening log)
@@ -22,7 +28,13 @@ invariant_of-self g c =
     let log = c.self.inside.known in
     let ends = c.operation.invariant in
     let more : length c.operation.inside.known ≡ length log + 1 =
-    omega (arith, c.if-length-place.false, c.length.ensures, c.length-place.ensures, last_count ends.before c.operation.inside.known c.operation.inside.entry ends.is) in
+    omega (
+      arith,
+      c.if-length-place.false,
+      c.length.ensures,
+      c.length-place.ensures,
+      last_count ends.before c.operation.inside.known c.operation.inside.entry ends.is,
+    ) in
     let next = next_change g.R.Rules g.N.Run.limits g.N.Run.opening log c.operation.inside.known c.operation.inside.entry ends
     (c.is_prefix_of.ensures.yes c.if-not-is_prefix_of.false) more in
     let place : c.length-place.result - 1 ≡ length (with_opening g.N.Run.opening log) =

@@ -1,9 +1,5 @@
-use Rattle.std.proofs.Common.{◌≡◌, refl, ap, sym, ◌∙◌, subst, arith}
-use mathlib.Core.List.{IsPrefix}
-use Rattle.pv_journal.specs.Journal.{Spends}
+use Rattle.std.proofs.Common.{refl, ap, sym, arith}
 use Rattle.pv_journal.proofs.CallerLemmas.{spends_most, spends_none, spends_then}
-use Rattle.pv_history.proofs.CallerLemmas.{prefix_trans}
-use Rattle.pv_live.specs.Asking.{EndsInDiskFault}
 use Rattle.pv_live.proofs.Growing.{grows_then, grows_published, grows_asked}
 use Rattle.pv_live.proofs.Asks.{seen_since, asked_earlier, kept_for}
 use Rattle.pv_live.proofs.desk.Desk+R+D+N+H+Published+R+N+Change+R+N.ask.Goals as goal
@@ -14,7 +10,8 @@ returns-then-not-publish-clause-spends g c =
 
 pub returns-in-Err-clause-spends : goal.returns-in-Err-clause-spends
 returns-in-Err-clause-spends g c =
-    rw (← ap (λ b. b.node.journal.disk) c.publish.ensures.same) (spends_most g.D.Reports (omega arith) (λ fails. refl) c.in-Err.ensures.spends)
+    rw (← ap (λ b. b.node.journal.disk) c.publish.ensures.same)
+    (spends_most g.D.Reports (omega arith) (λ fails. refl) c.in-Err.ensures.spends)
 
 pub returns-then-not-publish-2-clause-spends : goal.returns-then-not-publish-2-clause-spends
 returns-then-not-publish-2-clause-spends g c =
@@ -73,8 +70,9 @@ returns-in-Err-decide-clause-grows g c =
     let second = c.publish-2.ensures.done c.if-not-publish-2.false in
     let since = seen_since c.args.pass.now c.publish.new.pass c.settle.new.pass c.publish-2.new.pass c.publish.new.self c.publish-2.new.self
     first c.in_default.ensures.settled.1 second in
-    grows_asked c.args.pass.now.number c.args.self.now c.publish.new.self c.settle.new.self c.publish-2.new.self c.decide.new.self
-    c.publish.new.pass.number c.publish-2.new.pass.number c.publish.ensures.same c.settle.ensures.grows (ap (λ p. p.number) first.seen)
+    grows_asked c.args.pass.now.number c.args.self.now c.publish.new.self c.settle.new.self c.publish-2.new.self
+    c.decide.new.self c.publish.new.pass.number c.publish-2.new.pass.number c.publish.ensures.same
+    c.settle.ensures.grows (ap (λ p. p.number) first.seen)
     c.publish-2.ensures.same c.decide.ensures.grows since.1
 
 pub returns-then-not-publish-3-clause-grows : goal.returns-then-not-publish-3-clause-grows
@@ -83,8 +81,9 @@ returns-then-not-publish-3-clause-grows g c =
     let second = c.publish-2.ensures.done c.if-not-publish-2.false in
     let since = seen_since c.args.pass.now c.publish.new.pass c.settle.new.pass c.publish-2.new.pass c.publish.new.self c.publish-2.new.self
     first c.in_default.ensures.settled.1 second in
-    let asked = grows_asked c.args.pass.now.number c.args.self.now c.publish.new.self c.settle.new.self c.publish-2.new.self c.decide.new.self
-    c.publish.new.pass.number c.publish-2.new.pass.number c.publish.ensures.same c.settle.ensures.grows (ap (λ p. p.number) first.seen)
+    let asked = grows_asked c.args.pass.now.number c.args.self.now c.publish.new.self c.settle.new.self c.publish-2.new.self
+    c.decide.new.self c.publish.new.pass.number c.publish-2.new.pass.number c.publish.ensures.same
+    c.settle.ensures.grows (ap (λ p. p.number) first.seen)
     c.publish-2.ensures.same c.decide.ensures.grows since.1 in
     grows_then c.args.pass.now.number c.args.self.now c.decide.new.self c.publish-3.new.self asked
     (grows_published c.args.pass.now.number c.decide.new.self c.publish-3.new.self c.publish-3.ensures.same)
@@ -95,8 +94,9 @@ returns-clause-grows g c =
     let second = c.publish-2.ensures.done c.if-not-publish-2.false in
     let since = seen_since c.args.pass.now c.publish.new.pass c.settle.new.pass c.publish-2.new.pass c.publish.new.self c.publish-2.new.self
     first c.in_default.ensures.settled.1 second in
-    let asked = grows_asked c.args.pass.now.number c.args.self.now c.publish.new.self c.settle.new.self c.publish-2.new.self c.decide.new.self
-    c.publish.new.pass.number c.publish-2.new.pass.number c.publish.ensures.same c.settle.ensures.grows (ap (λ p. p.number) first.seen)
+    let asked = grows_asked c.args.pass.now.number c.args.self.now c.publish.new.self c.settle.new.self c.publish-2.new.self
+    c.decide.new.self c.publish.new.pass.number c.publish-2.new.pass.number c.publish.ensures.same
+    c.settle.ensures.grows (ap (λ p. p.number) first.seen)
     c.publish-2.ensures.same c.decide.ensures.grows since.1 in
     grows_then c.args.pass.now.number c.args.self.now c.decide.new.self c.publish-3.new.self asked
     (grows_published c.args.pass.now.number c.decide.new.self c.publish-3.new.self c.publish-3.ensures.same)

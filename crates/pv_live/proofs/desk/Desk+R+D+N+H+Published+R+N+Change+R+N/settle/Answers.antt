@@ -1,4 +1,4 @@
-use Rattle.std.proofs.Common.{◌≡◌, inl, inr, ◌+◌, ◌≤◌, ◌++◌, ◌∷◌, [], length, List, arith, ap, sym, ◌∙◌}
+use Rattle.std.proofs.Common.{inl, inr, arith, ap, ◌∙◌}
 use Rattle.left_right.specs.Handles.{published, pending}
 use Rattle.pv_live.specs.declared.entry.Entry.{Entry}
 use Rattle.pv_live.proofs.Lists.{fold_last}

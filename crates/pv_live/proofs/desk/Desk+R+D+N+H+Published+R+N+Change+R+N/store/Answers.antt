@@ -1,10 +1,7 @@
-use Rattle.std.proofs.Common.{◌≡◌, inl, inr, ◌+◌, ◌≤◌, ◌++◌, ◌∷◌, [], length, List, Some, Ok, Err, refl, arith, ap, sym, subst, ◌∙◌}
-use mathlib.Core.List.{IsPrefix}
+use Rattle.std.proofs.Common.{◌≡◌, inl, inr, ◌+◌, ◌≤◌, length, refl, arith, ap, sym, ◌∙◌}
 use Rattle.left_right.specs.Handles.{published, pending}
-use Rattle.pv_node.specs.Asking.{to_store}
 use Rattle.pv_history.proofs.CallerLemmas.{prefix_self}
 use Rattle.pv_live.specs.declared.entry.Entry.{Entry}
-use Rattle.pv_live.specs.Asking.{HasAsked}
 use Rattle.pv_live.proofs.Lists.{fold_last}
 use Rattle.pv_live.proofs.Desks.{node_state, node_count, desk_more, desk_taken, reply_is, storing, taking, refusing, refusing_same}
 use Rattle.pv_live.proofs.Growing.{grows_none}
@@ -17,7 +14,8 @@ take_in-requires-clause-made g c =
     let judged = rw (← node) at c.requires.judged in
     let none = ap (λ n. n.hand) node ∙ c.requires.settled in
     (storing g.R.Rules g.D.Reports g.N.Run.limits g.N.Run.opening d.known d.told.total d.failed.total d.node c.self.invariant.0
-    c.args.request.now c.args.rec c.requires.valid judged g.row.D-Failure.Denot c.ask.new.self c.in-Ok.told (c.in-Ok.ensures.answers none)).1
+    c.args.request.now c.args.rec c.requires.valid judged g.row.D-Failure.Denot c.ask.new.self c.in-Ok.told
+    (c.in-Ok.ensures.answers none)).1
 
 pub invariant_of-self : goal.invariant_of-self
 invariant_of-self g c =
@@ -27,11 +25,13 @@ invariant_of-self g c =
     let judged = rw (← node) at c.requires.judged in
     let none = ap (λ n. n.hand) node ∙ c.requires.settled in
     let s = storing g.R.Rules g.D.Reports g.N.Run.limits g.N.Run.opening d.known d.told.total d.failed.total d.node i.0
-    c.args.request.now c.args.rec c.requires.valid judged g.row.D-Failure.Denot c.ask.new.self c.in-Ok.told (c.in-Ok.ensures.answers none) in
+    c.args.request.now c.args.rec c.requires.valid judged g.row.D-Failure.Denot c.ask.new.self c.in-Ok.told
+    (c.in-Ok.ensures.answers none) in
     let entry : Entry g.row.R-Rec.Denot = record { rec = c.args.rec; pass = c.pass.inside.number } in
     let before : length d.known + 0 ≤ d.told.total + d.failed.total = rw none at i.0.accounted in (
       rw (c.take_in.ensures.known, c.add.ensures.total)
-          (desk_more g.R.Rules g.D.Reports g.N.Run.limits g.N.Run.opening d.known d.told.total d.failed.total d.node i.0 c.ask.new.self entry
+          (desk_more g.R.Rules g.D.Reports g.N.Run.limits g.N.Run.opening d.known d.told.total d.failed.total d.node i.0 c.ask.new.self
+          entry
           (d.told.total + 1) s.0.records s.0.hand c.ask.ensures.limits s.1 (omega (arith, i.0.reported)) (omega (arith, before))),
       fold_last (published d.writer) (pending d.writer) c.take_in.result ∙ c.take_in.ensures.change,
       i.2,
@@ -68,7 +68,8 @@ returns-in-Ok-clause-told g c =
     let judged = rw (← node) at c.requires.judged in
     let none = ap (λ n. n.hand) node ∙ c.requires.settled in
     let s = storing g.R.Rules g.D.Reports g.N.Run.limits g.N.Run.opening d.known d.told.total d.failed.total d.node i.0
-    c.args.request.now c.args.rec c.requires.valid judged g.row.D-Failure.Denot c.ask.new.self c.in-Ok.told (c.in-Ok.ensures.answers none) in
+    c.args.request.now c.args.rec c.requires.valid judged g.row.D-Failure.Denot c.ask.new.self c.in-Ok.told
+    (c.in-Ok.ensures.answers none) in
     let seen : c.args.pass.now.seen ≡ d.known = c.requires.seen ∙ sym (ap (λ b. b.log) c.self.view_is) in
     let entry : Entry g.row.R-Rec.Denot = record { rec = c.args.rec; pass = c.pass.inside.number } in
     rw s.2 (record {
@@ -101,7 +102,8 @@ returns-in-Err-Full-clause-failed g c =
       refl,
       refl,
       refusing g.R.Rules g.D.Reports g.N.Run.limits g.N.Run.opening d.known d.told.total d.failed.total d.node c.self.invariant.0
-          c.args.request.now c.args.rec c.requires.valid judged g.row.D-Failure.Denot c.ask.new.self c.in-Err-Full.count c.args.pass.now seen carried,
+          c.args.request.now c.args.rec c.requires.valid judged g.row.D-Failure.Denot c.ask.new.self c.in-Err-Full.count
+          c.args.pass.now seen carried,
     )
 
 -- what is in hand is for this pass
@@ -117,5 +119,6 @@ returns-in-Err-Full-clause-grows g c =
     let none = ap (λ n. n.hand) node ∙ c.requires.settled in
     let carried = rw c.in-Err-Full.field-0-is at c.in-Err-Full.ensures.answers none in
     let same = refusing_same g.R.Rules g.D.Reports g.N.Run.limits g.N.Run.opening d.known d.told.total d.failed.total d.node
-    c.self.invariant.0 c.args.request.now c.args.rec c.requires.valid judged g.row.D-Failure.Denot c.ask.new.self c.in-Err-Full.count carried in
+    c.self.invariant.0 c.args.request.now c.args.rec c.requires.valid judged g.row.D-Failure.Denot c.ask.new.self
+    c.in-Err-Full.count carried in
     grows_none c.args.pass.now.number c.args.self.now _ (ap (λ b. b.log) c.self.view_is) (inl (ap (λ n. n.hand) same ∙ none))
