@@ -16,7 +16,7 @@ use Rattle.pv_node.specs.declared.rules.Rules as rules
 use Rattle.pv_nodes.specs.Nodes.{told_of, stored_of, state_with}
 
 module _ {S State Request Rec Reply : Type 0} (r : rules.Ghosts S State Request Rec Reply) where
-  -- what is told, and what the node is then
+  -- what is answered, and what the node is then
   pub record Done (limit count : ℕ) (d : Decision Rec Reply) (old new : Parts Medium State Rec) (result : Result (Told Reply) ℕ) : Type 0 where
     pub told : result ≡ told_of limit count d
     pub state : new.state ≡ state_with r old.state (stored_of limit count d)

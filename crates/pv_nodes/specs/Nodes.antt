@@ -1,4 +1,4 @@
--- What a node over a disk in memory is, what is told at it, and what opens again.
+-- What a node over a disk in memory is, what is answered at it, and what opens again.
 use Rattle.std.specs.Prelude.{◌≡◌, ℕ, ◌≤◌, nat_le, if◌then◌else◌, List, Option, Some, None, Result, Ok, Err}
 use Rattle.pv_outside.specs.Disk.{IsEndless}
 use Rattle.pv_outside.specs.declared.limits.Limits.{Limits}
@@ -12,10 +12,10 @@ use Rattle.pv_node.specs.declared.decision.Decision.TheVariants.{Answer, Store}
 use Rattle.pv_node.specs.declared.decision.Told.{Told}
 use Rattle.pv_node.specs.declared.rules.Rules as rules
 
--- ---- what is told
+-- ---- what is answered
 
 module _ {Rec Reply : Type 0} where
-  -- What is told of a decision, at a node that has `count` records of at most `limit`: the reply, with the place of the record if
+  -- What is answered of a decision, at a node that has `count` records of at most `limit`: the reply, with the place of the record if
   -- one is stored; or the count, if the node is full and a record was to be stored.
   abbrev pub told_of : ℕ → ℕ → Decision Rec Reply → Result (Told Reply) ℕ
   told_of limit count (Answer reply) = Ok (record { reply = reply; number = None })

@@ -10,11 +10,12 @@ ghost use Rattle.pv_nodes.specs.Below.{records_below};
 /// A law: charges and replies do not come down, and a centre misses nothing by that. What it has of a prefix of
 /// the edit list gives the same frames and accounts, shows each caller the same, and has the same room.
 pub fn a_centre_shows_what_the_list_shows()
-    ensures frame { (records : List Record) (name : Name) → frame_at (records_below records) name ≡ frame_at records name }
+    ensures frame { (records : List Record) (name : Name) → frame_at (records_below records) name
+        ≡ frame_at records name }
     ensures account { (records : List Record) (number : ℕ) → account_at (records_below records) number
         ≡ account_at records number }
-    ensures sight { (records : List Record) (centre : ℕ) (caller : Option ℕ) → sight_of (records_below records) centre caller
-        ≡ sight_of records centre caller }
-    ensures room { (limits : Limits) (records : List Record) (rec : Record) → has_room limits (records_below records) rec
-        ≡ has_room limits records rec }
+    ensures sight { (records : List Record) (centre : ℕ) (caller : Option ℕ)
+        → sight_of (records_below records) centre caller ≡ sight_of records centre caller }
+    ensures room { (limits : Limits) (records : List Record) (rec : Record)
+        → has_room limits (records_below records) rec ≡ has_room limits records rec }
 {}

@@ -124,6 +124,8 @@ fn open_node<R: Rules>(
     limits: Limits,
 ) -> Result<Node<R, MemDisk>, NodeFault<MemDisk>>
     requires { IsReady ⟦<R as Rules>⟧ limits disk }
+
+    // The node is that of the disk's records; and nothing but memory can be missing.
     ensures opened { IfOk result (IsMemNode ⟦<R as Rules>⟧) }
     ensures stands { IfOk result (λ node. (records : List R.Rec)
         → DiskStands ⟦<R as Rules>⟧ memory.ghosts disk records

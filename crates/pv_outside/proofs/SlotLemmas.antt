@@ -3,20 +3,20 @@ use Rattle.std.proofs.Common.{◌≡◌, ℕ, zero, suc, ◌<◌, List, [], ◌�
 use Rattle.std.specs.Prelude.{All, IsSome, slice_index_or}
 use Rattle.std.proofs.lemmas.List.{get_or-map, length-map}
 use Rattle.pv_outside.specs.Job.{EachMayReturn}
-use Rattle.pv_outside.specs.Slots.{HasRun, AllRun, slot_of}
+use Rattle.pv_outside.specs.Slots.{RunsJob, AllRun, slot_of}
 use Rattle.pv_outside.specs.declared.slots.Slot.{Slot}
 
 -- a slot that has run its job has a value
-has_value : {J T : Type 0} (M : J → T → Type 0) (old : Option J) (new : Option T) → IsSome old → HasRun M old new → IsSome new
+has_value : {J T : Type 0} (M : J → T → Type 0) (old : Option J) (new : Option T) → IsSome old → RunsJob M old new → IsSome new
 has_value M (Some j) (Some v) some run = refl
 has_value M (Some j) None some run = absurd run
 has_value M None new some run = absurd cc
 
 -- and it is one that the job may return
 value_may : {J T : Type 0} (M : J → T → Type 0) (old : Option J) (job : J) (new : Option T) (value : T)
-    → old ≡ Some job → new ≡ Some value → HasRun M old new → M job value
+    → old ≡ Some job → new ≡ Some value → RunsJob M old new → M job value
 value_may {J} {T} M old job new value is has run =
-    subst (λ (o : Option T). HasRun M (Some job) o) has (subst (λ (o : Option J). HasRun M o new) is run)
+    subst (λ (o : Option T). RunsJob M (Some job) o) has (subst (λ (o : Option J). RunsJob M o new) is run)
 
 -- each slot begins with a job
 has_job : {J T : Type 0} (jobs : List J) (k : ℕ) (s : Slot J T) → k < length jobs → IsSome (slice_index_or (map slot_of jobs) k s).job

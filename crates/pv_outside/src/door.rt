@@ -28,7 +28,8 @@ pub trait Door {
     fn accept(&mut self) -> Result<Self::Line, Failed>
         ensures account { CountsFaults (faults self.old) (faults self.new) result }
         ensures accepted { accepted self.new ≡ successes_after result (accepted self.old) }
-        ensures unused { IfOk result (λ line. IsUnused (Self.Line.taken line) (Self.Line.written line) (Self.Line.ended line)) }
+        ensures unused { IfOk result
+            (λ line. IsUnused (Self.Line.taken line) (Self.Line.written line) (Self.Line.ended line)) }
 
         // No line is given back by this.
         ensures finished { finished self.new ≡ finished self.old }

@@ -1,6 +1,6 @@
 ghost use Rattle.std.specs.Prelude.{◌≡◌, ◌≤◌, Some, map, length, All, vec_len, vec_capacity, IsSome};
 ghost use Rattle.pv_outside.specs.Job.{EachMayReturn};
-ghost use Rattle.pv_outside.specs.Slots.{HasRun, AllRun, slot_of};
+ghost use Rattle.pv_outside.specs.Slots.{RunsJob, AllRun, slot_of};
 
 use crate::job::Job;
 use std::sync::Wait;
@@ -68,7 +68,7 @@ where
 fn fill<J: Job + Drop, R: Wait + Sync>(rt: &R, slot: &mut Slot<J, J::Done>)
 where
     J::Done: Drop,
-    ensures { HasRun J.may_return slot.old.job slot.new.done }
+    ensures { RunsJob J.may_return slot.old.job slot.new.done }
 {
     if let Some(job) = slot.job.take() {
         slot.done = Some(job.run(rt));

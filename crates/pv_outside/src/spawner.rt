@@ -46,11 +46,13 @@ pub trait Spawner {
     where
         J::Done: Send + Drop,
         ensures done { IfOk result (λ done. EachMayReturn J.may_return jobs.items done.items) }
-        ensures part { IfErr result (λ part. IsPartRun J.may_return jobs.items part.done.items part.rest.items) }
+        ensures part { IfErr result
+            (λ part. IsPartRun J.may_return jobs.items part.done.items part.rest.items) }
 
         // The count of refused starts never falls, and a start was refused only if it rose.
         ensures counted { refused self.old ≤ refused self.new }
-        ensures start { IfErr result (λ part. part.memory ≡ false → Rose (refused self.old) (refused self.new)) }
+        ensures start { IfErr result
+            (λ part. part.memory ≡ false → Rose (refused self.old) (refused self.new)) }
     {
         let slots = Vec::with_capacity(alloc, jobs.len());
         let done = Vec::with_capacity(alloc, jobs.len());
