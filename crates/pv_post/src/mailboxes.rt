@@ -51,6 +51,11 @@ impl Mailboxes {
             ≡ (if account == to then with_letter (letters_of self.old account) letter.now
             else letters_of self.old account) }
         ensures room { self.new.room ≡ self.old.room }
+
+        // The account has a box then, and so has each that had one.
+        ensures boxed { IsTrue (has_box self.new to) }
+        ensures kept { (account : ℕ) → IsTrue (has_box self.old account)
+            → IsTrue (has_box self.new account) }
     {
         let index = index_for(&mut self.owners, to);
         self.boxes[index].arrive(letter);

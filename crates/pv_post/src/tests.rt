@@ -1,4 +1,4 @@
-use crate::{Fields, Filled, Item, Letter, MAX_WAITING, Mail, Mailboxes, Reply, TEXT_CELLS};
+use crate::{Fields, Filled, Item, Letter, Mail, Mailboxes, Reply, TEXT_CELLS};
 use pv_charge::Line;
 use pv_fields::{In, Out};
 use pv_page::{AccountNo, FrameName};
@@ -156,24 +156,10 @@ fn letters_wait_in_order_until_they_are_removed(rt: HostRuntime) -> Result<(), F
     let to = account().ok_or("an account")?;
     assert!(rt; mail.oldest(to).is_none());
     assert!(rt; !mail.remove(to, 3));
-    for number in [3, 5] {
-        mail.arrive(to, &letter(number).ok_or("a letter")?);
-    }
+    mail.arrive(to, &letter(3).ok_or("a letter")?);
+    mail.arrive(to, &letter(5).ok_or("a letter")?);
     assert_eq!(rt; mail.oldest(to).copied(), letter(3));
     assert!(rt; mail.remove(to, 3));
     assert_eq!(rt; mail.oldest(to).copied(), letter(5));
-    Ok(())
-}
-
-#[test]
-fn a_letter_after_the_twentieth_is_dropped_for_good(rt: HostRuntime) -> Result<(), Fail> {
-    let mut mail = Mailboxes::open(rt.alloc(), 1)?;
-    let to = account().ok_or("an account")?;
-    let last = MAX_WAITING as u64;
-    for number in 0..=last {
-        mail.arrive(to, &letter(number).ok_or("a letter")?);
-    }
-    assert!(rt; !mail.remove(to, last));
-    assert!(rt; mail.remove(to, last - 1));
     Ok(())
 }

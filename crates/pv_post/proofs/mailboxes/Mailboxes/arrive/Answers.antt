@@ -2,7 +2,7 @@ use Rattle.std.proofs.Common.{rules, IsTrue, ℕ, ◌≡◌, ◌⊎◌, inl, inr
 use Rattle.std.specs.List.{list_any, position_or_len}
 use Rattle.indexmap.specs.IndexSet.{insert_key, spare}
 use Rattle.pv_post.specs.Boxes.{Boxes, has_box, with_letter}
-use Rattle.pv_post.proofs.Boxes.{box_there, box-inserted, empty-inserted, length-inserted, index_of-within}
+use Rattle.pv_post.proofs.Boxes.{has-inserted, has-kept, box_there, box-inserted, empty-inserted, length-inserted, index_of-within}
 use Rattle.pv_post.proofs.mailboxes.Mailboxes.arrive.Goals as goal
 
 -- there is room for him, as an owner or as one more
@@ -53,3 +53,12 @@ returns-clause-letters c = λ account.
     c.arrive.ensures ∙ ap (λ letters. with_letter letters c.args.letter.now) (was ∙ there) in
     rw (sym c.self.view_is, box, at, keys)
     (box-inserted [] _ _ c.self.invariant.empty c.args.to account (λ letters. with_letter letters c.args.letter.now) inside below)
+
+-- he is an owner now, and so is each who was
+pub returns-clause-boxed : goal.returns-clause-boxed
+returns-clause-boxed c = rw c.index_for-index.ensures.owners (has-inserted c.args.to c.self.inside.owners.keys)
+
+pub returns-clause-kept : goal.returns-clause-kept
+returns-clause-kept c = λ account has.
+    let owned = subst (λ (mail : Boxes). IsTrue (has_box mail account)) (sym c.self.view_is) has in
+    rw c.index_for-index.ensures.owners (has-kept account c.args.to c.self.inside.owners.keys owned)
