@@ -10,8 +10,8 @@ use Rattle.pv_outside.specs.declared.status.Status.TheVariants.{Done, Usage, Bad
 use Rattle.pv_words.specs.Lines.{lines_of}
 use Rattle.pv_network.specs.Standing.{State}
 use Rattle.pv_network.specs.World.{World}
-use Rattle.prestel.specs.declared.streams.StandardOutput.{StandardOutput}
-use Rattle.prestel.specs.Output.{written_bytes, buffered_bytes}
+use Rattle.pv_files.specs.declared.standard.StandardOutput.{StandardOutput}
+use Rattle.pv_files.specs.Output.{written_bytes, buffered_bytes}
 use Rattle.pv_script.specs.Play.{IsTranscript, StopsAtBadLine, StopsInAnswers, StopsAfterLine, IsPlayOf}
 use Rattle.prestel.specs.Program.{IsRunOf}
 use Rattle.pv_script.specs.Transcript.{answers}

@@ -1,3 +1,2 @@
 pub mod About
-pub mod Output
 pub mod Program

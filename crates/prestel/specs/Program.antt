@@ -6,8 +6,8 @@ use Rattle.pv_outside.specs.declared.status.Status.{Status}
 use Rattle.pv_outside.specs.declared.status.Status.TheVariants.{Done, Usage, BadLine, ReadFault, WriteFault, Memory, TooLong}
 use Rattle.pv_words.specs.Lines.{lines_of}
 use Rattle.pv_network.specs.World.{World}
-use Rattle.prestel.specs.declared.streams.StandardOutput.{StandardOutput}
-use Rattle.prestel.specs.Output.{written_bytes, flushed_bytes, buffered_bytes}
+use Rattle.pv_files.specs.declared.standard.StandardOutput.{StandardOutput}
+use Rattle.pv_files.specs.Output.{written_bytes, flushed_bytes, buffered_bytes}
 use Rattle.pv_script.specs.Play.{longest_script, IsReadWhole, IsTranscript, StopsAtBadLine, StopsInAnswers, StopsAfterLine}
 
 -- How it may end that a text of the program is written: the writer itself has the whole of it, and nothing is in the buffer, or

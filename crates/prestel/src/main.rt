@@ -12,12 +12,11 @@ ghost use Rattle.pv_outside.specs.Status.{number_of};
 
 mod about;
 mod program;
-mod streams;
 #[cfg(test)]
 mod tests;
 
 use crate::program::run_program;
-use crate::streams::{StandardInput, StandardOutput};
+use pv_files::{StandardInput, StandardOutput};
 use pv_outside::Status;
 use std::env;
 use std::io::{self, ErrorKind};

@@ -6,7 +6,7 @@ ghost use Rattle.prestel.specs.Program.{WritesText, IsRunOf};
 ghost use Rattle.prestel.specs.declared.about.About.{About};
 
 use crate::about::About;
-use crate::streams::StandardOutput;
+use pv_files::StandardOutput;
 use pv_outside::{Failed, Sink, Source, Status};
 use pv_script::play;
 use std::alloc::Global;

@@ -2,7 +2,7 @@ mod calls;
 
 use crate::about::About;
 use crate::program::run_program;
-use crate::streams::{StandardInput, StandardOutput};
+use pv_files::{StandardInput, StandardOutput};
 use pv_memory::{MemSink, MemSource};
 use pv_outside::{Failed, Sink, Status};
 use pv_script::{Played, play};

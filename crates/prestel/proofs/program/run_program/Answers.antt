@@ -4,7 +4,7 @@ use Rattle.pv_outside.specs.declared.status.Status.{Status}
 use Rattle.pv_outside.specs.declared.status.Status.TheVariants.{Usage}
 use Rattle.prestel.specs.declared.about.About.{About}
 use Rattle.prestel.specs.declared.about.About.TheVariants.{Help, Version}
-use Rattle.prestel.specs.declared.streams.StandardOutput.{StandardOutput}
+use Rattle.pv_files.specs.declared.standard.StandardOutput.{StandardOutput}
 use Rattle.prestel.specs.About.{about_words}
 use Rattle.pv_script.specs.Play.{AskNoPlay}
 use Rattle.prestel.specs.Program.{WritesText}

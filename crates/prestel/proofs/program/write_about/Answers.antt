@@ -3,7 +3,7 @@ use Rattle.std.specs.Prelude.{is_err}
 use Rattle.std.specs.Io.KnownBytes.{Appends, Keeps}
 use Rattle.pv_outside.specs.Sink.{Writes}
 use Rattle.pv_outside.specs.declared.failed.Failed.{Failed}
-use Rattle.prestel.specs.Output.{written_bytes}
+use Rattle.pv_files.specs.Output.{written_bytes}
 use Rattle.prestel.proofs.Flushing.{whole_is_prefix}
 use Rattle.prestel.proofs.program.write_about.Goals as goal
 

@@ -1,7 +1,7 @@
 use Rattle.std.proofs.Common.{◌≡◌, ◌-◌, ◌≤◌, length, take}
 use Rattle.std.specs.Io.KnownBytes.{Appends}
-use Rattle.prestel.specs.Output.{written_bytes}
-use Rattle.prestel.proofs.streams.StandardOutputSink.write_all.Given as goal
+use Rattle.pv_files.specs.Output.{written_bytes}
+use Rattle.pv_files.proofs.standard.StandardOutputSink.write_all.Given as goal
 
 -- the bytes up to here were written
 abbrev pub invariant-loop-at : goal.invariant-loop-at

@@ -1,7 +1,7 @@
 -- Standard output: a writer with a buffer before it, and how far what was written has come.
 use Rattle.std.specs.Prelude.{ℕ, List, Option}
 use Rattle.std.specs.Io.Buffered.{writer_inner, writer_buffer, writer_contents}
-use Rattle.prestel.specs.declared.streams.StandardOutput.{StandardOutput}
+use Rattle.pv_files.specs.declared.standard.StandardOutput.{StandardOutput}
 
 -- all bytes that were written: those that have gone to the writer itself, and then those that are still in the buffer
 abbrev pub written_bytes : {W : Type 0} → (W → Option (List ℕ)) → StandardOutput W → Option (List ℕ)

@@ -1,15 +1,16 @@
-ghost use Rattle.std.specs.Prelude.{◌≡◌, ◌==◌, ◌&&◌, ◌≤◌, nat_lt, false, [], IfOk, IsErr, OnOk, None};
+ghost use Rattle.std.specs.Prelude.{◌≡◌, ◌≤◌, false, [], IfOk, IsErr, OnOk, None};
 ghost use Rattle.std.specs.Io.Buffered.{writer_inner, writer_capacity};
 ghost use Rattle.std.specs.Io.KnownBytes.{Keeps};
 ghost use Rattle.pv_outside.specs.Counts.{Rose};
-ghost use Rattle.prestel.specs.Output.{written_bytes, buffered_bytes};
+ghost use Rattle.pv_files.specs.Output.{written_bytes, buffered_bytes};
 
+use crate::retry::{is_end, read_some, write_some};
 use pv_outside::{Failed, Sink, Source};
 use std::alloc::{AllocError, Global};
 use std::io::{BufWriter, Read, Write};
 
 /// How many bytes of the output the buffer has room for.
-const OUTPUT_BUFFER: usize = 65_536;
+pub const OUTPUT_BUFFER: usize = 65_536;
 
 /// A reader of the process as a source. It counts its faults and whether it has ended. It reports what is
 /// left if the reader does: a slice does, a terminal and a pipe do not.
@@ -35,7 +36,6 @@ impl<R: Read + Drop> StandardInput<R> {
     }
 
     /// The reader itself.
-    #[cfg(test)]
     pub fn reader(&self) -> &R
         ensures { result.now ≡ self.now.reader }
     {
@@ -53,7 +53,7 @@ impl<R: Read + Drop> Source for StandardInput<R> {
     ghost left = { λ s. R.remaining s.reader };
 
     fn read(&mut self, into: &mut [u8]) -> Result<usize, Failed> {
-        match self.reader.read(into) {
+        match read_some(&mut self.reader, into) {
             Ok(count) => {
                 self.ended |= is_end(count, into.len());
                 Ok(count)
@@ -64,13 +64,6 @@ impl<R: Read + Drop> Source for StandardInput<R> {
             }
         }
     }
-}
-
-/// Whether the count that a read returned, with this much room, means that the source has ended.
-fn is_end(count: usize, room: usize) -> bool
-    ensures { result ≡ (count == 0 && nat_lt 0 room) }
-{
-    count == 0 && room > 0
 }
 
 /// A writer of the process as a sink, with a buffer of its own before it. It counts its faults, and reports
@@ -96,7 +89,6 @@ impl<W: Write + Drop> StandardOutput<W> {
     }
 
     /// The writer itself, which has what was flushed.
-    #[cfg(test)]
     pub fn writer(&self) -> &W
         ensures { result.now ≡ writer_inner self.now.writer }
     {
@@ -126,7 +118,7 @@ impl<W: Write + Drop> Sink for StandardOutput<W> {
     fn write_all(&mut self, bytes: &[u8]) -> Result<(), Failed> {
         let mut at = 0;
         while at < bytes.len() {
-            match self.writer.write(&bytes[at..]) {
+            match write_some(&mut self.writer, &bytes[at..]) {
                 Ok(0) | Err(_) => {
                     self.faults = self.faults.saturating_add(1);
                     return Err(Failed);

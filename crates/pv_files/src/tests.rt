@@ -1,0 +1,3 @@
+mod files;
+mod machine;
+mod sockets;
