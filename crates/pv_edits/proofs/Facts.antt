@@ -1,7 +1,9 @@
 -- Worked examples, computed from the definitions: small edit lists, and the spellings of small records.
 use Rattle.std.proofs.Common.{◌≡◌, ℕ, ◌∷◌, [], refl}
 use Rattle.std.specs.Prelude.{Some, None}
+use Rattle.pv_outside.specs.declared.clock.TheConstants.{CLOCK_END}
 use Rattle.pv_page.specs.Names.{Name}
+use Rattle.pv_charge.specs.declared.line.TheConstants.{LAST_MOMENT}
 use Rattle.pv_frame.specs.Content.{Content, blank_frame}
 use Rattle.pv_edits.specs.Record.{record_bytes, drop_bytes, lease_bytes}
 use Rattle.pv_edits.specs.Down.{down_bytes}
@@ -23,6 +25,10 @@ most-accounts = refl
 
 pub most-leases : MAX_LEASES ≡ 1000
 most-leases = refl
+
+-- the clock shows every moment that a charge line or a letter may have, and no other
+pub clock-ends-with-the-last-moment : CLOCK_END ≡ LAST_MOMENT
+clock-ends-with-the-last-moment = refl
 
 abbrev page_1a : Name
 page_1a = record { page = 1; letter = 97 }

@@ -1,6 +1,6 @@
 -- What a proof in a crate above may cite.
 use Rattle.std.proofs.Common.{◌≡◌, ◌⊎◌, inl, inr, ℕ, ◌+◌, ◌-◌, ◌*◌, ◌<◌, ◌≤◌, Bool, true, false, Option, Some, None, Result, Ok, Err, List, [], ◌∷◌, ◌++◌, length, get_or, set, take, drop, replicate, arith, refl, sym, ap, ◌∙◌, subst, append_assoc, length-append}
-use Rattle.std.specs.Prelude.{flat_map, option_map}
+use Rattle.std.specs.Prelude.{flat_map, option_map, IsOk}
 use Rattle.std.proofs.Math.Nat.{mul-zero, mul-suc, mul-le-mul_left}
 use Rattle.std.proofs.lemmas.Bool.{cases_lt}
 use Rattle.std.proofs.lemmas.List.{append-nil, drop-drop, get_or-drop, get_or-take, get_or_past, length-take, take_more, length-take-le, length-replicate, length-set, take-append-drop, take_at, drop_at, drop-replicate, drop-set-lt, take_more_set}
@@ -9,7 +9,7 @@ use Rattle.std.proofs.lemmas.List.Folds.{length-flat_map-take}
 use Rattle.pv_fields.specs.Out.{written_of, rest_of, room_of, Appends, Puts}
 use Rattle.pv_fields.specs.Padded.{padded_list, IsPadded}
 use Rattle.pv_fields.specs.Reading.{IsBytes}
-use Rattle.pv_fields.specs.Refusals.{first_of, some_if, unless}
+use Rattle.pv_fields.specs.Refusals.{first_of, AreMissing, some_if, unless}
 use Rattle.pv_fields.specs.declared.writing.Out.{Out}
 
 -- ---- an encoder of several parts
@@ -36,6 +36,18 @@ pub puts_then : {T E : Type 0} {first second : Out} {one : List ℕ} (third : Ou
     → Appends first second one → Puts result second third other → Puts result first third (one ++ other)
 puts_then third other (Ok x) before after = appends_then before after
 puts_then third other (Err e) before less = refused_then other before less
+
+-- with room for all of them a call appended them
+pub appends_all : {T E : Type 0} (result : Result T E) (first last : Out) (bytes : List ℕ) → Puts result first last bytes
+    → length bytes ≤ room_of first → Appends first last bytes
+appends_all (Ok x) first last bytes puts fits = puts
+appends_all (Err e) first last bytes puts fits = absurd (omega (arith, puts, fits))
+
+-- and did not fail
+pub never_fails : {T E : Type 0} (result : Result T E) (first last : Out) (bytes : List ℕ) → Puts result first last bytes
+    → length bytes ≤ room_of first → IsOk result
+never_fails (Ok x) first last bytes puts fits = refl
+never_fails (Err e) first last bytes puts fits = absurd (omega (arith, puts, fits))
 
 -- what the slice holds of an `Out` that began empty: the bytes, and what it held after them
 pub slice_after : (first last : Out) (bytes : List ℕ) → written_of first ≡ [] → Appends first last bytes
@@ -113,6 +125,11 @@ module _ {X : Type 0} where
   pub none_of : (o : Option X) (others : List (Option X)) → first_of (o ∷ others) ≡ None → (o ≡ None) × (first_of others ≡ None)
   none_of None others none = (refl, none)
   none_of (Some x) others none = absurd cc
+
+  -- of all of them
+  pub all_missing : (os : List (Option X)) → first_of os ≡ None → AreMissing os
+  all_missing [] none = tt
+  all_missing (o ∷ others) none = let parts = none_of o others none in (parts.0, all_missing others parts.1)
 
   -- of one optional value
   pub first_of-one : (o : Option X) → first_of (o ∷ []) ≡ o

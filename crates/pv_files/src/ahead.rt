@@ -1,4 +1,4 @@
-ghost use Rattle.std.specs.Prelude.{◌≡◌, ◌+◌, ◌-◌, ◌≤◌, [], length, take, slice_range, IfOk, IsTrue, ◌↔◌};
+ghost use Rattle.std.specs.Prelude.{◌≡◌, ◌+◌, ◌-◌, ◌≤◌, [], length, take, slice_range, IfOk, IsTrue, OnOk, OnErr};
 ghost use Rattle.pv_files.specs.Piece.{Piece, has_range};
 
 use crate::retry::read_some_at;
@@ -66,7 +66,10 @@ impl Ahead {
     }
 
     /// Reads a piece from this place of the file on.
-    pub(crate) fn fill<F: FileExt>(&mut self, file: &F, at: u64) -> io::Result<()> {
+    pub(crate) fn fill<F: FileExt>(&mut self, file: &F, at: u64) -> io::Result<()>
+        ensures at { OnOk result (self.new.at ≡ at) }
+        ensures err { OnErr result (self.new.bytes ≡ []) }
+    {
         self.forget();
         self.size = read_some_at(file, &mut self.bytes, at)?;
         self.at = at;

@@ -42,7 +42,9 @@ impl TcpDoor {
     }
 
     /// The last error that was counted.
-    pub fn error(&self) -> Option<io::Error> {
+    pub fn error(&self) -> Option<io::Error>
+        ensures { result ≡ self.now.error }
+    {
         self.error
     }
 

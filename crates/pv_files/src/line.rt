@@ -36,7 +36,9 @@ impl TcpLine {
     }
 
     /// The last error that was counted.
-    pub fn error(&self) -> Option<io::Error> {
+    pub fn error(&self) -> Option<io::Error>
+        ensures { result ≡ self.now.error }
+    {
         self.error
     }
 }

@@ -1,5 +1,4 @@
 mod Applying
 mod Facts
-mod Filling
 mod Numbering
 mod OneSpelling

@@ -6,13 +6,13 @@ use Rattle.std.proofs.lemmas.List.{length-append}
 use Rattle.std.proofs.lemmas.List.Elements.{filter_map-append}
 use Rattle.pv_outside.specs.declared.limits.Limits.{Limits}
 use Rattle.pv_fields.specs.Refusals.{first_of}
-use Rattle.pv_fields.proofs.CallerLemmas.{some_if-none}
+use Rattle.pv_fields.proofs.CallerLemmas.{some_if-none, all_missing}
 use Rattle.pv_edits.specs.declared.down.DownRecord.{DownRecord}
 use Rattle.pv_node.specs.declared.decision.Decision.TheVariants.{Store}
 use Rattle.pv_irc.specs.History.{applied_in, applied_records, applied_of, CentreState, centre_state_of}
 use Rattle.pv_irc.specs.Deciding.{reasons_against, centre_judgement}
 use Rattle.pv_irc.specs.Numbers.{IsCentreRun, place_in, applied_places, first_places}
-use Rattle.pv_irc.specs.Ruling.{all_none, is_applied, stored_or}
+use Rattle.pv_irc.specs.Ruling.{is_applied, stored_or}
 use Rattle.pv_irc.specs.declared.record.CentreRecord.{CentreRecord}
 use Rattle.pv_irc.specs.declared.record.CentreRecord.TheVariants as records
 use Rattle.pv_irc.specs.declared.reply.IrcReply.{IrcReply}
@@ -28,7 +28,7 @@ range_with_len-push a (suc n) = ap (λ l. a ∷ l) (range_with_len-push (a + 1) 
 -- what came down is applied only under the count of what was
 is_next : (state : CentreState) (n : ℕ) (down : DownRecord) → first_of (reasons_against state n down) ≡ None → n ≡ state.applied
 is_next state n down none =
-    let missing = all_none (reasons_against state n down) none in
+    let missing = all_missing (reasons_against state n down) none in
     let high : state.applied ≤ n = ltb-false _ _ (some_if-none _ (Old state.applied) missing.0) in
     let low : n ≤ state.applied = ltb-false _ _ (some_if-none _ (Early state.applied) missing.1.0) in
     omega (arith, high, low)

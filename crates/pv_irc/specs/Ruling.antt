@@ -3,7 +3,7 @@ use Rattle.std.proofs.Common.{◌≡◌, ℕ, suc, ◌+◌, ◌<◌, ◌≤◌, 
 use Rattle.std.proofs.lemmas.List.{length-append}
 use Rattle.pv_outside.specs.declared.limits.Limits.{Limits}
 use Rattle.pv_fields.specs.Refusals.{first_of}
-use Rattle.pv_fields.proofs.CallerLemmas.{none_of, some_if-none}
+use Rattle.pv_fields.proofs.CallerLemmas.{all_missing, some_if-none}
 use Rattle.pv_journal.specs.Text.{IsBody}
 use Rattle.pv_edits.specs.declared.down.DownRecord.{DownRecord}
 use Rattle.pv_node.specs.declared.decision.Decision.{Decision}
@@ -60,21 +60,11 @@ of_not : (test : Bool) → not test ≡ false → test ≡ true
 of_not true is = refl
 of_not false is = absurd cc
 
--- each of the optional values is missing
-abbrev pub AreMissing : {X : Type 0} → List (Option X) → Type 0
-AreMissing [] = Unit {0}
-AreMissing (o ∷ others) = (o ≡ None) × AreMissing others
-
--- there is no first value, so each is missing
-pub all_none : {X : Type 0} (os : List (Option X)) → first_of os ≡ None → AreMissing os
-all_none [] none = tt
-all_none (o ∷ others) none = let parts = none_of o others none in (parts.0, all_none others parts.1)
-
 -- it has room
 has_room_down : (state : CentreState) (n : ℕ) (down : DownRecord) → first_of (reasons_against state n down) ≡ None
     → down_fits state down ≡ true
 has_room_down state n down none =
-    let missing = all_none (reasons_against state n down) none in
+    let missing = all_missing (reasons_against state n down) none in
     of_not (down_fits state down) (some_if-none _ (NoRoom state.applied) missing.1.1.0)
 
 -- a record that is stored is within its ranges and has room

@@ -2,7 +2,8 @@
 use Rattle.std.proofs.Common.{◌≡◌, ℕ, zero, suc, ◌+◌, ◌-◌, ◌≤◌, Option, Some, None, IfSome, Result, Ok, Err, IsOk, IsErr, sym, ◌∙◌, ap, subst, arith, rules}
 use Rattle.std.proofs.lemmas.Bool.{false≢true}
 use Rattle.std.specs.Option.{option_map}
-use Rattle.pv_outside.specs.Disk.{Budget, clock_after, budget_after, IsLaterBy, HasCalls, IsEndless, IsSpent, CanCall}
+use Rattle.pv_outside.specs.Disk.{Budget, budget_after, IsLaterBy, HasCalls, IsEndless, IsSpent, CanCall}
+use Rattle.pv_outside.specs.Counts.{successes_after}
 use Rattle.pv_outside.specs.Calls.{IsCall, WritesNothing}
 use Rattle.pv_outside.specs.declared.reports.Reports as reports
 use Rattle.pv_journal.specs.Journal.{HasLeft, Spends, ReadsOnly, HasMade}
@@ -41,7 +42,7 @@ module _ {T E : Type 0} where
   -- a call that succeeds is one of those that were left, and one that fails takes none
   pub paid_after : (r : Result T E) (pay : Budget → Budget) → Pays pay → (old new : Option Budget) (before now : ℕ)
       → new ≡ budget_after r pay old
-      → now ≡ clock_after r before → (IsSpent old → IsErr r) → (n : ℕ) → HasLeft n old → (m : ℕ) × HasLeft m new × (now + m ≤ before + n)
+      → now ≡ successes_after r before → (IsSpent old → IsErr r) → (n : ℕ) → HasLeft n old → (m : ℕ) × HasLeft m new × (now + m ≤ before + n)
   paid_after (Err e) pay pays old new before now is clock spent n has = (n, subst (HasLeft n) (sym is) has, omega (arith, clock))
   paid_after (Ok x) pay pays None new before now is clock spent n has = absurd has
   paid_after (Ok x) pay pays (Some b) new before now is clock spent zero has = absurd (false≢true (spent has))
@@ -58,12 +59,12 @@ left_after (Ok x) pay pays (Some b) new is spent ok (suc k) has =
     (k, subst (HasLeft k) (sym is) ((pays b).1 ∙ ap (option_map (λ n. n - 1)) has ∙ ap Some (one_less k)), omega arith)
 
 -- a call that succeeds is one on the clock
-passed_after : {T E : Type 0} (r : Result T E) (before now : ℕ) → now ≡ clock_after r before → IsOk r → IsLaterBy 1 before now
+passed_after : {T E : Type 0} (r : Result T E) (before now : ℕ) → now ≡ successes_after r before → IsOk r → IsLaterBy 1 before now
 passed_after (Ok x) before now is ok = omega (arith, is)
 passed_after (Err e) before now is ok = absurd (false≢true ok)
 
 -- at most one call more has succeeded after a call
-one_at_most : {T E : Type 0} (r : Result T E) (before now : ℕ) → now ≡ clock_after r before → now ≤ before + 1
+one_at_most : {T E : Type 0} (r : Result T E) (before now : ℕ) → now ≡ successes_after r before → now ≤ before + 1
 one_at_most (Ok x) before now is = omega (arith, is)
 one_at_most (Err e) before now is = omega (arith, is)
 

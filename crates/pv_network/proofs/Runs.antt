@@ -1,13 +1,11 @@
 -- Packets in the bytes of their spellings, and one more that is added after them.
-use Rattle.std.proofs.Common.{◌≡◌, ◌<◌, ℕ, ◌+◌, ◌-◌, ◌≤◌, List, [], ◌∷◌, ◌++◌, length, take, drop, get_or, Option, Some, Result, Ok, Err, ap, ◌∙◌, arith}
+use Rattle.std.proofs.Common.{◌≡◌, ◌<◌, ℕ, ◌+◌, ◌-◌, ◌≤◌, List, [], ◌∷◌, ◌++◌, length, take, drop, get_or, Option, Some, ap, ◌∙◌, arith}
 use Rattle.std.specs.Prelude.{map, unwrap_or, option_map}
 use Rattle.std.specs.List.{slice_get}
 use Rattle.std.proofs.Math.Seq.{drop-append_seam, take-length}
 use Rattle.std.proofs.lemmas.List.{drop-append-le, take-append-le, length-append, length-drop, map_push}
 use Rattle.std.proofs.lemmas.List.Elements.{All-push, All-weaker}
 use Rattle.std.proofs.lemmas.Option.{slice_get-map}
-use Rattle.pv_fields.specs.Out.{room_of, Appends, Puts}
-use Rattle.pv_fields.specs.declared.writing.Out.{Out}
 use Rattle.pv_packet.specs.Packet.{IsPacket, packet_bytes}
 use Rattle.pv_packet.specs.Reading.{packet_of_bytes}
 use Rattle.pv_packet.specs.declared.head.TheConstants.{PACKET_BYTES}
@@ -16,12 +14,6 @@ use Rattle.pv_network.specs.declared.packets.Span.{Span}
 use Rattle.pv_network.specs.Link.{no_packet}
 use Rattle.pv_network.specs.Packets.{run_of, spelled_packet, packets_of, IsSpelled, AreSpelled}
 use Rattle.pv_network.proofs.Rows.{map_agree}
-
--- an encoder that has room for all that it writes appends all of it
-pub appends_all : {T E : Type 0} (result : Result T E) (first last : Out) (bytes : List ℕ) → Puts result first last bytes
-    → length bytes ≤ room_of first → Appends first last bytes
-appends_all (Ok x) first last bytes puts fits = puts
-appends_all (Err e) first last bytes puts fits = absurd (omega (arith, puts, fits))
 
 module _ (bytes more : List ℕ) where
   -- the bytes of a span stay as more are added

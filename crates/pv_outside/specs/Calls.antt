@@ -2,14 +2,15 @@
 use Rattle.std.specs.Prelude.{◌≡◌, ◌↔◌, ℕ, ◌+◌, ◌≤◌, List, length, Option, Result, OnOk, OnErr, IsOk, IsErr}
 use Rattle.std.specs.Option.{option_map}
 use Rattle.pv_outside.specs.Counts.{Rose}
-use Rattle.pv_outside.specs.Disk.{Budget, text_after_write, Torn, Follows, NoMore, Turns, clock_after, budget_after, Elapses, budget_after_write, CanCall, CanWrite, IsSpent, budget_with_fuse}
+use Rattle.pv_outside.specs.Disk.{Budget, text_after_write, Torn, Follows, NoMore, Turns, budget_after, Elapses, budget_after_write, CanCall, CanWrite, IsSpent, budget_with_fuse}
+use Rattle.pv_outside.specs.Counts.{successes_after}
 use Rattle.pv_outside.specs.declared.reports.Reports as reports
 
 module _ {D : Type 0} (g : reports.Ghosts D) where
   -- A call that wrote `size` bytes, is paid for in this way, and passes if the budget allows it.
   pub record IsCall {T E : Type 0} (size : ℕ) (pay : Budget → Budget) (Can : Option Budget → Type 0)
       (old new : D) (result : Result T E) : Type 0 where
-    pub clock : g.clock new ≡ clock_after result (g.clock old)
+    pub clock : g.clock new ≡ successes_after result (g.clock old)
     pub time : Elapses (g.clock old) (g.clock new) (g.has_forgotten old) (g.has_forgotten new)
         (g.left_since old) (g.left_since new) (g.may_leave new) size
     pub budget : g.budget new ≡ budget_after result pay (g.budget old)

@@ -32,11 +32,6 @@ Turns step _ _ = ⊥
 abbrev pub IsLaterBy : ℕ → ℕ → ℕ → Type 0
 IsLaterBy n before now = min (before + n) COUNT_END ≤ now
 
--- the clock counts the calls that succeed
-abbrev pub clock_after : {T E : Type 0} → Result T E → ℕ → ℕ
-clock_after (Ok value) clock = min (clock + 1) COUNT_END
-clock_after (Err failure) clock = clock
-
 -- Time goes on by one call, which wrote `size` bytes.
 pub record Elapses (clock_before clock_now : ℕ) (forgot_before forgot_now : ℕ → Type 0)
     (since_before since_now : ℕ → List ℕ → Type 0) (may_leave_now : List ℕ → Type 0) (size : ℕ) : Type 0 where

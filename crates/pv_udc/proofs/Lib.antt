@@ -1,6 +1,5 @@
 pub mod CallerLemmas
 mod Facts
-mod Filling
 mod Growing
 mod LastEdits
 mod Least

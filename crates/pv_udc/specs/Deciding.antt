@@ -3,7 +3,7 @@ use Rattle.std.proofs.Common.{◌≡◌, ℕ, Bool, true, false, not, List, [], 
 use Rattle.std.proofs.lemmas.Bool.{eqb-true}
 use Rattle.pv_outside.specs.declared.limits.Limits.{Limits}
 use Rattle.pv_fields.specs.Refusals.{first_of}
-use Rattle.pv_fields.proofs.CallerLemmas.{none_of, some_if-none, option_map-none_back}
+use Rattle.pv_fields.proofs.CallerLemmas.{all_missing, some_if-none, option_map-none_back}
 use Rattle.pv_edits.specs.Room.{has_editor}
 use Rattle.pv_edits.specs.declared.record.Record.{Record}
 use Rattle.pv_edits.specs.declared.wish.EditWish.{EditWish}
@@ -21,16 +21,6 @@ use Rattle.pv_udc.specs.declared.request.UdcRequest.TheVariants.{Edit}
 pub of_not : (test : Bool) → not test ≡ false → test ≡ true
 of_not true is = refl
 of_not false is = absurd cc
-
--- each of the optional values is missing
-abbrev pub AreNone : {X : Type 0} → List (Option X) → Type 0
-AreNone [] = Unit {0}
-AreNone (o ∷ others) = (o ≡ None) × AreNone others
-
--- there is no first value, so each is missing
-pub all_none : {X : Type 0} (os : List (Option X)) → first_of os ≡ None → AreNone os
-all_none [] none = tt
-all_none (o ∷ others) none = let parts = none_of o others none in (parts.0, all_none others parts.1)
 
 -- the record that is stored, or this one
 abbrev stored_or : Record → Decision Record UdcReply → Record
@@ -61,7 +51,7 @@ module _ (limits : Limits) (records : List Record) (editor q : ℕ) where
   is_done wish edit reply is =
       let answers = answers_of limits records (Edit editor q wish) in
       let stored = is_stored (first_of answers) (edit_of editor q wish) edit (length records) reply is in
-      let none = all_none answers stored.0 in
+      let none = all_missing answers stored.0 in
       record {
         edit_is = stored.1;
         has_account = of_not _ (some_if-none _ NotLoggedOn (option_map-none_back reply_to (editor_refusal records editor) none.0));
@@ -74,7 +64,7 @@ module _ (limits : Limits) (records : List Record) (editor q : ℕ) where
   is_next none = eqb-true _ _ (of_not _ (some_if-none _ (BadNumber (next_number records editor)) none))
 
   pub numbered : (wish : EditWish) → refusal_of limits records editor q wish ≡ None → q ≡ next_number records editor
-  numbered (Put name frame) none = is_next (all_none (refusals_of limits records editor q (Put name frame)) none).1.0
-  numbered (Drop name) none = is_next (all_none (refusals_of limits records editor q (Drop name)) none).1.0
-  numbered (Account account) none = is_next (all_none (refusals_of limits records editor q (Account account)) none).0
-  numbered (Lease root account) none = is_next (all_none (refusals_of limits records editor q (Lease root account)) none).0
+  numbered (Put name frame) none = is_next (all_missing (refusals_of limits records editor q (Put name frame)) none).1.0
+  numbered (Drop name) none = is_next (all_missing (refusals_of limits records editor q (Drop name)) none).1.0
+  numbered (Account account) none = is_next (all_missing (refusals_of limits records editor q (Account account)) none).0
+  numbered (Lease root account) none = is_next (all_missing (refusals_of limits records editor q (Lease root account)) none).0

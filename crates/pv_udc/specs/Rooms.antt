@@ -2,7 +2,7 @@
 use Rattle.std.proofs.Common.{◌≡◌, ℕ, Bool, true, ◌&&◌, List, length, None, refl, subst}
 use Rattle.pv_outside.specs.declared.limits.Limits.{Limits}
 use Rattle.pv_fields.specs.Refusals.{first_of}
-use Rattle.pv_fields.proofs.CallerLemmas.{some_if-none, option_map-none_back}
+use Rattle.pv_fields.proofs.CallerLemmas.{all_missing, some_if-none, option_map-none_back}
 use Rattle.pv_frame.specs.Errors.{error_of}
 use Rattle.pv_post.specs.declared.item.Item.{Item}
 use Rattle.pv_edits.specs.Record.{IsRecord, IsEditor}
@@ -18,7 +18,7 @@ use Rattle.pv_udc.specs.declared.refusal.Refusal.TheVariants.{FramesFull, Accoun
 use Rattle.pv_udc.specs.declared.reply.UdcReply.{UdcReply}
 use Rattle.pv_udc.specs.declared.request.UdcRequest.{UdcRequest}
 use Rattle.pv_udc.specs.declared.request.UdcRequest.TheVariants.{Edit, TakeUp}
-use Rattle.pv_udc.specs.Deciding.{of_not, all_none, is_stored, is_done}
+use Rattle.pv_udc.specs.Deciding.{of_not, is_stored, is_done}
 
 -- both hold
 both : (one other : Bool) → one ≡ true → other ≡ true → (one && other) ≡ true
@@ -29,21 +29,21 @@ module _ (limits : Limits) (records : List Record) (editor q : ℕ) where
   room_wished : (wish : EditWish) → has_editor records editor ≡ true → refusal_of limits records editor q wish ≡ None
       → has_room limits records (edit_of editor q wish) ≡ true
   room_wished (Put name frame) known none =
-      let missing = all_none (refusals_of limits records editor q (Put name frame)) none in
+      let missing = all_missing (refusals_of limits records editor q (Put name frame)) none in
       both _ _ known (of_not _ (some_if-none _ (FramesFull limits.frames) missing.1.1.0))
   room_wished (Drop name) known none = known
   room_wished (Account account) known none =
-      let missing = all_none (refusals_of limits records editor q (Account account)) none in
+      let missing = all_missing (refusals_of limits records editor q (Account account)) none in
       both _ _ known (of_not _ (some_if-none _ (AccountsFull MAX_ACCOUNTS) missing.1.0))
   room_wished (Lease root account) known none =
-      let missing = all_none (refusals_of limits records editor q (Lease root account)) none in
+      let missing = all_missing (refusals_of limits records editor q (Lease root account)) none in
       both _ _ known (of_not _ (some_if-none _ (LeasesFull MAX_LEASES) missing.1.1.0))
 
   -- each part of it is within its range
   record_wished : (wish : EditWish) → IsEditor editor q → IsWish wish → refusal_of limits records editor q wish ≡ None
       → IsRecord (edit_of editor q wish)
   record_wished (Put name frame) is ranges none =
-      let missing = all_none (refusals_of limits records editor q (Put name frame)) none in
+      let missing = all_missing (refusals_of limits records editor q (Put name frame)) none in
       (is, (ranges.0, record { holds = ranges.1; valid = option_map-none_back BadFrame (error_of frame) missing.1.1.1.0 }))
   record_wished (Drop name) is ranges none = (is, ranges)
   record_wished (Account account) is ranges none = (is, ranges)

@@ -1,8 +1,8 @@
 use Rattle.std.proofs.Common.{◌≤◌, length, arith}
 use Rattle.pv_fields.specs.Out.{room_of}
+use Rattle.pv_fields.proofs.CallerLemmas.{appends_all, never_fails}
 use Rattle.pv_irc.specs.Record.{centre_bytes}
 use Rattle.pv_irc.specs.Lengths.{IsBody-centre}
-use Rattle.pv_irc.proofs.Filling.{appends_all, never_fails}
 use Rattle.pv_irc.proofs.rules.encode_straight.Goals as goal
 
 pub returns-clause-ok : goal.returns-clause-ok

@@ -1,10 +1,9 @@
 use Rattle.std.proofs.Common.{◌≡◌, ◌≤◌, length, ap, ◌∙◌, arith, rules}
 use Rattle.std.proofs.lemmas.List.{take_at}
 use Rattle.pv_fields.specs.Out.{room_of, Appends}
-use Rattle.pv_fields.proofs.CallerLemmas.{slice_after}
+use Rattle.pv_fields.proofs.CallerLemmas.{slice_after, appends_all}
 use Rattle.pv_packet.specs.Packet.{packet_bytes}
 use Rattle.pv_packet.specs.declared.head.TheConstants.{PACKET_BYTES}
-use Rattle.pv_network.proofs.Runs.{appends_all}
 use Rattle.pv_network.proofs.packets.spell.Goals as goal
 use Rattle.pv_network.proofs.packets.spell.Goals.{After-written}
 

@@ -1,8 +1,8 @@
 use Rattle.std.proofs.Common.{◌≤◌, length, arith}
 use Rattle.pv_fields.specs.Out.{room_of}
+use Rattle.pv_fields.proofs.CallerLemmas.{appends_all, never_fails}
 use Rattle.pv_edits.specs.Record.{record_bytes}
 use Rattle.pv_udc.specs.Sizes.{IsBody-record}
-use Rattle.pv_udc.proofs.Filling.{appends_all, never_fails}
 use Rattle.pv_udc.proofs.rules.encode_straight.Goals as goal
 
 pub returns-clause-ok : goal.returns-clause-ok
