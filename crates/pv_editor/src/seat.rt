@@ -1,7 +1,5 @@
-ghost use Rattle.std.specs.Prelude.{◌≡◌, ℕ, List, Some, option_map, option_copied};
+ghost use Rattle.std.specs.Prelude.{◌≡◌, ℕ, Some, option_map, option_copied};
 ghost use Rattle.pv_fields.specs.Refusals.{first_of};
-ghost use Rattle.pv_edits.specs.Standing.{IsBaseOf};
-ghost use Rattle.pv_edits.specs.declared.record.Record.{Record};
 ghost use Rattle.pv_edits.specs.Edits.{frame_at, last_of};
 ghost use Rattle.pv_frame.specs.Content.{blank_frame};
 ghost use Rattle.pv_editor.specs.declared.step.EditStep.TheVariants as steps;
@@ -51,8 +49,7 @@ impl EditorSeat {
 
     /// Takes a line, and returns its step. The base is the Update Centre's.
     pub fn line(&mut self, text: &[u8], base: &Base) -> EditStep
-        ensures says { (records : List Record) (places : List ℕ) → IsBaseOf base.now records places →
-            Says self.old text.now records places self.new result }
+        ensures says { Says self.old text.now base.now.records base.now.places self.new result }
         // A line that is answered by a refusal leaves the seat as it was.
         ensures refused { (code shown : ℕ) → result ≡ steps.Say (refusal_text code shown)
             → self.new ≡ self.old }
@@ -65,10 +62,8 @@ impl EditorSeat {
 
     /// Takes a line that was read.
     fn take(&mut self, line: &EditLine, base: &Base) -> EditStep
-        ensures seat { (records : List Record) (places : List ℕ) → IsBaseOf base.now records places →
-            self.new ≡ (turn_of self.old records places (Some line.now)).0 }
-        ensures step { (records : List Record) (places : List ℕ) → IsBaseOf base.now records places →
-            result ≡ (turn_of self.old records places (Some line.now)).1 }
+        ensures seat { self.new ≡ (turn_of self.old base.now.records base.now.places (Some line.now)).0 }
+        ensures step { result ≡ (turn_of self.old base.now.records base.now.places (Some line.now)).1 }
     {
         match self.refusal(line, base) {
             Some(refusal) => EditStep::Say(reply_text(&refusal)),
@@ -82,8 +77,7 @@ impl EditorSeat {
 
     /// The first reason why a line is refused.
     fn refusal(&self, line: &EditLine, base: &Base) -> Option<UdcReplyView>
-        ensures { (records : List Record) (places : List ℕ) → IsBaseOf base.now records places →
-            result ≡ first_of (refusals self.now records line.now) }
+        ensures { result ≡ first_of (refusals self.now base.now.records line.now) }
     {
         if needs_account(line) && self.account.is_none() {
             return Some(UdcReplyView::Refused(LOG_ON_FIRST, 0));
@@ -101,8 +95,7 @@ impl EditorSeat {
 
     /// Why a frame cannot be opened: its page is another's, or there is none.
     fn open_refusal(&self, name: FrameName, base: &Base) -> Option<UdcReplyView>
-        ensures { (records : List Record) (places : List ℕ) → IsBaseOf base.now records places →
-            result ≡ first_of (open_refusals self.now.account records name) }
+        ensures { result ≡ first_of (open_refusals self.now.account base.now.records name) }
     {
         if self.account != Some(base.owner(name.page)) {
             return Some(UdcReplyView::Refused(NOT_OWNER, 0));
@@ -131,8 +124,7 @@ impl EditorSeat {
 
     /// The step of a line that is not refused.
     fn step(&self, line: &EditLine, base: &Base) -> EditStep
-        ensures { (records : List Record) (places : List ℕ) → IsBaseOf base.now records places →
-            result ≡ step_of self.now records places line.now }
+        ensures { result ≡ step_of self.now base.now.records base.now.places line.now }
     {
         match line {
             EditLine::Store { q } => self.store_step(*q),
@@ -176,8 +168,7 @@ impl EditorSeat {
 
     /// The answer to a question for the editor's last number.
     fn last_step(&self, base: &Base) -> EditStep
-        ensures { (records : List Record) (places : List ℕ) → IsBaseOf base.now records places →
-            result ≡ last_step self.now records places }
+        ensures { result ≡ last_step self.now base.now.records base.now.places }
     {
         match self.account {
             Some(editor) => EditStep::Say(last_text(last_number(editor, base))),
@@ -197,8 +188,7 @@ impl EditorSeat {
 
     /// Changes the seat as a line says that is not refused.
     fn change(&mut self, line: &EditLine, base: &Base)
-        ensures { (records : List Record) (places : List ℕ) → IsBaseOf base.now records places →
-            self.new ≡ seat_after self.old records line.now }
+        ensures { self.new ≡ seat_after self.old base.now.records line.now }
     {
         match line {
             EditLine::LogOn { account, .. } => {
@@ -235,8 +225,7 @@ fn blank_working(name: FrameName) -> Working
 
 /// The stored frame of a name.
 fn stored_working(name: FrameName, base: &Base) -> Option<Working>
-    ensures { (records : List Record) (places : List ℕ) → IsBaseOf base.now records places →
-        result ≡ option_map (frame_for name) (frame_at records name) }
+    ensures { result ≡ option_map (frame_for name) (frame_at base.now.records name) }
 {
     match base.get(name) {
         Some(frame) => Some(Working {
@@ -267,8 +256,7 @@ fn log_on_refusal(
     password: &[u8; PASSWORD_BYTES],
     base: &Base,
 ) -> Option<UdcReplyView>
-    ensures { (records : List Record) (places : List ℕ) → IsBaseOf base.now records places →
-        result ≡ log_on_refusal records account password.now }
+    ensures { result ≡ log_on_refusal base.now.records account password.now }
 {
     if is_password(base.account(account), password) {
         None
@@ -289,8 +277,7 @@ fn is_password(account: Option<&Account>, password: &[u8; PASSWORD_BYTES]) -> bo
 
 /// An editor's last number, 0 at first.
 fn last_number(editor: AccountNo, base: &Base) -> u32
-    ensures { (records : List Record) (places : List ℕ) → IsBaseOf base.now records places →
-        result ≡ number_of_last (last_of records places editor) }
+    ensures { result ≡ number_of_last (last_of base.now.records base.now.places editor) }
 {
     match base.last(editor) {
         Some((q, _)) => q,

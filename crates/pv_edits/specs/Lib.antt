@@ -8,3 +8,4 @@ pub mod OpenPages
 pub mod Sight
 pub mod Room
 pub mod Standing
+pub mod Keeping

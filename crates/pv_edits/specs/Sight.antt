@@ -8,7 +8,6 @@ use Rattle.pv_edits.specs.declared.record.Record.{Record}
 use Rattle.pv_edits.specs.declared.sight.Sight.{Sight}
 use Rattle.pv_edits.specs.Edits.{account_at}
 use Rattle.pv_edits.specs.OpenPages.{open_frame_at, open_pages}
-use Rattle.pv_edits.specs.Standing.{records_of}
 
 -- what a caller sees: his account, and the frame of each name that he may have
 pub record View : Type 0 where
@@ -34,5 +33,5 @@ sight_of records centre caller = record {
 abbrev pub view_of : Sight → View
 view_of sight = record {
   account = option_copied sight.account;
-  pages = λ name. option_copied sight.account >>= λ account. open_frame_at (records_of sight.base.now) account.groups name;
+  pages = λ name. option_copied sight.account >>= λ account. open_frame_at sight.base.now.records account.groups name;
 }

@@ -1,22 +1,21 @@
--- Which list of records a base stands for, and the place of each record.
-use Rattle.std.specs.Prelude.{◌≡◌, ℕ, List}
+-- What a base stands for: the records that it has absorbed, with the place of each, and its limits.
+use Rattle.std.specs.Prelude.{ℕ, List, [], ◌∷◌, ◌++◌}
 use Rattle.pv_outside.specs.declared.limits.Limits.{Limits}
 use Rattle.pv_edits.specs.declared.record.Record.{Record}
-use Rattle.pv_edits.specs.declared.base.Base.{Base}
 
--- the base has these records, with these places
-pub record IsBaseOf (base : Base) (absorbed : List Record) (with_places : List ℕ) : Type 0 where
-  pub records : base.records.items ≡ absorbed
-  pub places : base.places.items ≡ with_places
+-- the records that were absorbed, oldest first, the place of each of them, and the limits that the base was opened with
+pub record BaseState : Type 0 where
+  pub records : List Record
+  pub places : List ℕ
+  pub limits : Limits
 
--- the records that a base has absorbed, oldest first
-abbrev pub records_of : Base → List Record
-records_of base = base.records.items
+-- the base of no records
+abbrev pub empty_base : Limits → BaseState
+empty_base limits = record { records = []; places = []; limits = limits }
 
--- the place of each of them
-abbrev pub places_of : Base → List ℕ
-places_of base = base.places.items
-
--- the limits that a base was opened with
-abbrev pub limits_of : Base → Limits
-limits_of base = base.limits
+-- with one record more, which has this place
+abbrev pub with_record_at : BaseState → Record → ℕ → BaseState
+with_record_at base edit place = record base {
+  records = base.records ++ edit ∷ [];
+  places = base.places ++ place ∷ [];
+}

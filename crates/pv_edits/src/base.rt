@@ -1,22 +1,23 @@
-ghost use Rattle.std.specs.Prelude.{◌≡◌, ℕ, ◌+◌, ◌<◌, ◌≤◌, ◌↔◌, List, [], ◌∷◌, ◌++◌, length, slice_get, is_some, option_copied, option_map, IfOk, IfSome, IsTrue};
+ghost use Rattle.std.specs.Prelude.{◌≡◌, ℕ, ◌<◌, ◌≤◌, List, [], ◌∷◌, ◌++◌, length, slice_get, is_some, option_copied, IfOk, IfSome, IsTrue};
 ghost use Rattle.std.specs.Vec.{vec_capacity};
 ghost use Rattle.pv_frame.specs.Errors.{IsValid};
-ghost use Rattle.pv_edits.specs.declared.record.Record.{Record};
-ghost use Rattle.pv_edits.specs.OpenPages.{is_open_to};
+ghost use Rattle.pv_edits.specs.OpenPages.{open_frame_at, is_open_to};
+ghost use Rattle.pv_edits.specs.Owner.{owner_of};
 ghost use Rattle.pv_edits.specs.Room.{frame_count, frames_after, account_count, accounts_after, lease_count, leases_after, has_editor, frame_fits, account_fits, lease_fits, has_room};
-ghost use Rattle.pv_edits.specs.Chain.{IsChained};
-ghost use Rattle.pv_edits.specs.Edits.{is_about, is_edit_of, leases, last_index, frame_at, frame_in, account_at, account_in, last_of, number_in, operator_profile};
+ghost use Rattle.pv_edits.specs.Edits.{is_about, leases, last_index, frame_at, frame_in, account_at, account_in, last_of, number_in, operator_profile};
+ghost use Rattle.pv_edits.specs.Standing.{empty_base, with_record_at};
 
 use crate::chain::{BUCKETS, bucket_in, last_in_bucket};
 use crate::owner::lot_of;
 use crate::record::Record;
 use crate::room::{MAX_ACCOUNTS, MAX_LEASES, OPERATOR};
-use crate::subject::{Subject, is_edit_of};
+use crate::subject::{Subject, last_edit_of};
 use pv_account::{Account, Groups, digest};
 use pv_frame::Frame;
 use pv_outside::Limits;
 use pv_page::{AccountNo, FrameName, PageNo};
 use std::alloc::{AllocError, Global};
+use std::marker::Model;
 
 /// The frames, the accounts, the leases and the editors' numbers of a list of records. All room is
 /// reserved when it is opened. A search goes through the records of one bucket, and for an editor's
@@ -32,26 +33,29 @@ pub struct Base {
     leased: u32,
     heads: Vec<usize>,
     links: Vec<usize>,
-    ghost paired: { length places.items ≡ length records.items },
-    ghost reserved: { (limits.records ≤ vec_capacity records) × (limits.records ≤ vec_capacity places)
-        × (limits.records ≤ vec_capacity links) },
-    ghost opening: { operator ≡ operator_profile },
-    ghost frames_counted: { frames ≡ frame_count records.items },
-    ghost accounts_counted: { accounts ≡ account_count records.items },
-    ghost leases_counted: { leased ≡ lease_count records.items },
-    ghost chained: { IsChained heads.items links.items records.items },
+}
+
+impl Model for Base {
+    ghost use Rattle.pv_edits.specs.Standing.{BaseState};
+
+    ghost Value = { BaseState };
+
+    ghost use Rattle.pv_edits.specs.Keeping.{IsKeptBase};
+
+    ghost view = { λ b. record {
+      records = b.records.items;
+      places = b.places.items;
+      limits = b.limits;
+    } };
+
+    ghost invariant = { IsKeptBase };
 }
 
 impl Base {
-    ghost use Rattle.pv_edits.specs.Owner.{owner_of};
-    ghost use Rattle.pv_edits.specs.OpenPages.{open_frame_at};
-    ghost use Rattle.pv_edits.specs.Standing.{IsBaseOf};
-
     /// The base of no records. It has the operator and nothing else. Room for `limits.records` records
     /// is reserved.
     pub fn open(alloc: Global, limits: Limits) -> Result<Base, AllocError>
-        ensures empty { IfOk result (λ base. IsBaseOf base [] []) }
-        ensures limits { IfOk result (λ base. base.limits ≡ limits) }
+        ensures { IfOk result (λ base. base ≡ empty_base limits) }
     {
         let room = limits.records as usize;
         Ok(Base {
@@ -67,12 +71,9 @@ impl Base {
         })
     }
 
-    /// A copy that stands for the same records, with the same limits. Room for `limits.records` records
-    /// is reserved in it too.
+    /// A copy of the base. Room for `limits.records` records is reserved in it too.
     pub fn copy(&self, alloc: Global) -> Result<Base, AllocError>
-        ensures same { (records : List Record) (places : List ℕ) → IsBaseOf self.now records places →
-            IfOk result (λ copy. IsBaseOf copy records places) }
-        ensures limits { IfOk result (λ copy. copy.limits ≡ self.now.limits) }
+        ensures { IfOk result (λ copy. copy ≡ self.now) }
     {
         let room = self.limits.records as usize;
         Ok(Base {
@@ -90,13 +91,9 @@ impl Base {
 
     /// Adds a record, with its place in the edit list. There is room for it.
     pub fn absorb(&mut self, rec: &Record, place: u64)
-        requires fits { (records : List Record) (places : List ℕ) → IsBaseOf self.old records places →
-            length records < self.old.limits.records }
-        requires room { (records : List Record) (places : List ℕ) → IsBaseOf self.old records places →
-            IsTrue (has_room self.old.limits records rec.now) }
-        ensures absorbed { (records : List Record) (places : List ℕ) → IsBaseOf self.old records places →
-            IsBaseOf self.new (records ++ rec.now ∷ []) (places ++ place ∷ []) }
-        ensures limits { self.new.limits ≡ self.old.limits }
+        requires fits { length self.old.records < self.old.limits.records }
+        requires room { IsTrue (has_room self.old.limits self.old.records rec.now) }
+        ensures { self.new ≡ with_record_at self.old rec.now place }
     {
         let frames = self.frames_after(rec);
         let accounts = self.accounts_after(rec);
@@ -114,8 +111,7 @@ impl Base {
 
     /// How many records were absorbed.
     pub fn count(&self) -> u64
-        ensures { (records : List Record) (places : List ℕ) → IsBaseOf self.now records places →
-            result ≡ length records }
+        ensures { result ≡ length self.now.records }
     {
         self.records.len() as u64
     }
@@ -123,8 +119,7 @@ impl Base {
     /// The record at an index, in the order in which they were absorbed. `None` exactly from the count
     /// on.
     pub fn record_at(&self, index: u64) -> Option<&Record>
-        ensures { (records : List Record) (places : List ℕ) → IsBaseOf self.now records places →
-            option_copied result ≡ slice_get records index }
+        ensures { option_copied result ≡ slice_get self.now.records index }
     {
         self.records.get(index as usize)
     }
@@ -139,20 +134,19 @@ impl Base {
     /// The frame of a name. `None` exactly when it has none.
     pub fn get(&self, name: FrameName) -> Option<&Frame>
         ensures valid { IfSome result (λ frame. IsValid frame.now) }
-        ensures frame { (records : List Record) (places : List ℕ) → IsBaseOf self.now records places →
-            option_copied result ≡ frame_at records name }
+        ensures frame { option_copied result ≡ frame_at self.now.records name }
     {
-        self.find_frame(name)
+        let index = self.last_about(Subject::Name(name))?;
+        frame_in(&self.records[index])
     }
 
     /// The frame of a name, if it is open to the account: if its group is 0 or one of the account's.
     /// `None` exactly when there is no such frame.
     pub fn open_to(&self, account: &Account, name: FrameName) -> Option<&Frame>
         ensures valid { IfSome result (λ frame. IsValid frame.now) }
-        ensures frame { (records : List Record) (places : List ℕ) → IsBaseOf self.now records places →
-            option_copied result ≡ open_frame_at records account.now.groups name }
+        ensures frame { option_copied result ≡ open_frame_at self.now.records account.now.groups name }
     {
-        let frame = self.find_frame(name)?;
+        let frame = self.get(name)?;
         if is_open_to(account, frame) {
             Some(frame)
         } else {
@@ -162,17 +156,19 @@ impl Base {
 
     /// The account of a number. `None` exactly when there is none.
     pub fn account(&self, number: AccountNo) -> Option<&Account>
-        ensures { (records : List Record) (places : List ℕ) → IsBaseOf self.now records places →
-            option_copied result ≡ account_at records number }
+        ensures { option_copied result ≡ account_at self.now.records number }
     {
-        self.find_account(number)
+        match self.last_about(Subject::Account(number)) {
+            Some(index) => account_in(&self.records[index]),
+            None if number.number() == OPERATOR => Some(&self.operator),
+            None => None,
+        }
     }
 
     /// Whom a page belongs to: the account of the longest leased root whose digits are a prefix of the
     /// page's, by the last lease of that root, or the operator. If no root is leased, no record is looked at.
     pub fn owner(&self, page: PageNo) -> AccountNo
-        ensures { (records : List Record) (places : List ℕ) → IsBaseOf self.now records places →
-            result ≡ owner_of records page }
+        ensures { result ≡ owner_of self.now.records page }
     {
         if self.leased == 0 {
             return self.operator.number;
@@ -186,97 +182,7 @@ impl Base {
     /// Whether there is room for a record: its editor is an account, if it has one, and what it adds is
     /// within the limits.
     pub fn has_room(&self, rec: &Record) -> bool
-        ensures { (records : List Record) (places : List ℕ) → IsBaseOf self.now records places →
-            result ≡ has_room self.now.limits records rec.now }
-    {
-        self.fits(rec)
-    }
-
-    /// Whether the name has a frame, or there may be one frame more.
-    pub fn frame_fits(&self, name: FrameName) -> bool
-        ensures { (records : List Record) (places : List ℕ) → IsBaseOf self.now records places →
-            result ≡ frame_fits self.now.limits records name }
-    {
-        self.has_frame(name) || self.frames < self.limits.frames
-    }
-
-    /// Whether there is the account, or there may be one more.
-    pub fn account_fits(&self, number: AccountNo) -> bool
-        ensures { (records : List Record) (places : List ℕ) → IsBaseOf self.now records places →
-            result ≡ account_fits records number }
-    {
-        self.has_account(number) || self.accounts < MAX_ACCOUNTS
-    }
-
-    /// Whether the root is leased, or there may be one leased root more.
-    pub fn lease_fits(&self, root: PageNo) -> bool
-        ensures { (records : List Record) (places : List ℕ) → IsBaseOf self.now records places →
-            result ≡ lease_fits records root }
-    {
-        self.has_lease(root) || self.leased < MAX_LEASES
-    }
-
-    /// An editor's last number, and the place of his last record. `None` exactly when he has none.
-    pub fn last(&self, editor: AccountNo) -> Option<(u32, u64)>
-        ensures { (records : List Record) (places : List ℕ) → IsBaseOf self.now records places →
-            result ≡ last_of records places editor }
-    {
-        let index = self.last_about(Subject::Editor(editor))?;
-        let q = number_in(&self.records[index])?;
-        Some((q, self.places[index]))
-    }
-
-    /// The frame of a name.
-    fn find_frame(&self, name: FrameName) -> Option<&Frame>
-        ensures valid { IfSome result (λ frame. IsValid frame.now) }
-        ensures frame { option_copied result ≡ frame_at self.now.records.items name }
-    {
-        let index = self.last_about(Subject::Name(name))?;
-        frame_in(&self.records[index])
-    }
-
-    /// The account of a number.
-    fn find_account(&self, number: AccountNo) -> Option<&Account>
-        ensures { option_copied result ≡ account_at self.now.records.items number }
-    {
-        match self.last_about(Subject::Account(number)) {
-            Some(index) => account_in(&self.records[index]),
-            None if number.number() == OPERATOR => Some(&self.operator),
-            None => None,
-        }
-    }
-
-    /// Whether the name has a frame.
-    fn has_frame(&self, name: FrameName) -> bool
-        ensures { result ≡ is_some (frame_at self.now.records.items name) }
-    {
-        self.find_frame(name).is_some()
-    }
-
-    /// Whether there is the account.
-    fn has_account(&self, number: AccountNo) -> bool
-        ensures { result ≡ is_some (account_at self.now.records.items number) }
-    {
-        self.find_account(number).is_some()
-    }
-
-    /// Whether the root is leased.
-    fn has_lease(&self, root: PageNo) -> bool
-        ensures { result ≡ is_some (last_index (leases root) self.now.records.items) }
-    {
-        self.last_about(Subject::Root(root)).is_some()
-    }
-
-    /// Whether the editor is an account.
-    fn has_editor(&self, editor: AccountNo) -> bool
-        ensures { result ≡ has_editor self.now.records.items editor }
-    {
-        self.has_account(editor)
-    }
-
-    /// Whether there is room for a record.
-    fn fits(&self, rec: &Record) -> bool
-        ensures { result ≡ has_room self.now.limits self.now.records.items rec.now }
+        ensures { result ≡ has_room self.now.limits self.now.records rec.now }
     {
         match rec {
             Record::Put { editor, name, .. } => self.has_editor(*editor) && self.frame_fits(*name),
@@ -293,10 +199,68 @@ impl Base {
         }
     }
 
+    /// Whether the name has a frame, or there may be one frame more.
+    pub fn frame_fits(&self, name: FrameName) -> bool
+        ensures { result ≡ frame_fits self.now.limits self.now.records name }
+    {
+        self.has_frame(name) || self.frames < self.limits.frames
+    }
+
+    /// Whether there is the account, or there may be one more.
+    pub fn account_fits(&self, number: AccountNo) -> bool
+        ensures { result ≡ account_fits self.now.records number }
+    {
+        self.has_account(number) || self.accounts < MAX_ACCOUNTS
+    }
+
+    /// Whether the root is leased, or there may be one leased root more.
+    pub fn lease_fits(&self, root: PageNo) -> bool
+        ensures { result ≡ lease_fits self.now.records root }
+    {
+        self.has_lease(root) || self.leased < MAX_LEASES
+    }
+
+    /// An editor's last number, and the place of his last record. `None` exactly when he has none.
+    pub fn last(&self, editor: AccountNo) -> Option<(u32, u64)>
+        ensures { result ≡ last_of self.now.records self.now.places editor }
+    {
+        let index = self.last_about(Subject::Editor(editor))?;
+        let q = number_in(&self.records[index])?;
+        Some((q, self.places[index]))
+    }
+
+    /// Whether the name has a frame.
+    fn has_frame(&self, name: FrameName) -> bool
+        ensures { result ≡ is_some (frame_at self.now.records name) }
+    {
+        self.get(name).is_some()
+    }
+
+    /// Whether there is the account.
+    fn has_account(&self, number: AccountNo) -> bool
+        ensures { result ≡ is_some (account_at self.now.records number) }
+    {
+        self.account(number).is_some()
+    }
+
+    /// Whether the root is leased.
+    fn has_lease(&self, root: PageNo) -> bool
+        ensures { result ≡ is_some (last_index (leases root) self.now.records) }
+    {
+        self.last_about(Subject::Root(root)).is_some()
+    }
+
+    /// Whether the editor is an account.
+    fn has_editor(&self, editor: AccountNo) -> bool
+        ensures { result ≡ has_editor self.now.records editor }
+    {
+        self.has_account(editor)
+    }
+
     /// How many names have a frame after this record.
     fn frames_after(&self, rec: &Record) -> u32
-        requires { IsTrue (has_room self.now.limits self.now.records.items rec.now) }
-        ensures { result ≡ frames_after self.now.records.items self.now.frames rec.now }
+        requires { IsTrue (has_room self.now.limits self.now.records rec.now) }
+        ensures { result ≡ frames_after self.now.records (frame_count self.now.records) rec.now }
     {
         match rec {
             Record::Put { name, .. } => {
@@ -319,8 +283,8 @@ impl Base {
 
     /// How many accounts there are after this record.
     fn accounts_after(&self, rec: &Record) -> u32
-        requires { IsTrue (has_room self.now.limits self.now.records.items rec.now) }
-        ensures { result ≡ accounts_after self.now.records.items self.now.accounts rec.now }
+        requires { IsTrue (has_room self.now.limits self.now.records rec.now) }
+        ensures { result ≡ accounts_after self.now.records (account_count self.now.records) rec.now }
     {
         match rec {
             Record::Account { account, .. } => {
@@ -336,8 +300,8 @@ impl Base {
 
     /// How many roots are leased after this record.
     fn leases_after(&self, rec: &Record) -> u32
-        requires { IsTrue (has_room self.now.limits self.now.records.items rec.now) }
-        ensures { result ≡ leases_after self.now.records.items self.now.leased rec.now }
+        requires { IsTrue (has_room self.now.limits self.now.records rec.now) }
+        ensures { result ≡ leases_after self.now.records (lease_count self.now.records) rec.now }
     {
         match rec {
             Record::Lease { root, .. } => {
@@ -353,25 +317,13 @@ impl Base {
 
     /// The index of the last record about this.
     fn last_about(&self, subject: Subject) -> Option<usize>
-        ensures last { result ≡ last_index (is_about subject) self.now.records.items }
-        ensures within { IfSome result (λ index. index < length self.now.records.items) }
+        ensures last { result ≡ last_index (is_about subject) self.now.records }
+        ensures within { IfSome result (λ index. index < length self.now.records) }
     {
         match subject {
-            Subject::Editor(account) => self.last_edit_of(account),
+            Subject::Editor(account) => last_edit_of(&self.records, account),
             _ => last_in_bucket(&self.records, &self.heads, &self.links, &subject),
         }
-    }
-
-    /// The index of an editor's last edit.
-    fn last_edit_of(&self, account: AccountNo) -> Option<usize>
-        ensures last { result ≡ last_index (is_edit_of account) self.now.records.items }
-        ensures within { IfSome result (λ index. index < length self.now.records.items) }
-    {
-        let index = self
-            .records
-            .iter()
-            .rposition(|edit| is_edit_of(edit, account))?;
-        Some(index)
     }
 }
 

@@ -1,7 +1,5 @@
-ghost use Rattle.std.specs.Prelude.{◌≡◌, ℕ, List, option_copied, IfSome};
+ghost use Rattle.std.specs.Prelude.{◌≡◌, option_copied, IfSome};
 ghost use Rattle.pv_frame.specs.Errors.{IsValid};
-ghost use Rattle.pv_edits.specs.declared.record.Record.{Record};
-ghost use Rattle.pv_edits.specs.Standing.{IsBaseOf};
 ghost use Rattle.pv_edits.specs.Sight.{sight_of, view_of};
 
 use crate::base::Base;
@@ -20,8 +18,7 @@ pub struct Sight<'a> {
 impl<'a> Sight<'a> {
     /// What the centre of this base shows to the caller who gave this account, or none.
     pub fn new(base: &'a Base, centre: u8, account: Option<AccountNo>) -> Sight<'a>
-        ensures { (records : List Record) (places : List ℕ) → IsBaseOf base.now records places →
-            view_of result ≡ sight_of records centre account }
+        ensures { view_of result ≡ sight_of base.now.records centre account }
     {
         Sight {
             base,
@@ -48,8 +45,7 @@ impl<'a> Sight<'a> {
 
 /// The account that was given, if there is one and its home is the centre.
 fn account_at_home(base: &Base, centre: u8, account: Option<AccountNo>) -> Option<&Account>
-    ensures { (records : List Record) (places : List ℕ) → IsBaseOf base.now records places →
-        option_copied result ≡ (sight_of records centre account).account }
+    ensures { option_copied result ≡ (sight_of base.now.records centre account).account }
 {
     let account = base.account(account?)?;
     if account.home == centre {

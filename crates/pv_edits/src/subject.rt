@@ -1,5 +1,5 @@
 ghost use Rattle.std.specs.Prelude.{◌≡◌};
-ghost use Rattle.pv_edits.specs.Edits.{is_about, names, makes, leases, is_edit_of};
+ghost use Rattle.pv_edits.specs.Edits.{is_about, names, makes, leases, is_edit_of, last_index};
 
 use crate::record::Record;
 use pv_page::{AccountNo, FrameName, PageNo};
@@ -61,7 +61,7 @@ fn leases(edit: &Record, page: PageNo) -> bool
 }
 
 /// Whether the record is an edit of this editor.
-pub(crate) fn is_edit_of(edit: &Record, account: AccountNo) -> bool
+fn is_edit_of(edit: &Record, account: AccountNo) -> bool
     ensures { result ≡ is_edit_of account edit.now }
 {
     match edit {
@@ -71,4 +71,12 @@ pub(crate) fn is_edit_of(edit: &Record, account: AccountNo) -> bool
         Record::Lease { editor, .. } => account == *editor,
         Record::Taken(_) => false,
     }
+}
+
+/// The index of an editor's last edit.
+pub(crate) fn last_edit_of(records: &[Record], account: AccountNo) -> Option<usize>
+    ensures { result ≡ last_index (is_edit_of account) records.now }
+{
+    let index = records.iter().rposition(|edit| is_edit_of(edit, account))?;
+    Some(index)
 }

@@ -30,7 +30,6 @@ pub struct IrcState {
 impl Model for IrcState {
     ghost use Rattle.std.specs.Prelude.{length};
     ghost use Rattle.std.specs.Vec.{vec_capacity};
-    ghost use Rattle.pv_edits.specs.Standing.{records_of, places_of};
     ghost use Rattle.pv_irc.specs.History.{CentreState};
     ghost use Rattle.pv_irc.specs.Room.{IsWithinLimits};
 
@@ -40,8 +39,8 @@ impl Model for IrcState {
       centre = s.centre;
       limits = s.limits;
       applied = s.applied;
-      edits = records_of s.base;
-      places = places_of s.base;
+      edits = s.base.records;
+      places = s.base.places;
       items = s.items.items;
       log_ons = s.log_ons;
     } };
@@ -51,7 +50,6 @@ impl Model for IrcState {
 }
 
 impl IrcState {
-    ghost use Rattle.pv_edits.specs.Standing.{IsBaseOf};
     ghost use Rattle.pv_edits.specs.Sight.{sight_of, view_of};
     ghost use Rattle.pv_irc.specs.History.{centre_state_of};
 
@@ -200,7 +198,8 @@ impl IrcState {
 
     /// The base of the whole records that were applied, each with its place in the edit list.
     pub fn base(&self) -> &Base
-        ensures { IsBaseOf result.now self.now.edits self.now.places }
+        ensures records { result.now.records ≡ self.now.edits }
+        ensures places { result.now.places ≡ self.now.places }
     {
         &self.base
     }

@@ -39,14 +39,13 @@ pub struct Centre {
 
 impl Model for Centre {
     ghost use Rattle.std.specs.Prelude.{◌≤◌, ◌+◌, length};
-    ghost use Rattle.pv_edits.specs.Standing.{records_of, limits_of};
     ghost use Rattle.pv_network.specs.Centre.{Held};
 
     ghost Value = { Held };
 
-    ghost view = { λ c. record { records = records_of c.base; limits = limits_of c.base; calls = c.calls } };
+    ghost view = { λ c. record { records = c.base.records; limits = c.base.limits; calls = c.calls } };
 
-    ghost invariant = { λ c. length (records_of c.base) + c.calls.log_ons ≤ (limits_of c.base).records };
+    ghost invariant = { λ c. length c.base.records + c.calls.log_ons ≤ c.base.limits.records };
 }
 
 impl Centre {

@@ -5,7 +5,7 @@ use Rattle.std.specs.List.{count_by, range_with_len}
 use Rattle.std.proofs.lemmas.List.{length-append}
 use Rattle.std.proofs.lemmas.List.Sums.{sum_by_push}
 use Rattle.pv_edits.specs.Edits.{is_of_centre, taken_of}
-use Rattle.pv_edits.specs.Standing.{IsBaseOf}
+use Rattle.pv_edits.specs.Standing.{with_record_at}
 use Rattle.pv_edits.specs.declared.base.Base.{Base}
 use Rattle.pv_edits.specs.declared.record.Record.{Record}
 use Rattle.pv_outside.specs.declared.limits.Limits.{Limits}
@@ -40,19 +40,16 @@ all_places-push records edit =
     ap (range_with_len 0) more ∙ range_with_len-push 0 (length records) ∙ ap (λ place. all_places records ++ place ∷ []) last
 
 -- what is kept beside a base counts on when the base takes in a record
-pub IsCounted-push : (base next : Base) (limits : Limits) (count : ℕ) (counts more : List ℕ) (edit : Record)
-    → IsCounted base limits count counts → IsBaseOf next (base.records.items ++ edit ∷ []) (base.places.items ++ count ∷ [])
-    → next.limits ≡ base.limits → count < limits.records
+pub IsCounted-push : (base : Base) (limits : Limits) (count : ℕ) (counts more : List ℕ) (edit : Record)
+    → IsCounted base limits count counts → count < limits.records
     → ((centre : ℕ) → slice_index_or more centre 0 ≡ counted_on (is_of_centre centre edit) (slice_index_or counts centre 0))
-    → IsCounted next limits (count + 1) more
-IsCounted-push base next limits count counts more edit is now same within on =
-    let records = base.records.items in
-    record {
-      same_limits = is.same_limits ∙ sym same;
-      in_order = now.places ∙ ap (λ l. l ++ count ∷ []) is.in_order ∙ ap (λ n. all_places records ++ n ∷ []) is.counted
-          ∙ sym (all_places-push records edit) ∙ ap all_places (sym now.records);
-      counted = omega (arith, is.counted, ap length now.records, length-append records (edit ∷ []));
-      within = omega (arith, within);
-      taken_up = λ centre. on centre ∙ ap (counted_on (is_of_centre centre edit)) (is.taken_up centre)
-          ∙ sym (taken_of-push records edit centre) ∙ ap (λ l. taken_of l centre) (sym now.records);
-    }
+    → IsCounted (with_record_at base edit count) limits (count + 1) more
+IsCounted-push base limits count counts more edit is within on = record {
+  same_limits = is.same_limits;
+  in_order = ap (λ l. l ++ count ∷ []) is.in_order ∙ ap (λ n. all_places base.records ++ n ∷ []) is.counted
+      ∙ sym (all_places-push base.records edit);
+  counted = omega (arith, is.counted, length-append base.records (edit ∷ []));
+  within = omega (arith, within);
+  taken_up = λ centre. on centre ∙ ap (counted_on (is_of_centre centre edit)) (is.taken_up centre)
+      ∙ sym (taken_of-push base.records edit centre);
+}

@@ -26,7 +26,7 @@ all_places records = range_with_len 0 (length records)
 -- what is kept beside a base: its limits, how many records it has, which have the places from 0 on, and how many items of each centre
 pub record IsCounted (base : Base) (limits : Limits) (count : ℕ) (counts : List ℕ) : Type 0 where
   pub same_limits : limits ≡ base.limits
-  pub in_order : base.places.items ≡ all_places base.records.items
-  pub counted : count ≡ length base.records.items
+  pub in_order : base.places ≡ all_places base.records
+  pub counted : count ≡ length base.records
   pub within : count ≤ limits.records
-  pub taken_up : (centre : ℕ) → slice_index_or counts centre 0 ≡ taken_of base.records.items centre
+  pub taken_up : (centre : ℕ) → slice_index_or counts centre 0 ≡ taken_of base.records centre

@@ -32,13 +32,12 @@ impl Model for UdcState {
 
     ghost Value = { EditList };
 
-    ghost view = { λ s. record { limits = s.limits; records = s.base.records.items } };
+    ghost view = { λ s. record { limits = s.limits; records = s.base.records } };
 
     ghost invariant = { λ s. IsCounted s.base s.limits s.count s.counts };
 }
 
 impl UdcState {
-    ghost use Rattle.pv_edits.specs.Standing.{IsBaseOf};
     ghost use Rattle.pv_udc.specs.EditList.{empty_list, with_record, all_places};
     ghost use Rattle.pv_udc.specs.Judgement.{last_edit};
     ghost use Rattle.pv_udc.specs.Replies.{brings_reply_to, reply_place};
@@ -89,7 +88,8 @@ impl UdcState {
 
     /// The base of the records: frames, accounts, leases and editors' numbers.
     pub fn base(&self) -> &Base
-        ensures { IsBaseOf result.now self.now.records (all_places self.now.records) }
+        ensures records { result.now.records ≡ self.now.records }
+        ensures places { result.now.places ≡ all_places self.now.records }
     {
         &self.base
     }

@@ -1,6 +1,6 @@
-use Rattle.std.proofs.Common.{◌≡◌, ◌≤◌, ◌∷◌, [], ◌<◌, ◌+◌, length, ap, refl, arith}
+use Rattle.std.proofs.Common.{◌≤◌, ◌∷◌, [], ◌<◌, ◌+◌, length, refl, arith}
 use Rattle.std.proofs.lemmas.List.{length-append}
-use Rattle.pv_edits.specs.Standing.{records_of}
+use Rattle.pv_edits.specs.Standing.{with_record_at}
 use Rattle.pv_irc.proofs.Applying.{IsWithinLimits-applied}
 use Rattle.pv_irc.proofs.state.IrcState.apply.Goals as goal
 use Rattle.pv_irc.proofs.state.IrcState.apply.Goals.{After-self-1, in-Whole, in_default}
@@ -13,10 +13,9 @@ pub invariant_of-self : goal.invariant_of-self
 invariant_of-self c = elim c.match-rec.branch [
   | in-Whole w ↦
       let base = c.self.inside.base in
-      let after = w.absorb.ensures.absorbed _ _ (record { records = refl; places = refl }) in
-      let longer : length (records_of w.absorb.new.self) ≤ length (records_of base) + 1 =
-      omega (arith, ap length after.records, length-append (records_of base) (w.in-Whole.edit ∷ [])) in
-      rw w.self-inside-is (IsWithinLimits-applied base w.absorb.new.self _ _ _ _ _ c.self.invariant w.absorb.ensures.limits longer (below c))
+      let next = with_record_at base w.in-Whole.edit c.self.inside.applied in
+      let longer : length next.records ≤ length base.records + 1 = omega (arith, length-append base.records (w.in-Whole.edit ∷ [])) in
+      rw (w.self-inside-is, w.absorb.ensures) (IsWithinLimits-applied base next _ _ _ _ _ c.self.invariant refl longer (below c))
   | in_default w ↦
       let base = c.self.inside.base in
       rw w.self-inside-is (IsWithinLimits-applied base base _ _ _ _ _ c.self.invariant refl (omega arith) (below c))

@@ -1,5 +1,4 @@
-use Rattle.std.proofs.Common.{refl, ap}
-use Rattle.pv_edits.specs.Standing.{records_of, limits_of, places_of}
+use Rattle.std.proofs.Common.{ap}
 use Rattle.pv_network.specs.Calls.{Calls}
 use Rattle.pv_network.specs.Centre.{Held}
 use Rattle.pv_network.proofs.centre.Centre.press.Goals as goal
@@ -8,9 +7,9 @@ use Rattle.pv_network.proofs.centre.Centre.press.Goals as goal
 pub returns : goal.returns
 returns c =
     let base = c.self.inside.base in
-    let shown = c.new.ensures (records_of base) (places_of base) (record { records = refl; places = refl }) in
+    let shown = c.new.ensures in
     let pressed = c.press.ensures.pressed in
-    let held : Calls → Held = λ calls. record { records = records_of base; limits = limits_of base; calls = calls } in
+    let held : Calls → Held = λ calls. record { records = base.records; limits = base.limits; calls = calls } in
     rw (← c.self.view_is) (record {
       entry = pressed.0;
       says = pressed.1;
