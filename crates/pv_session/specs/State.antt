@@ -1,16 +1,23 @@
 -- What there is of a call at a caller's seat.
-use Rattle.std.specs.Prelude.{ℕ, Bool, true, false, List, [], Option, None}
+use Rattle.std.specs.Prelude.{ℕ, Bool, true, false, List, [], Option, Some, None}
 use Rattle.pv_page.specs.Names.{Name}
 use Rattle.pv_session.specs.Entries.{Mode, AccountMode}
 use Rattle.pv_session.specs.Shown.{ShownFrame}
 use Rattle.pv_session.specs.declared.step.Phase.{Phase}
 use Rattle.pv_session.specs.declared.step.Phase.TheVariants.{Listening, Owing, Over}
+use Rattle.pv_session.specs.declared.step.Wish.{Wish}
 
 -- something is to be stored
 abbrev pub is_owing : Phase → Bool
 is_owing Listening = false
 is_owing (Owing wish) = true
 is_owing Over = false
+
+-- what is to be stored, if something is
+abbrev pub wish_in : Phase → Option Wish
+wish_in Listening = None
+wish_in (Owing wish) = Some wish
+wish_in Over = None
 
 -- a call: what the caller is asked for, and what he has keyed of it; how many of his log-ons failed; his account and the call's
 -- serial; the frame that he is shown, and the names of those before it, the last one first; and how much he has keyed in all

@@ -46,7 +46,7 @@ impl Seat {
     ghost use Rattle.pv_session.specs.Fetching.{ending_turn};
     ghost use Rattle.pv_session.specs.Messages.{screen_of_blank};
     ghost use Rattle.pv_session.specs.Seat.{state_of};
-    ghost use Rattle.pv_session.specs.State.{new_call, is_owing};
+    ghost use Rattle.pv_session.specs.State.{new_call, is_owing, wish_in};
     ghost use Rattle.pv_session.specs.Turns.{IsTurn, CanBeShown, Listens, Hears, Goes, storing_turn, full_turn};
     ghost use Rattle.pv_session.specs.Turns.{failure_turn, log_on_turn, entry_turn, is_spent};
 
@@ -125,6 +125,16 @@ impl Seat {
         ensures { result ≡ is_owing (state_of self.now).phase }
     {
         matches!(self.phase, Phase::Owing(_))
+    }
+
+    /// What is to be stored. `None` exactly when nothing is.
+    pub fn wish(&self) -> Option<Wish>
+        ensures { result ≡ wish_in (state_of self.now).phase }
+    {
+        match self.phase {
+            Phase::Owing(wish) => Some(wish),
+            Phase::Listening | Phase::Over => None,
+        }
     }
 
     /// The serial that the call was given as its caller logged on.
