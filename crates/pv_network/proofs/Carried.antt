@@ -1,13 +1,12 @@
 -- A carry after which nothing is left to send has brought the centre every record.
-use Rattle.std.proofs.Common.{◌≡◌, ℕ, zero, suc, ◌+◌, ◌≤◌, Bool, true, false, cond, ◌&&◌, leb, ltb, length, Option, Some, None, refl, arith}
+use Rattle.std.proofs.Common.{◌≡◌, ℕ, zero, suc, ◌+◌, ◌≤◌, Bool, true, false, cond, ltb, length, Option, Some, None, refl, arith}
 use Rattle.std.specs.Prelude.{slice_get}
 use Rattle.std.proofs.lemmas.Bool.{ltb-false}
 use Rattle.pv_edits.specs.declared.record.Record.{Record}
-use Rattle.pv_network.specs.declared.centre.Arrival.{Arrival}
-use Rattle.pv_network.specs.declared.centre.Arrival.TheVariants as arrivals
+use Rattle.pv_network.specs.Centre.{Arrival}
+use Rattle.pv_network.specs.Centre as arrivals
 use Rattle.pv_network.specs.declared.outcome.Outcome.{Outcome}
 use Rattle.pv_network.specs.declared.outcome.Outcome.TheVariants as outcomes
-use Rattle.pv_packet.specs.declared.packet.Packet.{Packet}
 use Rattle.pv_network.specs.declared.delivery.Delivery.{Delivery}
 use Rattle.pv_link.specs.Sending.{SendingEnd, number_in_turn, number_to_give}
 use Rattle.pv_fields.specs.Reading.{◌>>=◌}

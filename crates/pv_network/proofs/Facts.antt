@@ -9,14 +9,13 @@ use Rattle.pv_udc.specs.declared.reply.Code.{Code}
 use Rattle.pv_udc.specs.declared.reply.UdcReply.TheVariants.{Again, Refused}
 use Rattle.pv_editor.specs.Replies.{reply_of}
 use Rattle.pv_editor.specs.declared.replies.UdcReplyView.TheVariants as told
-use Rattle.pv_network.specs.declared.centre.Arrival.TheVariants.{Taken, Old, Early, Full}
 use Rattle.pv_network.specs.declared.outcome.Outcome.TheVariants as outcomes
 use Rattle.pv_session.specs.declared.message.Message.TheVariants.{KeyAccount}
 use Rattle.pv_session.specs.declared.step.Paid.TheVariants.{Serial}
 use Rattle.pv_session.specs.Messages.{screen_of_blank}
 use Rattle.pv_network.specs.Call.{first_call, serial_of}
 use Rattle.pv_network.specs.Calls.{no_calls, call_in, dial_at, with_log_on, store_at}
-use Rattle.pv_network.specs.Centre.{arrival_of}
+use Rattle.pv_network.specs.Centre.{Taken, Old, Early, Full, arrival_of}
 use Rattle.pv_link.specs.Sending.{number_to_give}
 use Rattle.pv_network.specs.Traffic.{carry_rounds, step_of_carry, step_of_send}
 use Rattle.pv_network.specs.Verdict.{verdict_by}

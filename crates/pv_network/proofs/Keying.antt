@@ -11,7 +11,7 @@ use Rattle.pv_network.specs.declared.outcome.Outcome.{Outcome}
 use Rattle.pv_network.specs.declared.outcome.Turn.{Turn}
 use Rattle.pv_network.specs.Calling.{call_at, step_of_press, step_of_store, step_of_show}
 use Rattle.pv_network.specs.Calls.{Calls, call_in, IsEntryOf}
-use Rattle.pv_network.specs.Centre.{Held}
+use Rattle.pv_network.specs.Centre.{Held, calls_of}
 use Rattle.pv_network.specs.Keying.{KeyedByte, bytes_of, is_owes, is_storing, step_of_payment, step_of_key, screens_in, is_over, keys_from, TakesAll, turns_answer, keys_refusal, step_of_keys, TakesAllAt}
 use Rattle.pv_network.specs.Standing.{State, StandsFor}
 use Rattle.pv_network.specs.World.{World}
@@ -104,11 +104,11 @@ bytes_of_unread (byte ∷ bytes) = ap (λ (l : List ℕ). byte ∷ l) (bytes_of_
 module _ (s : State) (w : World) (stands : StandsFor s w) (c : ℕ) (here : Held) (there : c < length s.centres)
     (read : here ≡ get_or s.centres c here) (port : ℕ) (text : List ℕ) where
   -- the world's centre takes keys at the port exactly when the network's does
-  same_refusal : keys_refusal (call_in here.calls port) ≡ keys_refusal (call_at w c port)
+  same_refusal : keys_refusal (call_in (calls_of here) port) ≡ keys_refusal (call_at w c port)
   same_refusal = ap (λ (calls : Calls). keys_refusal (call_in calls port)) (calls_there s w stands c here there read)
 
   -- the keys are not taken
-  pub refused : (bytes : List ℕ) (outcome : Outcome) → ReadsAs text bytes → keys_refusal (call_in here.calls port) ≡ Some outcome
+  pub refused : (bytes : List ℕ) (outcome : Outcome) → ReadsAs text bytes → keys_refusal (call_in (calls_of here) port) ≡ Some outcome
       → (keyed : List KeyedByte) × ReadsAs text (bytes_of keyed) × TakesAllAt w c port keyed
       × StandsFor s (step_of_keys w c port keyed).0 × (outcome ≡ (step_of_keys w c port keyed).1)
   refused bytes outcome reads is =
@@ -121,7 +121,7 @@ module _ (s : State) (w : World) (stands : StandsFor s w) (c : ℕ) (here : Held
       )
 
   -- all of them are taken
-  pub answered : (new : State) (turns : List Turn) → keys_refusal (call_in here.calls port) ≡ None
+  pub answered : (new : State) (turns : List Turn) → keys_refusal (call_in (calls_of here) port) ≡ None
       → (keyed : List KeyedByte) × ReadsAs text (bytes_of keyed) × TakesAll w c port keyed
       × StandsFor new (keys_from w c port keyed).0 × (turns ≡ (keys_from w c port keyed).1)
       → (keyed : List KeyedByte) × ReadsAs text (bytes_of keyed) × TakesAllAt w c port keyed

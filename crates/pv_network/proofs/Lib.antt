@@ -1,3 +1,5 @@
+pub mod Arriving
+pub mod AtPorts
 pub mod Calling
 pub mod Carried
 pub mod Carrying

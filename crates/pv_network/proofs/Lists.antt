@@ -1,8 +1,7 @@
 -- Facts that hold of each element of a list, and elements by their places.
 use Rattle.std.proofs.Common.{◌≡◌, ℕ, zero, suc, ◌<◌, ◌⊎◌, List, [], ◌∷◌, ◌++◌, length, get_or, set, Some, refl, ap, subst, arith, inl, inr}
-use Rattle.std.specs.List.{All, AllZip, slice_get}
+use Rattle.std.specs.List.{All, slice_get}
 use Rattle.std.proofs.lemmas.Option.{slice_get_within, get_or_from_slice_get}
-use Rattle.std.specs.Prelude.{replicate}
 
 -- the one that is at a place
 pub all_get : {X : Type 0} (P : X → Type 0) (xs : List X) (i : ℕ) (x : X) → All P xs → slice_get xs i ≡ Some x → P x
@@ -23,41 +22,23 @@ set_again [] i x y = refl
 set_again (z ∷ xs) zero x y = refl
 set_again (z ∷ xs) (suc i) x y = ap (λ (l : List _). z ∷ l) (set_again xs i x y)
 
--- the same of two lists, where both have another in that place
-pub zip_set : {X Y : Type 0} (R : X → Y → Type 0) (xs : List X) (ys : List Y) (i : ℕ) (x : X) (y : Y) → AllZip R xs ys → R x y
-    → AllZip R (set xs i x) (set ys i y)
-zip_set R [] [] i x y all here = tt
-zip_set R [] (b ∷ ys) i x y all here = absurd all
-zip_set R (a ∷ xs) [] i x y all here = absurd all
-zip_set R (a ∷ xs) (b ∷ ys) zero x y all here = (here, all.1)
-zip_set R (a ∷ xs) (b ∷ ys) (suc i) x y all here = (all.0, zip_set R xs ys i x y all.1 here)
-
--- what follows from the fact at each place of two lists
-pub zip_weaken : {X Y : Type 0} (R S : X → Y → Type 0) → ((x : X) (y : Y) → R x y → S x y) → (xs : List X) (ys : List Y) → AllZip R xs ys
-    → AllZip S xs ys
-zip_weaken R S follows [] [] all = tt
-zip_weaken R S follows [] (b ∷ ys) all = absurd all
-zip_weaken R S follows (a ∷ xs) [] all = absurd all
-zip_weaken R S follows (a ∷ xs) (b ∷ ys) all = (follows a b all.0, zip_weaken R S follows xs ys all.1)
-
--- the elements at a place of both, for any default
-pub zip_at : {X Y : Type 0} (R : X → Y → Type 0) (xs : List X) (ys : List Y) (i : ℕ) (d : X) (e : Y) → AllZip R xs ys → i < length xs
-    → R (get_or xs i d) (get_or ys i e)
-zip_at R [] ys i d e all there = let none : ⊥ = omega arith in absurd none
-zip_at R (a ∷ xs) [] i d e all there = absurd all
-zip_at R (a ∷ xs) (b ∷ ys) zero d e all there = all.0
-zip_at R (a ∷ xs) (b ∷ ys) (suc i) d e all there = zip_at R xs ys i d e all.1 (omega arith)
+-- The same of two lists, where both have another in that place: what is said of each element of the first and the one beside it.
+pub set_both : {X Y : Type 0} (P : ℕ → X → Y → Type 0) (xs : List X) (ys : List Y) (i : ℕ) (x : X) (y d : Y) → length xs ≡ length ys
+    → ((k : ℕ) (a : X) → slice_get xs k ≡ Some a → P k a (get_or ys k d)) → P i x y
+    → (k : ℕ) (a : X) → slice_get (set xs i x) k ≡ Some a → P k a (get_or (set ys i y) k d)
+set_both P [] ys i x y d size all here k a is = absurd cc
+set_both P (b ∷ xs) [] i x y d size all here k a is = absurd cc
+set_both P (b ∷ xs) (e ∷ ys) zero x y d size all here zero a is = let same : x ≡ a = cc in subst (λ z. P zero z y) same here
+set_both P (b ∷ xs) (e ∷ ys) zero x y d size all here (suc k) a is = all (suc k) a is
+set_both P (b ∷ xs) (e ∷ ys) (suc i) x y d size all here zero a is = all zero a is
+set_both P (b ∷ xs) (e ∷ ys) (suc i) x y d size all here (suc k) a is =
+    set_both (λ n. P (suc n)) xs ys i x y d (omega (arith, size)) (λ n. all (suc n)) here k a is
 
 -- an element of a list is read with any default
 pub read_again : {X : Type 0} (xs : List X) (i : ℕ) (d e : X) → i < length xs → get_or xs i d ≡ get_or xs i e
 read_again [] i d e within = let none : ⊥ = omega (arith, within) in absurd none
 read_again (x ∷ xs) zero d e within = refl
 read_again (x ∷ xs) (suc i) d e within = read_again xs i d e (omega (arith, within))
-
--- two elements stand together, however often
-pub zip_replicate : {X Y : Type 0} (R : X → Y → Type 0) (n : ℕ) (x : X) (y : Y) → R x y → AllZip R (replicate n x) (replicate n y)
-zip_replicate R zero x y here = tt
-zip_replicate R (suc n) x y here = (here, zip_replicate R n x y here)
 
 module _ {X : Type 0} where
   -- what is at a place stays there as the list grows

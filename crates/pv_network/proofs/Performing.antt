@@ -1,14 +1,24 @@
 -- Each event at a network is that event at each world that it stands for.
-use Rattle.std.proofs.Common.{◌≡◌, ℕ, ◌<◌, true, false, List, [], ◌∷◌, ◌++◌, length, get_or, set, Option, Some, None, refl, sym, ap, subst, ◌∙◌}
+use Rattle.std.proofs.Common.{◌≡◌, ℕ, ◌<◌, ◌≤◌, false, List, length, get_or, set, Option, Some, None, Result, Ok, Err, refl, sym, ap, subst, ◌∙◌, arith}
 use Rattle.std.specs.Prelude.{slice_get}
-use Rattle.pv_network.specs.declared.centre.Arrival.{Arrival}
-use Rattle.pv_network.specs.declared.centre.Arrival.TheVariants as arrivals
+use Rattle.std.proofs.lemmas.List.{set-get_or}
+use Rattle.std.proofs.lemmas.Option.{slice_get_within}
+use Rattle.pv_outside.specs.declared.limits.Limits.{Limits}
+use Rattle.pv_page.specs.Names.{Name}
+use Rattle.pv_edits.specs.Edits.{frame_at}
+use Rattle.pv_irc.specs.History.{CentreState}
+use Rattle.pv_irc.specs.declared.reply.IrcReply.{IrcReply}
+use Rattle.pv_irc.specs.declared.reply.IrcReply.TheVariants as replies
+use Rattle.pv_irc.specs.declared.request.IrcRequest.TheVariants.{Apply}
+use Rattle.pv_nodes.specs.Below.{records_below}
+use Rattle.pv_network.specs.Calls.{Calls}
+use Rattle.pv_network.specs.Centre as arrivals
 use Rattle.pv_network.specs.declared.outcome.Outcome.TheVariants.{Reply, SentRecord, Heard}
+use Rattle.pv_network.specs.declared.outcome.Outcome.TheVariants as outcomes
 use Rattle.pv_packet.specs.declared.packet.Packet.{Packet}
 use Rattle.pv_packet.specs.declared.packet.Packet.TheVariants.{Down, Up, DownHeard, UpHeard}
 use Rattle.pv_link.specs.Sending.{number_to_give}
 use Rattle.pv_fields.specs.Reading.{◌>>=◌}
-use Rattle.pv_edits.specs.declared.down.DownRecord.{DownRecord}
 use Rattle.pv_network.specs.declared.delivery.Delivery.{Delivery}
 use Rattle.pv_edits.specs.declared.record.Record.{Record}
 use Rattle.pv_edits.specs.declared.wish.EditWish.{EditWish}
@@ -22,17 +32,18 @@ use Rattle.pv_network.specs.declared.outcome.Outcome.{Outcome}
 use Rattle.pv_udc.specs.declared.request.UdcRequest.TheVariants.{Edit}
 use Rattle.pv_editor.specs.Replies.{reply_of}
 use Rattle.pv_editor.specs.declared.replies.UdcReplyView.{UdcReplyView}
-use Rattle.pv_network.specs.Centre.{CentreStands, Held, arrival_of, with_next, record_count, held_count}
-use Rattle.pv_network.specs.Link.{Link, link_in, is_packets_full, sent_of, packet_of, with_packet, delivery_of, record_of_down, with_acknowledgement, heard_count, heard_link}
+use Rattle.pv_network.specs.Centre.{Arrival, Centre, CentreStands, Held, Asked, new_centre, arrival_of, with_next, record_count, centre_after, asked_of, reply_to_arrival, node_state}
+use Rattle.pv_network.specs.Link.{Link, link_in, is_packets_full, packet_of, with_packet, delivery_of, with_acknowledgement, heard_count, heard_link}
 use Rattle.pv_network.specs.Sound.{CarriesRecord, IsGenuine, IsSound}
 use Rattle.pv_network.specs.Standing.{State, StandsFor}
 use Rattle.pv_network.specs.Step.{step_of_request, step_of_line, step_of_said, step_of_edit}
-use Rattle.pv_network.specs.Traffic.{step_of_send, step_of_acknowledging, with_next_at, step_of_arrival, step_of_deliver, step_of_back}
+use Rattle.pv_network.specs.Traffic.{step_of_send, step_of_acknowledging, with_next_at, arrived_answer, step_of_arrival, step_of_deliver, step_of_back}
 use Rattle.pv_network.specs.Verdict.{verdict_of, list_after}
-use Rattle.pv_network.specs.World.{World, seat_at, link_at, centre_at}
+use Rattle.pv_network.specs.World.{World, seat_at, link_at, centre_at, with_centre, page_base}
 use Rattle.pv_network.proofs.Lists.{all_get}
 use Rattle.pv_network.proofs.Soundness.{sound_request, sound_packet, sound_count, sound_heard, sound_applied, taken_is_next}
-use Rattle.pv_network.proofs.Standing.{request_stands, seat_replaced, centre_count, centre_takes, centre_has_room, held_there, centre_stands, centre_replaced, link_replaced}
+use Rattle.pv_network.proofs.Arriving.{arrives}
+use Rattle.pv_network.proofs.Standing.{request_stands, seat_replaced, centre_stands, centre_replaced, link_replaced}
 
 -- an editor's request is judged
 pub asks : (s : State) (w : World) → StandsFor s w → (editor q : ℕ) (wish : EditWish) (here : EditList) (told : UdcReplyView)
@@ -101,21 +112,10 @@ module _ (w : World) (c : ℕ) (sound : IsSound w) (index : ℕ) (delivery : Del
       arrives (Some packet) at same =
           brings packet (all_get (IsGenuine w.update.records c) (link_at w c).down index packet (sound.links c).packets at) same
 
-  -- so it came down whole
-  pub comes_whole : (slice_get (link_at w c).down index >>= delivery_of) ≡ Some delivery → record_of_down delivery.rec ≡ None → ⊥
-  comes_whole found none =
-      let is = genuine_delivery found in
-      let some : record_of_down delivery.rec ≡ Some is.edit = ap record_of_down is.same in
-      absurd cc
-
-  -- and the record is the list's
-  pub is_genuine : (edit : Record) → (slice_get (link_at w c).down index >>= delivery_of) ≡ Some delivery
-      → record_of_down delivery.rec ≡ Some edit → slice_get w.update.records delivery.number ≡ Some edit
-  is_genuine edit found whole =
-      let is = genuine_delivery found in
-      let some : record_of_down delivery.rec ≡ Some is.edit = ap record_of_down is.same in
-      let same : is.edit ≡ edit = cc in
-      is.there ∙ ap Some same
+-- the world after an arrival, before it is acknowledged
+abbrev pub world_after : World → ℕ → Arrival → World
+world_after w c arrivals.Taken = with_next_at w c
+world_after w c _ = w
 
 module _ (s : State) (w : World) (stands : StandsFor s w) (c : ℕ) where
   -- a record is packed
@@ -133,11 +133,6 @@ module _ (s : State) (w : World) (stands : StandsFor s w) (c : ℕ) where
         ap (λ (n : ℕ). SentRecord n number) (rw stands.links at index-is),
       )
 
-  -- what a packet brings is a whole record
-  pub never_blank : (index : ℕ) (delivery : Delivery) → (slice_get (link_in s.links c).down index >>= delivery_of) ≡ Some delivery
-      → record_of_down delivery.rec ≡ None → ⊥
-  never_blank index delivery found none = comes_whole w c stands.sound index delivery (rw stands.links at found) none
-
   -- an acknowledgement is heard
   pub hears : (links : List Link) (front number index : ℕ) → front ≡ length s.update.records
       → (slice_get (link_in s.links c).up index >>= heard_count) ≡ Some number
@@ -153,65 +148,120 @@ module _ (s : State) (w : World) (stands : StandsFor s w) (c : ℕ) where
 
   module _ (here : Held) (there : c < length s.centres) (read : here ≡ get_or s.centres c here) where
     -- the centre stands for the world's
-    stood : CentreStands w.update here (centre_at w c)
+    stood : CentreStands w.update c here (centre_at w c)
     stood = centre_stands s w stands c here there read
 
-    -- it has as many records as the world's has applied
-    count_there : length here.records ≡ (centre_at w c).applied
-    count_there = centre_count w.update here (centre_at w c) stood
+    -- it has applied as many records as the world's
+    pub applied_there : here.node.state.applied ≡ (centre_at w c).applied
+    applied_there = ap (λ (state : CentreState). state.applied) stood.state
+
+    -- a name has the same frame in what came down as in the world's page base
+    pub frame_there : ((records : List Record) (name : Name) → frame_at (records_below records) name ≡ frame_at records name)
+        → (name : Name) → frame_at here.node.state.edits name ≡ frame_at (page_base w c) name
+    frame_there shown name = ap (λ (state : CentreState). frame_at state.edits name) stood.state ∙ shown (page_base w c) name
 
     -- an acknowledgement is made
     pub acknowledges : (links : List Link) (index : ℕ) → is_packets_full s.links ≡ false → index ≡ length (link_in s.links c).up
-        → links ≡ set s.links c (with_acknowledgement (link_in s.links c) c (length here.records))
+        → links ≡ set s.links c (with_acknowledgement (link_in s.links c) c here.node.state.applied)
         → StandsFor (record s { links = links }) (step_of_acknowledging w c).0 × (Some index ≡ (step_of_acknowledging w c).1)
     acknowledges links index room index-is made =
         rw (rw stands.links at room) (
-          link_replaced s w stands c links _ (rw (count_there, stands.links) at made)
+          link_replaced s w stands c links _ (rw (applied_there, stands.links) at made)
               (sound_count w c stands.sound),
           ap Some (rw stands.links at index-is),
         )
 
-    module _ (index : ℕ) (delivery : Delivery)
-        (found : (slice_get (link_in s.links c).down index >>= delivery_of) ≡ Some delivery) (arrival : Arrival)
-        (how : arrival_of (length here.records) (held_count here) here.limits.records delivery.number ≡ arrival) where
+    -- What came down has the room that the list has.
+    module _ (room_below : (limits : Limits) (records : List Record) (edit : Record)
+        → has_room limits (records_below records) edit ≡ has_room limits records edit)
+        (index : ℕ) (delivery : Delivery)
+        (found : (slice_get (link_in s.links c).down index >>= delivery_of) ≡ Some delivery) where
+      -- what the world's centre does with it
+      abbrev arrival : Arrival
+      arrival = arrival_of (centre_at w c).applied (record_count (centre_at w c)) w.update.limits.records delivery.number
+
       -- what is delivered is the world's
       found_there : (slice_get (link_at w c).down index >>= delivery_of) ≡ Some delivery
       found_there = rw stands.links at found
 
-      -- what the centre makes of it is what the world's does
-      how_there : arrival_of (centre_at w c).applied (record_count (centre_at w c)) w.update.limits.records delivery.number ≡ arrival
-      how_there = rw (held_there w.update here (centre_at w c) stood, count_there, stood.limits) at how
-
       -- so is its step
-      pub delivers : step_of_deliver w c index ≡ step_of_arrival w c delivery.number arrival
-      delivers = rw (found_there, how_there) refl
+      pub delivers : (how : Arrival) → arrival ≡ how → step_of_deliver w c index ≡ step_of_arrival w c delivery.number how
+      delivers how is = rw (found_there, is) refl
 
-      module _ (edit : Record) (whole : record_of_down delivery.rec ≡ Some edit) (is : arrival ≡ arrivals.Taken) where
-        -- it is the list's record of its number
-        genuine : slice_get w.update.records delivery.number ≡ Some edit
-        genuine = is_genuine w c stands.sound index delivery edit found_there whole
+      -- the node was asked to apply it
+      module _ (new : Held) (result : Result IrcReply ℕ) (asked : Asked here new (Apply delivery.number delivery.rec) result) where
+        genuine : CarriesRecord w.update.records delivery.number delivery.rec
+        genuine = genuine_delivery w c stands.sound index delivery found_there
 
-        -- that is the one that comes next
-        next : delivery.number ≡ (centre_at w c).applied
-        next =
-            taken_is_next (centre_at w c).applied (record_count (centre_at w c)) w.update.limits.records delivery.number (how_there ∙ is)
+        -- what comes of it
+        comes : asked_of here.node.state (Apply delivery.number delivery.rec)
+            ≡ (reply_to_arrival arrival (centre_at w c), node_state c w.update (centre_after arrival (centre_at w c)))
+        comes = ap (λ state. asked_of state (Apply delivery.number delivery.rec)) stood.state
+            ∙ arrives room_below c w.update stands.sound.law.run (centre_at w c) stood.within delivery.number delivery.rec genuine
 
-        -- the list has it there
-        next_there : slice_get w.update.records (centre_at w c).applied ≡ Some edit
-        next_there = ap (slice_get w.update.records) (sym next) ∙ genuine
+        -- its reply is the one to that arrival
+        pub replied : result ≡ reply_to_arrival arrival (centre_at w c)
+        replied = asked.reply ∙ ap (λ (done : Result IrcReply ℕ × CentreState). done.0) comes
 
-        -- the centre, however it is read
-        module _ (now : Held) (again : now ≡ get_or s.centres c now) where
-          -- it has room for the record
-          pub room_there : has_room now.limits now.records edit ≡ true
-          room_there = centre_has_room w.update now (centre_at w c)
-              (centre_stands s w stands c now there again) edit next_there stands.sound.law.run
+        -- the centre stands for the world's after that arrival
+        pub arrived : StandsFor (record s { centres = set s.centres c new }) (world_after w c arrival)
+        arrived = by arrival refl
+          where
+            knows : new.node.state ≡ node_state c w.update (centre_after arrival (centre_at w c))
+            knows = asked.state ∙ ap (λ (done : Result IrcReply ℕ × CentreState). done.1) comes
 
-          -- it takes the record
-          pub takes : (new : Held) → new ≡ record now { records = now.records ++ edit ∷ [] }
-              → StandsFor (record s { centres = set s.centres c new }) (with_next_at w c)
-          takes new taken =
-              let follows =
-              subst (λ (h : Held). CentreStands w.update h (with_next (centre_at w c))) (sym taken)
-              (centre_takes w.update now (centre_at w c) (centre_stands s w stands c now there again) edit next_there) in
-              centre_replaced s w stands c new (with_next (centre_at w c)) follows (sound_applied w c delivery.number edit stands.sound genuine next)
+            follows : (how : Arrival) → arrival ≡ how → (centre_after how (centre_at w c)).applied ≤ length w.update.records
+                → CentreStands w.update c new (centre_after how (centre_at w c))
+            follows how is within = record {
+              within = within;
+              state = knows ∙ ap (λ (a : Arrival). node_state c w.update (centre_after a (centre_at w c))) is;
+              on_disk = asked.on_disk;
+              ports = asked.ports ∙ stood.ports ∙ ap (λ (calls : Calls). calls.ports) (same_calls how);
+            }
+              where
+                same_calls : (a : Arrival) → (centre_at w c).calls ≡ (centre_after a (centre_at w c)).calls
+                same_calls arrivals.Taken = refl
+                same_calls arrivals.Old = refl
+                same_calls arrivals.Early = refl
+                same_calls arrivals.Full = refl
+
+            -- a centre that stands for the one that the world has
+            stays : CentreStands w.update c new (centre_at w c) → StandsFor (record s { centres = set s.centres c new }) w
+            stays is =
+                let same : with_centre w c (centre_at w c) ≡ w =
+                ap (λ (centres : List Centre). record w { centres = centres }) (set-get_or w.centres c new_centre) in
+                subst (λ (v : World). StandsFor (record s { centres = set s.centres c new }) v) same
+                (centre_replaced s w stands c new (centre_at w c) is (subst IsSound (sym same) stands.sound))
+
+            by : (how : Arrival) → arrival ≡ how → StandsFor (record s { centres = set s.centres c new }) (world_after w c how)
+            by arrivals.Taken is =
+                let next = taken_is_next (centre_at w c).applied (record_count (centre_at w c)) w.update.limits.records delivery.number is in
+                let sound = sound_applied w c delivery.number genuine.edit stands.sound genuine.there next in
+                let within = slice_get_within w.update.records delivery.number genuine.edit genuine.there in
+                centre_replaced s w stands c new (with_next (centre_at w c)) (follows arrivals.Taken is (omega (arith, within, next))) sound
+            by arrivals.Old is = stays (follows arrivals.Old is stood.within)
+            by arrivals.Early is = stays (follows arrivals.Early is stood.within)
+            by arrivals.Full is = stays (follows arrivals.Full is stood.within)
+
+-- ---- what a reply says of the arrival
+
+-- a record that was acknowledged is answered as the world's step answers it
+pub acknowledged : (w : World) (c number : ℕ) (how : Arrival) (reply : IrcReply) (new : State) (ack : Option ℕ)
+    → Ok reply ≡ reply_to_arrival how (centre_at w c)
+    → StandsFor new (step_of_acknowledging (world_after w c how) c).0 × (ack ≡ (step_of_acknowledging (world_after w c how) c).1)
+    → StandsFor new (step_of_arrival w c number how).0 × (arrived_answer reply number ack ≡ (step_of_arrival w c number how).1)
+acknowledged w c number arrivals.Taken reply new ack is heard =
+    let same : reply ≡ replies.Applied = cc in rw same (heard.0, ap (outcomes.Taken number) heard.1)
+acknowledged w c number arrivals.Old reply new ack is heard =
+    let same : reply ≡ replies.Old (centre_at w c).applied = cc in rw same (heard.0, ap (outcomes.Old number) heard.1)
+acknowledged w c number arrivals.Early reply new ack is heard =
+    let same : reply ≡ replies.Early (centre_at w c).applied = cc in rw same (heard.0, ap (outcomes.Early number) heard.1)
+acknowledged w c number arrivals.Full reply new ack is heard = absurd cc
+
+-- a full centre takes nothing
+pub full_by : (centre : Centre) (arrival : Arrival) (n : ℕ) → Err n ≡ reply_to_arrival arrival centre
+    → (arrival ≡ arrivals.Full) × (n ≡ record_count centre)
+full_by centre arrivals.Taken n is = absurd cc
+full_by centre arrivals.Old n is = absurd cc
+full_by centre arrivals.Early n is = absurd cc
+full_by centre arrivals.Full n is = (refl, cc)

@@ -6,7 +6,7 @@ use Rattle.std.proofs.lemmas.Bool.{leb-false}
 use Rattle.std.proofs.lemmas.List.{get_or-map, get_or_append_left, get_or_push, length-append, length-map, map-set, map_push}
 use Rattle.std.proofs.lemmas.List.Elements.{All-push, All-set, All-weaker}
 use Rattle.std.proofs.lemmas.List.Sums.{sum_by-cons, sum_by-set}
-use Rattle.pv_link.specs.Sending.{SendingEnd, end_after, end_that_heard}
+use Rattle.pv_link.specs.Sending.{SendingEnd, end_after}
 use Rattle.pv_packet.specs.declared.packet.Packet.{Packet}
 use Rattle.pv_network.specs.declared.packets.TheConstants.{MAX_PACKETS}
 use Rattle.pv_network.specs.Link.{AreWithin, IsWithin, Link, Places, link_in, is_packets_full, link_of, links_of, new_link, no_packet, packet_at, packet_count, place_count, with_packet, with_place, with_place_up}

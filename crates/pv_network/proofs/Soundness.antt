@@ -30,8 +30,7 @@ use Rattle.pv_editor.specs.declared.seat.EditorSeat.{EditorSeat}
 use Rattle.pv_editor.specs.declared.step.EditStep.{EditStep}
 use Rattle.pv_editor.specs.declared.step.EditStep.TheVariants as steps
 use Rattle.pv_editor.specs.declared.replies.UdcReplyView.TheVariants.{Stored, Refused}
-use Rattle.pv_network.specs.declared.centre.Arrival.{Arrival}
-use Rattle.pv_network.specs.declared.centre.Arrival.TheVariants as arrivals
+use Rattle.pv_network.specs.Centre as arrivals
 use Rattle.pv_network.specs.declared.event.Event.{Event}
 use Rattle.pv_network.specs.declared.event.Event.TheVariants as events
 use Rattle.pv_network.specs.declared.outcome.Outcome.{Outcome}
@@ -48,7 +47,7 @@ use Rattle.pv_session.specs.declared.entry.Entry.{Entry}
 use Rattle.pv_network.specs.Calling.{calls_at, call_at, view_at, with_calls, step_of_press, step_of_store, step_of_show}
 use Rattle.pv_network.specs.Keying.{KeyedByte, first_entry, is_owes, is_storing, step_of_payment, step_of_key, screens_in, is_over, keys_from, keys_refusal, step_of_taken_keys}
 use Rattle.pv_network.specs.Calls.{Calls, no_calls}
-use Rattle.pv_network.specs.Centre.{Centre, new_centre, record_count, arrival_of}
+use Rattle.pv_network.specs.Centre.{Arrival, Centre, new_centre, record_count, arrival_of}
 use Rattle.pv_network.specs.Link.{Link, new_link, is_packets_full, packet_of, with_packet, delivery_of, with_acknowledgement, heard_count, heard_link}
 use Rattle.pv_network.specs.OneList.{IsNextOfEditor, HasNumbersInOrder, StandsAt, HasOnePlaceEach, MatchesReceipt}
 use Rattle.pv_network.specs.Run.{EachFollows, MayFollow}

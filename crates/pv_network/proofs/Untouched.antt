@@ -8,8 +8,7 @@ use Rattle.pv_editor.specs.declared.replies.UdcReplyView.{UdcReplyView}
 use Rattle.pv_editor.specs.declared.replies.UdcReplyView.TheVariants as told
 use Rattle.pv_editor.specs.declared.step.EditStep.{EditStep}
 use Rattle.pv_editor.specs.declared.step.EditStep.TheVariants as said
-use Rattle.pv_network.specs.declared.centre.Arrival.{Arrival}
-use Rattle.pv_network.specs.declared.centre.Arrival.TheVariants as arrivals
+use Rattle.pv_network.specs.Centre as arrivals
 use Rattle.pv_network.specs.declared.event.TheConstants.{PORTS}
 use Rattle.pv_network.specs.declared.outcome.Outcome.{Outcome}
 use Rattle.pv_network.specs.declared.delivery.Delivery.{Delivery}
@@ -20,7 +19,7 @@ use Rattle.pv_network.specs.declared.round.Round.TheVariants as rounds
 use Rattle.pv_network.specs.Call.{Call}
 use Rattle.pv_network.specs.Calling.{calls_at, call_at, with_calls}
 use Rattle.pv_network.specs.Calls.{Calls, call_in, with_call}
-use Rattle.pv_network.specs.Centre.{Centre, new_centre, arrival_of, record_count}
+use Rattle.pv_network.specs.Centre.{Arrival, Centre, new_centre, arrival_of, record_count}
 use Rattle.pv_network.specs.Link.{is_packets_full, delivery_of, heard_count}
 use Rattle.pv_network.specs.Step.{step_of_request, step_of_line, step_of_said, step_of_edit}
 use Rattle.pv_network.specs.Traffic.{ack_in, with_ack_back, round_of_send, round_of_number, step_of_round, after_round, carry_rounds, step_of_packing, step_of_number, step_of_send, step_of_acknowledging, with_next_at, step_of_arrival, step_of_packet, step_of_deliver, step_of_heard, step_of_back}

@@ -11,9 +11,10 @@ use Rattle.pv_session.specs.declared.step.Phase.TheVariants.{Listening, Owing, O
 use Rattle.pv_session.specs.declared.step.Step.{Step}
 use Rattle.pv_session.specs.declared.step.Step.TheVariants as steps
 use Rattle.pv_session.specs.declared.step.Why.TheVariants.{Spent}
+use Rattle.pv_session.specs.declared.step.Wish.{Wish}
 use Rattle.pv_session.specs.Entries.{IsEntry}
 use Rattle.pv_session.specs.Fetching.{ending_turn}
-use Rattle.pv_session.specs.State.{CallState, new_call, is_owing}
+use Rattle.pv_session.specs.State.{CallState, new_call, is_owing, wish_in}
 use Rattle.pv_session.specs.Turns.{is_spent, keys_with, byte_turn}
 
 -- a call: its seat, and the reply to what was stored for it, if the caller is still to be shown it
@@ -36,6 +37,10 @@ is_waiting call = is_owing call.seat.phase || is_some call.stored
 -- something is to be stored for the call
 abbrev pub is_to_store : Call → Bool
 is_to_store call = is_owing call.seat.phase && not (is_some call.stored)
+
+-- that, if there is something
+abbrev pub wish_to_store : Call → Option Wish
+wish_to_store call = if is_some call.stored then None else wish_in call.seat.phase
 
 -- the call's serial: the one that was stored for it and is to be shown, or the one that its seat has
 abbrev pub serial_with : Option Paid → Option ℕ → Option ℕ

@@ -1,5 +1,5 @@
 -- The calls at a centre's ports: what each event makes of them, and the answer to it.
-use Rattle.std.specs.Prelude.{ℕ, ◌+◌, Bool, true, false, List, replicate, slice_index_or, slice_set, Option, Some, None, if◌then◌else◌}
+use Rattle.std.specs.Prelude.{◌≡◌, ℕ, ◌+◌, Bool, true, false, List, replicate, slice_index_or, slice_set, Option, Some, None, Result, Ok, Err, if◌then◌else◌}
 use Rattle.pv_edits.specs.Sight.{View}
 use Rattle.pv_session.specs.declared.entry.Entry.{Entry}
 use Rattle.pv_session.specs.declared.message.Message.TheVariants.{KeyAccount}
@@ -7,26 +7,34 @@ use Rattle.pv_session.specs.declared.step.Paid.{Paid}
 use Rattle.pv_session.specs.declared.step.Paid.TheVariants.{Serial}
 use Rattle.pv_session.specs.declared.step.Step.{Step}
 use Rattle.pv_session.specs.declared.step.Step.TheVariants as steps
+use Rattle.pv_session.specs.declared.step.Wish.{Wish}
 use Rattle.pv_session.specs.Messages.{screen_of_blank}
 use Rattle.pv_session.specs.State.{CallState}
 use Rattle.pv_session.specs.Turns.{storing_turn, full_turn}
 use Rattle.pv_network.specs.declared.event.TheConstants.{PORTS}
 use Rattle.pv_network.specs.declared.outcome.Outcome.{Outcome}
 use Rattle.pv_network.specs.declared.outcome.Outcome.TheVariants as outcomes
-use Rattle.pv_network.specs.Call.{Call, call_of, first_call, is_waiting, is_to_store, key_turn, IsEntryAt}
+use Rattle.pv_network.specs.Call.{Call, call_of, first_call, is_waiting, is_to_store, wish_to_store, key_turn, IsEntryAt}
 
 -- the calls of a centre: how many of its callers have logged on, and the call at each port
 pub record Calls : Type 0 where
   pub log_ons : ℕ
   pub ports : List (Option Call)
 
+-- the calls at these ports, of a centre that has counted this many log-ons
+abbrev pub calls_with : ℕ → List (Option Call) → Calls
+calls_with log_ons ports = record { log_ons = log_ons; ports = ports }
+
 -- a centre that nobody has called
 abbrev pub no_calls : Calls
 no_calls = record { log_ons = 0; ports = replicate PORTS None }
 
 -- the call at a port; after the last port there is none
+abbrev pub call_among : List (Option Call) → ℕ → Option Call
+call_among ports port = slice_index_or ports port None
+
 abbrev pub call_in : Calls → ℕ → Option Call
-call_in calls port = slice_index_or calls.ports port None
+call_in calls port = call_among calls.ports port
 
 -- the account that a caller gave, if there is a call
 abbrev pub caller_account : Option Call → Option ℕ
@@ -36,6 +44,11 @@ caller_account (Some call) = call.seat.account
 -- another call at a port, or none
 abbrev pub with_call : Calls → ℕ → Option Call → Calls
 with_call calls port call = record calls { ports = slice_set calls.ports port call }
+
+-- what is done at the ports, and the answer: the same whatever the count of log-ons, which stays
+abbrev pub IsDone : List (Option Call) → List (Option Call) → Outcome → (Calls → Calls × Outcome) → Type 0
+IsDone old new outcome step = (log_ons : ℕ)
+    → (calls_with log_ons new ≡ (step (calls_with log_ons old)).0) × (outcome ≡ (step (calls_with log_ons old)).1)
 
 -- ---- what a step at a seat does
 
@@ -89,6 +102,15 @@ IsEntryOf None key entry = Unit {0}
 IsEntryOf (Some call) key entry = IsEntryUnlessWaiting (is_waiting call) call key entry
 
 -- ---- store, show
+
+-- what the call at a port is to have stored; or why nothing is
+abbrev pub wish_or_nothing : Option Wish → Result Wish Outcome
+wish_or_nothing None = Err outcomes.Nothing
+wish_or_nothing (Some wish) = Ok wish
+
+abbrev pub wish_at : Option Call → Result Wish Outcome
+wish_at None = Err outcomes.NoCall
+wish_at (Some call) = wish_or_nothing (wish_to_store call)
 
 -- the call's serial is the count of the log-ons before it
 abbrev pub with_log_on : Calls → ℕ → Call → Calls

@@ -1,14 +1,26 @@
 -- A retrieval centre: what it has applied of the edit list, and what it does with a record that arrives.
-use Rattle.std.specs.Prelude.{◌≡◌, ℕ, ◌+◌, ◌≤◌, ◌==◌, nat_lt, nat_le, if◌then◌else◌, List, [], length, take, Option}
+use Rattle.std.specs.Prelude.{◌≡◌, ℕ, ◌+◌, ◌≤◌, ◌==◌, nat_lt, nat_le, if◌then◌else◌, List, [], length, map, take, Option, Some, Result, Ok, Err, slice_get, slice_index_or}
 use Rattle.pv_outside.specs.declared.limits.Limits.{Limits}
 use Rattle.pv_edits.specs.Sight.{sight_of}
-use Rattle.pv_session.specs.declared.entry.Entry.{Entry}
 use Rattle.pv_edits.specs.declared.record.Record.{Record}
-use Rattle.pv_udc.specs.EditList.{EditList}
-use Rattle.pv_network.specs.declared.centre.Arrival.{Arrival}
-use Rattle.pv_network.specs.declared.centre.Arrival.TheVariants.{Taken, Old, Early, Full}
+use Rattle.pv_irc.specs.Deciding.{centre_judgement}
+use Rattle.pv_irc.specs.History.{CentreState, state_count, whole_places}
+use Rattle.pv_irc.specs.declared.reply.IrcReply.{IrcReply}
+use Rattle.pv_irc.specs.declared.reply.IrcReply.TheVariants as replies
+use Rattle.pv_irc.specs.declared.request.IrcRequest.{IrcRequest}
+use Rattle.pv_irc.specs.declared.request.IrcRequest.TheVariants as requests
+use Rattle.pv_node.specs.declared.decision.Told.{Told}
+use Rattle.pv_nodes.specs.Below.{records_below}
+use Rattle.pv_nodes.specs.Nodes.{told_of, stored_of}
+use Rattle.pv_nodes.specs.OnDisk.{OnDisk, CentreIsOnDisk, centre_with}
+use Rattle.pv_session.specs.declared.entry.Entry.{Entry}
+use Rattle.pv_session.specs.declared.step.Wish.{Wish}
+use Rattle.pv_session.specs.declared.step.Wish.TheVariants as wishes
+use Rattle.pv_udc.specs.EditList.{EditList, empty_list}
+use Rattle.pv_udc.specs.Replies.{down_of}
 use Rattle.pv_network.specs.declared.outcome.Outcome.{Outcome}
-use Rattle.pv_network.specs.Calls.{Calls, no_calls, caller_account, call_in, press_at, IsEntryOf}
+use Rattle.pv_network.specs.Call.{Call}
+use Rattle.pv_network.specs.Calls.{Calls, no_calls, calls_with, caller_account, call_in, press_at, IsEntryOf}
 
 -- a centre: how many records it has applied, and its calls
 pub record Centre : Type 0 where
@@ -27,44 +39,113 @@ with_next centre = record centre { applied = centre.applied + 1 }
 abbrev pub record_count : Centre → ℕ
 record_count centre = centre.applied + centre.calls.log_ons
 
--- what a centre does with a record, by its number: it takes the one that comes next, unless it has as many records as it may
+-- what a centre does with a record that arrives: it takes it, or did so before, or has not taken one before it, or is full
+pub data Arrival : Type 0 where
+  Taken : Arrival
+  Old : Arrival
+  Early : Arrival
+  Full : Arrival
+
+-- it goes by the record's number: the one that comes next is taken, unless the centre has as many records as it may
 abbrev pub arrival_of : ℕ → ℕ → ℕ → ℕ → Arrival
 arrival_of applied count limit number = if number == applied then (if nat_le limit count then Full else Taken)
     else (if nat_lt number applied then Old else Early)
 
--- ---- what the code shows of a centre, and what it stands for
+-- a centre after an arrival
+abbrev pub centre_after : Arrival → Centre → Centre
+centre_after Taken centre = with_next centre
+centre_after _ centre = centre
 
--- the records of its base, the limits that it was opened with, and its calls
+-- ---- what the code shows of a centre
+
+-- its node, and the call at each port
 pub record Held : Type 0 where
-  pub records : List Record
-  pub limits : Limits
-  pub calls : Calls
+  pub node : OnDisk CentreState
+  pub ports : List (Option Call)
 
--- what a centre that has no record shows
-abbrev pub nothing_held : Limits → Held
-nothing_held limits = record { records = []; limits = limits; calls = no_calls }
+-- its calls: its node has counted the log-ons
+abbrev pub calls_of : Held → Calls
+calls_of here = calls_with here.node.state.log_ons here.ports
 
--- how many records it has
-abbrev pub held_count : Held → ℕ
-held_count here = length here.records + here.calls.log_ons
+-- the reply, or the count of a full node's records
+abbrev pub reply_in : Result (Told IrcReply) ℕ → Result IrcReply ℕ
+reply_in (Ok told) = Ok told.reply
+reply_in (Err count) = Err count
 
--- its records are a prefix of the edit list, its limits are the Update Centre's, and its calls are the centre's
-pub record CentreStands (u : EditList) (here : Held) (centre : Centre) : Type 0 where
+-- what comes of a request: what the node is asked, and what it knows afterwards
+abbrev pub asked_of : CentreState → IrcRequest → Result IrcReply ℕ × CentreState
+asked_of state request = (
+  reply_in (told_of state.limits.records (state_count state) (centre_judgement state request)),
+  centre_with state (stored_of state.limits.records (state_count state) (centre_judgement state request)),
+)
+
+-- the node was asked this, and the calls are as they were
+pub record Asked (old new : Held) (request : IrcRequest) (result : Result IrcReply ℕ) : Type 0 where
+  pub reply : result ≡ (asked_of old.node.state request).0
+  pub state : new.node.state ≡ (asked_of old.node.state request).1
+  pub on_disk : CentreIsOnDisk new.node
+  pub ports : new.ports ≡ old.ports
+
+-- what it is asked for a wish
+abbrev pub request_for : Wish → IrcRequest
+request_for (wishes.LogOn account) = requests.LogOn account
+
+-- the reply to a record that arrives
+abbrev pub reply_to_arrival : Arrival → Centre → Result IrcReply ℕ
+reply_to_arrival Taken centre = Ok replies.Applied
+reply_to_arrival Old centre = Ok (replies.Old centre.applied)
+reply_to_arrival Early centre = Ok (replies.Early centre.applied)
+reply_to_arrival Full centre = Err (record_count centre)
+
+-- ---- what it stands for
+
+-- What the node of a centre knows: what comes down of the prefix of the edit list that the centre has applied, with the places
+-- there, and the count of its log-ons. It has no items.
+abbrev pub state_of_prefix : ℕ → Limits → Centre → List Record → CentreState
+state_of_prefix number limits centre prefix = record {
+  centre = number;
+  limits = limits;
+  applied = centre.applied;
+  edits = records_below prefix;
+  places = whole_places 0 (map down_of prefix);
+  items = [];
+  log_ons = centre.calls.log_ons;
+}
+
+abbrev pub node_state : ℕ → EditList → Centre → CentreState
+node_state number u centre = state_of_prefix number u.limits centre (take centre.applied u.records)
+
+-- the centre of this number: its node knows what it has applied, each image of its disk spells that, and its calls are these
+pub record CentreStands (u : EditList) (number : ℕ) (here : Held) (centre : Centre) : Type 0 where
   pub within : centre.applied ≤ length u.records
-  pub prefix : here.records ≡ take centre.applied u.records
-  pub limits : here.limits ≡ u.limits
-  pub calls : here.calls ≡ centre.calls
+  pub state : here.node.state ≡ node_state number u centre
+  pub on_disk : CentreIsOnDisk here.node
+  pub ports : here.ports ≡ centre.calls.ports
+
+-- the centres stand for the world's, each under its number
+pub record CentresStand (u : EditList) (here : List Held) (centres : List Centre) : Type 0 where
+  pub count : length here ≡ length centres
+  pub each : (c : ℕ) (held : Held) → slice_get here c ≡ Some held → CentreStands u c held (slice_index_or centres c new_centre)
+
+-- this many centres that nothing has reached, each under its number
+pub record AreNew (limits : Limits) (count : ℕ) (here : List Held) : Type 0 where
+  pub count_is : length here ≡ count
+  pub each : (c : ℕ) (held : Held) → slice_get here c ≡ Some held → CentreStands (empty_list limits) c held new_centre
 
 -- ---- what comes of a call at it
 
--- what is done with its calls, and the answer
+-- what is done with its calls, and the answer: its node has counted the log-ons, and knows else what it knew
 pub record Comes (old new : Held) (outcome : Outcome) (done : Calls × Outcome) : Type 0 where
-  pub after : new ≡ record old { calls = done.0 }
+  pub state : new.node.state ≡ record old.node.state { log_ons = done.0.log_ons }
+  pub on_disk : CentreIsOnDisk old.node → CentreIsOnDisk new.node
+  pub ports : new.ports ≡ done.0.ports
   pub answer : outcome ≡ done.1
 
--- what a centre of this number makes of a key at a port
-pub record Pressed (old new : Held) (number port key : ℕ) (outcome : Outcome) : Type 0 where
+-- what a centre makes of a key at a port
+pub record Pressed (old new : Held) (port key : ℕ) (outcome : Outcome) : Type 0 where
   pub entry : Option Entry
-  pub says : IsEntryOf (call_in old.calls port) key entry
+  pub says : IsEntryOf (call_in (calls_of old) port) key entry
   pub comes : Comes old new outcome
-      (press_at old.calls port key (sight_of old.records number (caller_account (call_in old.calls port))) entry (call_in old.calls port))
+      (press_at (calls_of old) port key
+      (sight_of old.node.state.edits old.node.state.centre (caller_account (call_in (calls_of old) port))) entry
+      (call_in (calls_of old) port))

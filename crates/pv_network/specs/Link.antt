@@ -3,9 +3,8 @@ use Rattle.std.specs.Prelude.{ℕ, ◌+◌, ◌<◌, All, Bool, nat_le, List, []
 use Rattle.std.specs.List.{sum_by}
 use Rattle.pv_fields.specs.Reading.{◌>>=◌}
 use Rattle.pv_link.specs.Sending.{SendingEnd, new_end, end_after, end_that_heard}
-use Rattle.pv_edits.specs.declared.down.DownRecord.{DownRecord}
-use Rattle.pv_edits.specs.declared.down.DownRecord.TheVariants.{Whole, Blank}
 use Rattle.pv_edits.specs.declared.record.Record.{Record}
+use Rattle.pv_udc.specs.Replies.{down_of}
 use Rattle.pv_packet.specs.declared.packet.Packet.{Packet}
 use Rattle.pv_packet.specs.declared.packet.Packet.TheVariants.{Down, DownHeard}
 use Rattle.pv_network.specs.declared.delivery.Delivery.{Delivery}
@@ -34,13 +33,9 @@ is_packets_full links = nat_le 20000 (packet_count links)
 
 -- ---- packets that go down
 
--- what goes down of a record: all of it
-abbrev pub sent_of : Record → DownRecord
-sent_of edit = Whole edit
-
--- the packet of the record of a number, for a centre
+-- the packet of the record of a number, for a centre: it has what goes down of the record
 abbrev pub packet_of : ℕ → ℕ → Record → Packet
-packet_of c number edit = Down c number (sent_of edit)
+packet_of c number edit = Down c number (down_of edit)
 
 -- a packet goes down under the number that the end gives, if there are `front` records
 abbrev pub with_packet : Link → ℕ → Packet → Link
@@ -54,11 +49,6 @@ delivery_of _ = None
 -- what the packet of an index brings, of those that went down
 abbrev pub delivery_in : List Packet → ℕ → Option Delivery
 delivery_in packets index = slice_get packets index >>= delivery_of
-
--- the record that came down, if it came down whole
-abbrev pub record_of_down : DownRecord → Option Record
-record_of_down (Whole edit) = Some edit
-record_of_down Blank = None
 
 -- ---- packets that go up
 

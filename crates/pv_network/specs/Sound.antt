@@ -10,11 +10,12 @@ use Rattle.pv_edits.specs.Room.{frame_count}
 use Rattle.pv_fields.specs.Reading.{◌>>=◌}
 use Rattle.pv_session.specs.State.{is_owing}
 use Rattle.pv_udc.specs.Judgement.{next_number}
+use Rattle.pv_udc.specs.Replies.{down_of}
 use Rattle.pv_network.specs.declared.event.TheConstants.{PORTS}
 use Rattle.pv_network.specs.Call.{Call, serial_of}
 use Rattle.pv_network.specs.Calls.{Calls, call_in}
 use Rattle.pv_network.specs.Centre.{Centre}
-use Rattle.pv_network.specs.Link.{Link, sent_of}
+use Rattle.pv_network.specs.Link.{Link}
 use Rattle.pv_network.specs.OneList.{OneList}
 use Rattle.pv_network.specs.World.{World, centre_at, link_at}
 
@@ -22,7 +23,7 @@ use Rattle.pv_network.specs.World.{World, centre_at, link_at}
 pub record CarriesRecord (edits : List Record) (number : ℕ) (rec : DownRecord) : Type 0 where
   pub edit : Record
   pub there : slice_get edits number ≡ Some edit
-  pub same : rec ≡ sent_of edit
+  pub same : rec ≡ down_of edit
 
 -- a packet that goes down to a centre is for it, and carries a record of the list
 abbrev pub IsGenuine : List Record → ℕ → Packet → Type 0

@@ -1,6 +1,5 @@
 -- Which worlds a network stands for, part by part.
 use Rattle.std.specs.Prelude.{◌≡◌, ℕ, ◌<◌, Bool, true, false, List, ◌++◌, length, Option}
-use Rattle.std.specs.List.{AllZip}
 use Rattle.pv_network.specs.declared.event.Event.{Event}
 use Rattle.pv_network.specs.declared.event.Event.TheVariants as events
 use Rattle.pv_udc.specs.EditList.{EditList}
@@ -9,7 +8,7 @@ use Rattle.pv_network.specs.declared.event.TheConstants.{EDITORS, PORTS}
 use Rattle.pv_session.specs.declared.entry.Entry.{Entry}
 use Rattle.pv_network.specs.Calling.{call_at, step_of_press}
 use Rattle.pv_network.specs.Calls.{IsEntryOf}
-use Rattle.pv_network.specs.Centre.{Held, CentreStands}
+use Rattle.pv_network.specs.Centre.{Held, CentresStand}
 use Rattle.pv_network.specs.Keying.{KeyedByte, bytes_of, step_of_key, keys_from, TakesAll, step_of_keys, TakesAllAt}
 use Rattle.pv_network.specs.Link.{Link}
 use Rattle.pv_network.specs.Sound.{IsSound}
@@ -32,7 +31,7 @@ pub record StandsFor (s : State) (w : World) : Type 0 where
   pub sound : IsSound w
   pub update : s.update ≡ w.update
   pub seats : s.seats ≡ w.seats
-  pub centres : AllZip (CentreStands w.update) s.centres w.centres
+  pub centres : CentresStand w.update s.centres w.centres
   pub links : s.links ≡ w.links
 
 -- there is a world that the network stands for

@@ -2,15 +2,16 @@
 use Rattle.std.specs.Prelude.{ℕ, zero, suc, ◌+◌, ◌-◌, List, length, Option, Some, None, slice_get, if◌then◌else◌}
 use Rattle.pv_link.specs.Sending.{number_to_give}
 use Rattle.pv_edits.specs.declared.record.Record.{Record}
-use Rattle.pv_network.specs.declared.centre.Arrival.{Arrival}
-use Rattle.pv_network.specs.declared.centre.Arrival.TheVariants as arrivals
+use Rattle.pv_irc.specs.declared.reply.IrcReply.{IrcReply}
+use Rattle.pv_irc.specs.declared.reply.IrcReply.TheVariants as replies
+use Rattle.pv_network.specs.Centre as arrivals
 use Rattle.pv_network.specs.declared.outcome.Outcome.{Outcome}
 use Rattle.pv_network.specs.declared.outcome.Outcome.TheVariants as outcomes
 use Rattle.pv_network.specs.declared.delivery.Delivery.{Delivery}
 use Rattle.pv_network.specs.declared.packets.TheConstants.{MAX_PACKETS}
 use Rattle.pv_network.specs.declared.round.Round.{Round}
 use Rattle.pv_network.specs.declared.round.Round.TheVariants as rounds
-use Rattle.pv_network.specs.Centre.{with_next, record_count, arrival_of}
+use Rattle.pv_network.specs.Centre.{Arrival, with_next, record_count, arrival_of}
 use Rattle.pv_network.specs.Link.{Link, is_packets_full, packet_count, packet_of, with_packet, delivery_in, with_acknowledgement, heard_in, heard_link}
 use Rattle.pv_network.specs.World.{World, centre_at, link_at, with_centre, with_link}
 
@@ -54,6 +55,12 @@ step_of_arrival w c number arrivals.Taken = let a = step_of_acknowledging (with_
 step_of_arrival w c number arrivals.Old = let a = step_of_acknowledging w c in (a.0, outcomes.Old number a.1)
 step_of_arrival w c number arrivals.Early = let a = step_of_acknowledging w c in (a.0, outcomes.Early number a.1)
 step_of_arrival w c number arrivals.Full = (w, outcomes.Full (record_count (centre_at w c)))
+
+-- the answer to a record that arrived under a number and was acknowledged, by the node's reply to it
+abbrev pub arrived_answer : IrcReply → ℕ → Option ℕ → Outcome
+arrived_answer replies.Applied number ack = outcomes.Taken number ack
+arrived_answer (replies.Old count) number ack = outcomes.Old number ack
+arrived_answer _ number ack = outcomes.Early number ack
 
 -- what a packet brings arrives, if there is such a packet and it brings a record
 abbrev pub step_of_packet : World → ℕ → Option Delivery → World × Outcome

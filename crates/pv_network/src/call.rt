@@ -7,7 +7,7 @@ ghost use Rattle.pv_session.specs.Turns.{storing_turn, full_turn};
 use pv_edits::Sight;
 use pv_page::AccountNo;
 use pv_screen::Screen;
-use pv_session::{Paid, Seat, Step};
+use pv_session::{Paid, Seat, Step, Wish};
 use std::marker::Model;
 
 /// A call at a port: its seat, and the reply to what was stored for it until the caller is shown it.
@@ -29,7 +29,7 @@ impl Model for Call {
 impl Call {
     ghost use Rattle.pv_session.specs.Messages.{screen_of_blank};
     ghost use Rattle.pv_session.specs.declared.message.Message.TheVariants.{KeyAccount};
-    ghost use Rattle.pv_network.specs.Call.{first_call, is_waiting, is_to_store, key_turn, IsEntryAt};
+    ghost use Rattle.pv_network.specs.Call.{first_call, is_waiting, wish_to_store, key_turn, IsEntryAt};
 
     /// A call that begins, and its first screen.
     pub(crate) fn dial() -> (Call, Screen)
@@ -54,11 +54,14 @@ impl Call {
         self.seat.owes() || self.stored.is_some()
     }
 
-    /// Whether something is to be stored.
-    pub(crate) fn is_to_store(&self) -> bool
-        ensures { result ≡ is_to_store self.now }
+    /// What is to be stored, if something is.
+    pub(crate) fn wish_to_store(&self) -> Option<Wish>
+        ensures { result ≡ wish_to_store self.now }
     {
-        self.seat.owes() && self.stored.is_none()
+        if self.stored.is_some() {
+            return None;
+        }
+        self.seat.wish()
     }
 
     /// Takes a byte.

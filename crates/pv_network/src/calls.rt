@@ -1,37 +1,39 @@
-ghost use Rattle.std.specs.Prelude.{◌≡◌, ◌<◌, ◌+◌, ◌^◌, Option, Some, None, IfOk};
+ghost use Rattle.std.specs.Prelude.{◌≡◌, ◌<◌, List, Option, Some, None, replicate, slice_set, IfOk};
 ghost use Rattle.pv_edits.specs.Sight.{view_of};
+ghost use Rattle.pv_session.specs.Turns.{full_turn};
 ghost use Rattle.pv_session.specs.declared.entry.Entry.{Entry};
 ghost use Rattle.pv_session.specs.State.{CallState};
+ghost use Rattle.pv_session.specs.declared.step.Paid.TheVariants.{Serial};
 ghost use Rattle.pv_network.specs.declared.event.TheConstants.{PORTS};
+ghost use Rattle.pv_network.specs.declared.outcome.Outcome.TheVariants as outcomes;
 ghost use Rattle.pv_network.specs.Call.{call_of};
+ghost use Rattle.pv_network.specs.Call as Spec;
 ghost use Rattle.pv_network.specs.Keying.{keys_refusal};
-ghost use Rattle.pv_network.specs.Calls as Spec;
-ghost use Rattle.pv_network.specs.Calls.{no_calls, caller_account, call_in, with_call, turn_at, dial_at, hang_at, press_at, store_at, show_at, IsEntryOf};
+ghost use Rattle.pv_network.specs.Calls.{caller_account, call_among, call_in, IsDone, turn_at, dial_at, hang_at, press_at, show_at, wish_at, away_answer, IsEntryOf};
 
 use crate::call::Call;
 use crate::event::PORTS;
 use crate::outcome::{Outcome, Turn};
 use pv_edits::Sight;
 use pv_page::AccountNo;
-use pv_session::Step;
+use pv_session::{Step, Wish};
 use std::alloc::{AllocError, Global};
 use std::marker::Model;
 
-/// The calls at a centre's ports, in room that `open` reserves, and how many callers have logged on there.
+/// The calls at a centre's ports, in room that `open` reserves.
 #[derive(Debug, Drop)]
 pub struct Calls {
-    log_ons: u64,
     ports: Vec<Option<Call>>,
 }
 
 impl Model for Calls {
-    ghost use Rattle.std.specs.Prelude.{◌≡◌, length};
+    ghost use Rattle.std.specs.Prelude.{◌≡◌, List, Option, length};
     ghost use Rattle.pv_network.specs.declared.event.TheConstants.{PORTS};
-    ghost use Rattle.pv_network.specs.Calls as Spec;
+    ghost use Rattle.pv_network.specs.Call as Spec;
 
-    ghost Value = { Spec.Calls };
+    ghost Value = { List (Option Spec.Call) };
 
-    ghost view = { λ c. record { log_ons = c.log_ons; ports = c.ports.items } };
+    ghost view = { λ c. c.ports.items };
 
     ghost invariant = { λ c. length c.ports.items ≡ PORTS };
 }
@@ -39,26 +41,19 @@ impl Model for Calls {
 impl Calls {
     /// The ports of a centre that nobody has called.
     pub(crate) fn open(alloc: Global) -> Result<Calls, AllocError>
-        ensures { IfOk result (λ calls. calls ≡ no_calls) }
+        ensures { IfOk result (λ ports. ports ≡ replicate PORTS None) }
     {
         let mut ports = Vec::with_capacity(alloc, PORTS as usize)?;
         for _ in 0..PORTS {
             ports.push(None)?;
         }
-        Ok(Calls { log_ons: 0, ports })
-    }
-
-    /// How many callers have logged on.
-    pub(crate) fn log_ons(&self) -> u64
-        ensures { result ≡ self.now.log_ons }
-    {
-        self.log_ons
+        Ok(Calls { ports })
     }
 
     /// The account that the caller at a port gave.
     pub(crate) fn account(&self, port: usize) -> Option<AccountNo>
         requires { port < PORTS }
-        ensures { result ≡ caller_account (call_in self.now port) }
+        ensures { result ≡ caller_account (call_among self.now port) }
     {
         match &self.ports[port] {
             Some(call) => call.account(),
@@ -69,7 +64,7 @@ impl Calls {
     /// Why no key is taken at a port: there is no call, or it waits. `None` if keys are taken there.
     pub(crate) fn refusal(&self, port: usize) -> Option<Outcome>
         requires { port < PORTS }
-        ensures { result ≡ keys_refusal (call_in self.now port) }
+        ensures { result ≡ keys_refusal (call_among self.now port) }
     {
         match &self.ports[port] {
             Some(call) if call.is_waiting() => Some(Outcome::Owing),
@@ -81,8 +76,7 @@ impl Calls {
     /// Begins a call at a port.
     pub(crate) fn dial(&mut self, port: usize) -> Outcome
         requires { port < PORTS }
-        ensures after { self.new ≡ (dial_at self.old port (call_in self.old port)).0 }
-        ensures answer { result ≡ (dial_at self.old port (call_in self.old port)).1 }
+        ensures { IsDone self.old self.new result (λ calls. dial_at calls port (call_in calls port)) }
     {
         if self.ports[port].is_some() {
             return Outcome::Busy;
@@ -98,8 +92,7 @@ impl Calls {
     /// Ends the call at a port.
     pub(crate) fn hang(&mut self, port: usize) -> Outcome
         requires { port < PORTS }
-        ensures after { self.new ≡ (hang_at self.old port (call_in self.old port)).0 }
-        ensures answer { result ≡ (hang_at self.old port (call_in self.old port)).1 }
+        ensures { IsDone self.old self.new result (λ calls. hang_at calls port (call_in calls port)) }
     {
         if self.ports[port].is_none() {
             return Outcome::NoCall;
@@ -111,9 +104,9 @@ impl Calls {
     /// Takes a key at a port, with what the centre shows to the caller there.
     pub(crate) fn press(&mut self, port: usize, key: u8, sight: &Sight) -> Outcome
         requires { port < PORTS }
-        ensures pressed { (entry : Option Entry) × IsEntryOf (call_in self.old port) key entry
-            × (self.new ≡ (press_at self.old port key (view_of sight.now) entry (call_in self.old port)).0)
-            × (result ≡ (press_at self.old port key (view_of sight.now) entry (call_in self.old port)).1) }
+        ensures pressed { (entry : Option Entry) × IsEntryOf (call_among self.old port) key entry
+            × IsDone self.old self.new result
+            (λ calls. press_at calls port key (view_of sight.now) entry (call_in calls port)) }
     {
         let Some(call) = &mut self.ports[port] else {
             return Outcome::NoCall;
@@ -125,35 +118,54 @@ impl Calls {
         self.answer(port, step)
     }
 
-    /// Stores what the call at a port owes, unless the centre is full with this many records.
-    #[tactic(auto, using(crate::proofs::Lists::set_again))]
-    pub(crate) fn store(&mut self, port: usize, is_full: bool, count: u64) -> Outcome
-        requires port { port < PORTS }
-        requires next { self.old.log_ons + 1 < 2 ^ 64 }
-        ensures after { self.new ≡ (store_at is_full count self.old port (call_in self.old port)).0 }
-        ensures answer { result ≡ (store_at is_full count self.old port (call_in self.old port)).1 }
+    /// What the call at a port is to have stored; or the answer if there is no call, or nothing to be stored for it.
+    pub(crate) fn wish(&self, port: usize) -> Result<Wish, Outcome>
+        requires { port < PORTS }
+        ensures { result ≡ wish_at (call_among self.now port) }
+    {
+        match &self.ports[port] {
+            Some(call) => match call.wish_to_store() {
+                Some(wish) => Ok(wish),
+                None => Err(Outcome::Nothing),
+            },
+            None => Err(Outcome::NoCall),
+        }
+    }
+
+    /// Notes that the log-on of the call at a port was stored, and its serial.
+    pub(crate) fn note(&mut self, port: usize, serial: u64) -> Outcome
+        requires { port < PORTS }
+        ensures noted { (call : Spec.Call) → call_among self.old port ≡ Some call
+            → (self.new ≡ slice_set self.old port (Some (record call { stored = Some (Serial serial) })))
+            × (result ≡ outcomes.Stored) }
     {
         let Some(call) = &mut self.ports[port] else {
             return Outcome::NoCall;
         };
-        if !call.is_to_store() {
-            return Outcome::Nothing;
-        }
-        if is_full {
-            let step = call.turn_away();
-            self.ports[port] = None;
-            return Outcome::away(count, step);
-        }
-        call.store(self.log_ons);
-        self.log_ons += 1;
+        call.store(serial);
         Outcome::Stored
+    }
+
+    /// Ends the call at a port, since the centre is full with this many records.
+    #[tactic(auto, using(crate::proofs::Lists::set_again))]
+    pub(crate) fn turn_away(&mut self, port: usize, count: u64) -> Outcome
+        requires { port < PORTS }
+        ensures away { (call : Spec.Call) → call_among self.old port ≡ Some call
+            → (self.new ≡ slice_set self.old port None)
+            × (result ≡ away_answer count (full_turn call.seat call.seat.phase).1) }
+    {
+        let Some(call) = &mut self.ports[port] else {
+            return Outcome::NoCall;
+        };
+        let step = call.turn_away();
+        self.ports[port] = None;
+        Outcome::away(count, step)
     }
 
     /// Shows the caller at a port what his call was stored for.
     pub(crate) fn show(&mut self, port: usize) -> Outcome
         requires { port < PORTS }
-        ensures after { self.new ≡ (show_at self.old port (call_in self.old port)).0 }
-        ensures answer { result ≡ (show_at self.old port (call_in self.old port)).1 }
+        ensures { IsDone self.old self.new result (λ calls. show_at calls port (call_in calls port)) }
     {
         let Some(call) = &mut self.ports[port] else {
             return Outcome::NoCall;
@@ -169,10 +181,9 @@ impl Calls {
     #[tactic(auto, using(crate::proofs::Lists::set_again))]
     fn answer(&mut self, port: usize, step: Step) -> Outcome
         requires { port < PORTS }
-        ensures { (before : Spec.Calls) (seat : CallState)
-            → self.old ≡ with_call before port (Some (call_of seat))
-            → (self.new ≡ (turn_at before port (seat, step)).0)
-            × (result ≡ (turn_at before port (seat, step)).1) }
+        ensures { (before : List (Option Spec.Call)) (seat : CallState)
+            → self.old ≡ slice_set before port (Some (call_of seat))
+            → IsDone before self.new result (λ calls. turn_at calls port (seat, step)) }
     {
         match step {
             Step::Quiet => Outcome::Quiet,

@@ -1,128 +1,97 @@
-ghost use Rattle.std.specs.Prelude.{◌≡◌, ◌<◌, ◌≤◌, nat_le, List, [], ◌∷◌, ◌++◌, length, option_copied, replicate, IfOk, IfSome, IsTrue};
+ghost use Rattle.std.specs.Prelude.{◌≡◌, ◌<◌, ◌≤◌, Ok, nat_le, option_copied, IfOk, IfSome};
 ghost use Rattle.pv_frame.specs.Errors.{IsValid};
 ghost use Rattle.pv_edits.specs.Edits.{frame_at};
-ghost use Rattle.pv_edits.specs.Room.{has_room};
-ghost use Rattle.pv_network.specs.declared.event.TheConstants.{PORTS};
-ghost use Rattle.pv_network.specs.Calls.{call_in, dial_at, hang_at, store_at, show_at};
+ghost use Rattle.pv_irc.specs.Deciding.{IsCentreRequest};
+ghost use Rattle.pv_irc.specs.History.{state_count};
+ghost use Rattle.pv_irc.specs.declared.request.IrcRequest.TheVariants as requests;
+ghost use Rattle.pv_udc.specs.EditList.{empty_list};
+ghost use Rattle.pv_network.specs.declared.event.TheConstants.{MAX_CENTRES, PORTS};
+ghost use Rattle.pv_network.specs.Calls.{call_among, call_in, wish_at, dial_at, hang_at, store_at, show_at};
 ghost use Rattle.pv_network.specs.Keying.{keys_refusal};
-ghost use Rattle.pv_network.specs.Centre.{nothing_held, held_count, arrival_of, Comes, Pressed};
+ghost use Rattle.pv_network.specs.Centre.{new_centre, calls_of, request_for, Asked, CentreStands, AreNew, Comes, Pressed};
 
 use crate::calls::Calls;
-use crate::event::PORTS;
+use crate::event::MAX_CENTRES;
 use crate::outcome::Outcome;
-use pv_edits::{Base, Record, Sight};
+use pv_edits::DownRecord;
 use pv_frame::Frame;
+use pv_irc::{IrcReply, IrcRequest};
+use pv_nodes::CentreNode;
 use pv_outside::Limits;
 use pv_page::FrameName;
+use pv_session::Wish;
 use std::alloc::{AllocError, Global};
 use std::marker::Model;
 
-/// What a centre does with a record that arrives.
-#[derive(Clone, Copy, Debug, PartialEq, Eq)]
-pub enum Arrival {
-    /// It is the next one, and is taken.
-    Taken,
-    /// It was taken before.
-    Old,
-    /// One before it has not been taken.
-    Early,
-    /// It is the next one, and the centre has as many as it may.
-    Full,
-}
-
-/// A retrieval centre: the base of the records that it has applied, and its calls.
-#[derive(Debug, Drop)]
+/// A retrieval centre: its node, which has what it has applied of the edit list and counts the log-ons, and its calls.
+#[derive(Drop)]
 pub struct Centre {
-    base: Base,
+    node: CentreNode,
     calls: Calls,
 }
 
 impl Model for Centre {
-    ghost use Rattle.std.specs.Prelude.{◌≤◌, ◌+◌, length};
     ghost use Rattle.pv_network.specs.Centre.{Held};
 
     ghost Value = { Held };
 
-    ghost view = { λ c. record { records = c.base.records; limits = c.base.limits; calls = c.calls } };
-
-    ghost invariant = { λ c. length c.base.records + c.calls.log_ons ≤ c.base.limits.records };
+    ghost view = { λ c. record { node = c.node; ports = c.calls } };
 }
 
 impl Centre {
-    /// A centre that nothing has reached, with these limits.
-    pub(crate) fn open(alloc: Global, limits: Limits) -> Result<Centre, AllocError>
-        ensures { IfOk result (λ c. c ≡ nothing_held limits) }
+    /// The centre of a number, that nothing has reached, with these limits.
+    pub(crate) fn open(alloc: Global, number: u8, limits: Limits) -> Result<Centre, AllocError>
+        requires { number < MAX_CENTRES }
+        ensures { IfOk result (λ c. CentreStands (empty_list limits) number c new_centre) }
     {
         Ok(Centre {
-            base: Base::open(alloc, limits)?,
+            node: CentreNode::open(alloc, number, limits)?,
             calls: Calls::open(alloc)?,
         })
     }
 
-    /// How many records it has applied.
+    /// How many records of the edit list it has applied.
     pub(crate) fn applied(&self) -> u64
-        ensures value { result ≡ length self.now.records }
-        ensures within { length self.now.records ≤ self.now.limits.records }
+        ensures { result ≡ self.now.node.state.applied }
     {
-        self.base.count()
+        self.node.state().applied()
     }
 
-    /// How many records it has: those that it has applied, and its log-ons.
-    pub(crate) fn count(&self) -> u64
-        ensures value { result ≡ held_count self.now }
-        ensures within { held_count self.now ≤ self.now.limits.records }
-    {
-        self.base.count() + self.calls.log_ons()
-    }
-
-    /// Whether it has as many records as it may.
-    pub(crate) fn is_full(&self) -> bool
-        ensures { result ≡ nat_le self.now.limits.records (held_count self.now) }
-    {
-        self.base.limits().records as u64 <= self.count()
-    }
-
-    /// The frame that a name has in the records that the centre has applied.
+    /// The frame that a name has in the records that came down whole.
     pub(crate) fn frame(&self, name: FrameName) -> Option<&Frame>
         ensures valid { IfSome result (λ frame. IsValid frame.now) }
-        ensures frame { option_copied result ≡ frame_at self.now.records name }
+        ensures frame { option_copied result ≡ frame_at self.now.node.state.edits name }
     {
-        self.base.get(name)
+        self.node.state().base().get(name)
     }
 
-    /// What the centre does with the record of a number.
-    pub(crate) fn arrival(&self, number: u64) -> Arrival
-        ensures { result
-            ≡ arrival_of (length self.now.records) (held_count self.now) self.now.limits.records number }
+    /// Asks the node: the reply, or the count of the records of a full centre.
+    fn ask(&mut self, request: &IrcRequest) -> Result<IrcReply, u64>
+        requires { IsCentreRequest request.now }
+        ensures { Asked self.old self.new request.now result }
     {
-        let applied = self.base.count();
-        if number == applied {
-            if self.is_full() {
-                Arrival::Full
-            } else {
-                Arrival::Taken
-            }
-        } else if number < applied {
-            Arrival::Old
-        } else {
-            Arrival::Early
+        match self.node.ask(request) {
+            Ok(told) => Ok(told.reply),
+            Err(count) => Err(count),
         }
     }
 
-    /// Takes a record, which is the next one. There is room for it.
-    pub(crate) fn take(&mut self, edit: &Record)
-        requires fits { held_count self.old < self.old.limits.records }
-        requires room { IsTrue (has_room self.old.limits self.old.records edit.now) }
-        ensures { self.new ≡ record self.old { records = self.old.records ++ edit.now ∷ [] } }
+    /// Asks the node to apply what came down under a number: the reply, or the count of the records of a full centre.
+    pub(crate) fn apply(&mut self, number: u64, rec: &DownRecord) -> Result<IrcReply, u64>
+        ensures { Asked self.old self.new (requests.Apply number rec.now) result }
     {
-        let place = self.base.count();
-        self.base.absorb(edit, place);
+        rec.within();
+        self.ask(&IrcRequest::Apply {
+            n: number,
+            rec: *rec,
+        })
     }
 
     /// Begins a call at a port.
     pub(crate) fn dial(&mut self, port: usize) -> Outcome
         requires { port < PORTS }
-        ensures { Comes self.old self.new result (dial_at self.old.calls port (call_in self.old.calls port)) }
+        ensures { Comes self.old self.new result
+            (dial_at (calls_of self.old) port (call_in (calls_of self.old) port)) }
     {
         self.calls.dial(port)
     }
@@ -130,35 +99,55 @@ impl Centre {
     /// Why no key is taken at a port. `None` if keys are taken there.
     pub(crate) fn refusal(&self, port: usize) -> Option<Outcome>
         requires { port < PORTS }
-        ensures { result ≡ keys_refusal (call_in self.now.calls port) }
+        ensures { result ≡ keys_refusal (call_in (calls_of self.now) port) }
     {
         self.calls.refusal(port)
     }
 
-    /// Takes a key at a port. The centre has this number.
-    pub(crate) fn press(&mut self, number: u8, port: usize, key: u8) -> Outcome
+    /// Takes a key at a port.
+    pub(crate) fn press(&mut self, port: usize, key: u8) -> Outcome
         requires { port < PORTS }
-        ensures { Pressed self.old self.new number port key result }
+        ensures { Pressed self.old self.new port key result }
     {
         let account = self.calls.account(port);
         self.calls
-            .press(port, key, &Sight::new(&self.base, number, account))
+            .press(port, key, &self.node.state().sight(account))
     }
 
     /// Stores what the call at a port owes, unless the centre is full.
     pub(crate) fn store(&mut self, port: usize) -> Outcome
         requires { port < PORTS }
         ensures { Comes self.old self.new result
-            (store_at (nat_le self.old.limits.records (held_count self.old)) (held_count self.old) self.old.calls port (call_in self.old.calls port)) }
+            (store_at (nat_le self.old.node.state.limits.records (state_count self.old.node.state))
+            (state_count self.old.node.state) (calls_of self.old) port (call_in (calls_of self.old) port)) }
     {
-        let (is_full, count) = (self.is_full(), self.count());
-        self.calls.store(port, is_full, count)
+        match self.calls.wish(port) {
+            Ok(wish) => self.store_wish(port, wish),
+            Err(outcome) => outcome,
+        }
+    }
+
+    /// Stores what the call at a port owes, which is this, unless the centre is full.
+    fn store_wish(&mut self, port: usize, wish: Wish) -> Outcome
+        requires port { port < PORTS }
+        requires owed { wish_at (call_among self.old.ports port) ≡ Ok wish }
+        ensures { Comes self.old self.new result
+            (store_at (nat_le self.old.node.state.limits.records (state_count self.old.node.state))
+            (state_count self.old.node.state) (calls_of self.old) port (call_in (calls_of self.old) port)) }
+    {
+        match self.ask(&request_of(wish)) {
+            Ok(IrcReply::Serial(serial)) => self.calls.note(port, serial),
+            // A log-on has no other reply.
+            Ok(_) => Outcome::Nothing,
+            Err(count) => self.calls.turn_away(port, count),
+        }
     }
 
     /// Shows the caller at a port what his call was stored for.
     pub(crate) fn show(&mut self, port: usize) -> Outcome
         requires { port < PORTS }
-        ensures { Comes self.old self.new result (show_at self.old.calls port (call_in self.old.calls port)) }
+        ensures { Comes self.old self.new result
+            (show_at (calls_of self.old) port (call_in (calls_of self.old) port)) }
     {
         self.calls.show(port)
     }
@@ -166,23 +155,39 @@ impl Centre {
     /// Ends the call at a port.
     pub(crate) fn hang(&mut self, port: usize) -> Outcome
         requires { port < PORTS }
-        ensures { Comes self.old self.new result (hang_at self.old.calls port (call_in self.old.calls port)) }
+        ensures { Comes self.old self.new result
+            (hang_at (calls_of self.old) port (call_in (calls_of self.old) port)) }
     {
         self.calls.hang(port)
     }
 }
 
-/// This many centres that nothing has reached, with these limits for each.
+/// What a centre's node is asked for a wish.
+fn request_of(wish: Wish) -> IrcRequest
+    ensures within { IsCentreRequest result }
+    ensures request { result ≡ request_for wish }
+{
+    match wish {
+        Wish::LogOn(account) => {
+            let _number = account.number();
+            IrcRequest::LogOn { account }
+        }
+    }
+}
+
+/// This many centres that nothing has reached, numbered from 0, with these limits for each.
+#[tactic(auto, using(crate::proofs::Standing::none_new))]
 pub(crate) fn open_centres(
     alloc: Global,
     count: u8,
     limits: Limits,
 ) -> Result<Vec<Centre>, AllocError>
-    ensures { IfOk result (λ centres. centres.items ≡ replicate count (nothing_held limits)) }
+    requires { count ≤ MAX_CENTRES }
+    ensures { IfOk result (λ centres. AreNew limits count centres.items) }
 {
     let mut centres = Vec::with_capacity(alloc, count as usize)?;
-    for _ in 0..count {
-        centres.push(Centre::open(alloc, limits)?)?;
+    for number in 0..count {
+        centres.push(Centre::open(alloc, number, limits)?)?;
     }
     Ok(centres)
 }

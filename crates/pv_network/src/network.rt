@@ -12,24 +12,25 @@ ghost use Rattle.pv_network.specs.Step.{step_of_request, step_of_seeding, step_o
 mod calling;
 mod keying;
 
-use crate::centre::{Arrival, Centre, open_centres};
+use crate::centre::{Centre, open_centres};
 use crate::event::{EDITORS, Event};
 use crate::links::Links;
 use crate::outcome::{Outcome, Turn};
 use crate::round::Round;
 use crate::verdict::{responses, store};
 use pv_editor::{EditStep, EditorSeat, closing_text, reply_text};
-use pv_edits::{DownRecord, EditWish, OPERATOR};
+use pv_edits::{EditWish, OPERATOR};
 use pv_frame::{FIRST_ROW, Frame};
+use pv_nodes::a_centre_shows_what_the_list_shows;
 use pv_outside::Limits;
 use pv_page::{AccountNo, FrameName};
 use pv_screen::{Screen, compose};
-use pv_udc::{UdcRequest, UdcState};
+use pv_udc::{UdcRequest, UdcState, down};
 use std::alloc::{AllocError, Global};
 use std::marker::Model;
 
 /// One Update Centre and one to four retrieval centres, with the links between them.
-#[derive(Debug, Drop)]
+#[derive(Drop)]
 pub struct Network {
     update: UdcState,
     seats: [EditorSeat; EDITORS as usize],
@@ -213,9 +214,7 @@ impl Network {
         let Some(edit) = self.update.rec_at(number) else {
             return Outcome::Idle;
         };
-        let index = self
-            .links
-            .pack(centre, front, number, DownRecord::Whole(*edit));
+        let index = self.links.pack(centre, front, number, down(edit));
         Outcome::SentRecord { index, number }
     }
 
@@ -225,31 +224,17 @@ impl Network {
         ensures performs { Performs self.old self.new result (λ w. step_of_deliver w centre index) }
         ensures centres { length self.new.centres ≡ length self.old.centres }
     {
+        a_centre_shows_what_the_list_shows();
         let Some(delivery) = self.links.delivery(centre, index) else {
             return Outcome::NoPacket;
         };
-        let Some(edit) = delivery.record() else {
-            return Outcome::NoPacket;
-        };
         let number = delivery.number;
-        match self.centres[centre].arrival(number) {
-            Arrival::Taken => {
-                self.centres[centre].take(edit);
+        match self.centres[centre].apply(number, &delivery.rec) {
+            Ok(reply) => {
                 let ack = self.acknowledge(centre);
-                Outcome::Taken { number, ack }
+                Outcome::arrived(&reply, number, ack)
             }
-            Arrival::Old => {
-                let ack = self.acknowledge(centre);
-                Outcome::Old { number, ack }
-            }
-            Arrival::Early => {
-                let ack = self.acknowledge(centre);
-                Outcome::Early { number, ack }
-            }
-            Arrival::Full => {
-                let count = self.centres[centre].count();
-                Outcome::Full { count }
-            }
+            Err(count) => Outcome::Full { count },
         }
     }
 
@@ -335,6 +320,7 @@ impl Network {
         requires { centre < length self.now.centres }
         ensures { Performs self.now self.now result (λ w. step_of_view w centre name) }
     {
+        a_centre_shows_what_the_list_shows();
         match self.centres[centre].frame(name) {
             Some(frame) => Outcome::Shown(Turn {
                 screen: Screen::Whole(compose(frame, name)),

@@ -1,10 +1,11 @@
 ghost use Rattle.std.specs.Prelude.{◌≡◌};
 ghost use Rattle.pv_network.specs.Calls.{away_answer};
 ghost use Rattle.pv_network.specs.Keying.{is_owes, is_storing, is_over};
-ghost use Rattle.pv_network.specs.Traffic.{packet_in, ack_in};
+ghost use Rattle.pv_network.specs.Traffic.{packet_in, ack_in, arrived_answer};
 
 use crate::turns::Turns;
 use pv_editor::Text;
+use pv_irc::IrcReply;
 use pv_screen::Screen;
 use pv_session::{Step, Why};
 
@@ -104,6 +105,18 @@ impl Outcome {
         match step {
             Step::Ended(_, screen) => Outcome::StoreFull { count, screen },
             _ => Outcome::Nothing,
+        }
+    }
+
+    /// The answer to a record that arrived under a number and was acknowledged, by the centre's reply to it.
+    pub(crate) fn arrived(reply: &IrcReply, number: u64, ack: Option<u64>) -> Outcome
+        ensures { result ≡ arrived_answer reply.now number ack }
+    {
+        match reply {
+            IrcReply::Applied => Outcome::Taken { number, ack },
+            IrcReply::Old(_) => Outcome::Old { number, ack },
+            // There is room for each record of the list, so that no other reply comes.
+            _ => Outcome::Early { number, ack },
         }
     }
 

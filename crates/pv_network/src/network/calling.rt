@@ -5,6 +5,7 @@ ghost use Rattle.pv_network.specs.Standing.{Performs, Presses};
 
 use crate::network::Network;
 use crate::outcome::Outcome;
+use pv_nodes::a_centre_shows_what_the_list_shows;
 
 impl Network {
     /// Somebody calls a centre at a port.
@@ -24,7 +25,8 @@ impl Network {
         ensures performs { Presses self.old self.new result centre port key }
         ensures centres { length self.new.centres ≡ length self.old.centres }
     {
-        self.centres[centre as usize].press(centre, port, key)
+        a_centre_shows_what_the_list_shows();
+        self.centres[centre as usize].press(port, key)
     }
 
     /// A centre stores what the call at a port owes.

@@ -1,20 +1,16 @@
-use Rattle.std.proofs.Common.{ap}
-use Rattle.pv_network.specs.Calls.{Calls}
-use Rattle.pv_network.specs.Centre.{Held}
+use Rattle.pv_edits.specs.Sight.{view_of}
+use Rattle.pv_network.specs.Calls.{call_in, press_at}
+use Rattle.pv_network.proofs.AtPorts.{comes_of}
 use Rattle.pv_network.proofs.centre.Centre.press.Goals as goal
 
--- the caller is shown what the centre's records have for him
+-- the caller is shown what the node has for him
 pub returns : goal.returns
 returns c =
-    let base = c.self.inside.base in
-    let shown = c.new.ensures in
     let pressed = c.press.ensures.pressed in
-    let held : Calls → Held = λ calls. record { records = base.records; limits = base.limits; calls = calls } in
+    let shown = rw (c.state.ensures, c.account-account.ensures) at c.sight.ensures in
     rw (← c.self.view_is) (record {
       entry = pressed.0;
       says = pressed.1;
-      comes = record {
-        after = ap held (rw (shown, c.account-account.ensures) at pressed.2);
-        answer = rw (shown, c.account-account.ensures) at pressed.3;
-      };
+      comes = rw shown at (comes_of (record { node = c.self.inside.node; ports = c.self.inside.calls }) c.press.new.self c.press.result
+          (λ calls. press_at calls c.args.port c.args.key (view_of c.sight.result) pressed.0 (call_in calls c.args.port)) pressed.2);
     })

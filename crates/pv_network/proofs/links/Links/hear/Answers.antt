@@ -1,4 +1,4 @@
-use Rattle.std.proofs.Common.{◌≡◌, ◌≤◌, length, refl, ◌∙◌, arith}
+use Rattle.std.proofs.Common.{arith}
 use Rattle.std.proofs.lemmas.List.{length-set, map-set}
 use Rattle.pv_link.specs.Sending.{end_that_heard}
 use Rattle.pv_network.specs.Link.{link_of}

@@ -1,4 +1,4 @@
-use Rattle.std.proofs.Common.{◌≡◌, ◌≤◌, [], ◌∷◌, length, refl, ◌∙◌, arith}
+use Rattle.std.proofs.Common.{[], ◌∷◌, arith}
 use Rattle.std.proofs.lemmas.List.{length-append, length-set}
 use Rattle.pv_packet.specs.declared.packet.Packet.TheVariants.{Down}
 use Rattle.pv_network.specs.Link.{with_place}

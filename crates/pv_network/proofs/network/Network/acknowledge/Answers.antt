@@ -20,7 +20,7 @@ made : (c : After-acknowledge) (w : World) → StandsFor (before c) w
 made c w stands =
     acknowledges _ w stands c.args.centre c.index.result.now (rw (← c.self.view_is) at c.requires) c.index.ensures
     c.acknowledge.new.self c.acknowledge.result (sym c.if-is_full.ensures) c.acknowledge.ensures.index
-    (rw c.applied-count.ensures.value at c.acknowledge.ensures.made)
+    (rw c.applied-count.ensures at c.acknowledge.ensures.made)
 
 pub invariant_of-self : goal.invariant_of-self
 invariant_of-self c =

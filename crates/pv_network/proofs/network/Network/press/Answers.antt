@@ -23,7 +23,7 @@ done : (c : After-press) (w : World) → StandsFor (before c) w
     × (c.press.result ≡ (step_of_press w c.args.centre c.args.port c.args.key entry).1)
 done c w stands =
     presses _ w stands c.args.centre c.index_mut.result.now (rw (← c.self.view_is) at c.requires.centre) c.index_mut.ensures.value
-    c.args.port c.press.new.self c.press.result c.args.key c.press.ensures
+    c.args.port c.press.new.self c.press.result c.a_centre_shows_what_the_list_shows.ensures.sight c.args.key c.press.ensures
 
 pub invariant_of-self : goal.invariant_of-self
 invariant_of-self c =

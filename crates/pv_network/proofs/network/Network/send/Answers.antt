@@ -21,7 +21,7 @@ sent : (c : After-pack-index) (w : World) → StandsFor (before c) w
 sent c w stands =
     sends _ w stands c.args.centre c.pack-index.new.self c.front-front.result c.in-Some.number c.pack-index.result c.in-Some-rec_at.edit.now
     (sym c.if-is_full.ensures) c.front-front.ensures.value (sym c.in-Some.ensures)
-    (sym (rw stands.update at c.in-Some-rec_at.ensures)) c.pack-index.ensures.index c.pack-index.ensures.packed
+    (sym (rw stands.update at c.in-Some-rec_at.ensures)) c.pack-index.ensures.index (rw c.down.ensures at c.pack-index.ensures.packed)
 
 pub invariant_of-self : goal.invariant_of-self
 invariant_of-self c =

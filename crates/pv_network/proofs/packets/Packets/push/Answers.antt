@@ -1,5 +1,4 @@
-use Rattle.std.proofs.Common.{◌≡◌, ◌+◌, ◌≤◌, length, refl, ap, ◌∙◌, arith}
-use Rattle.pv_packet.specs.Packet.{packet_bytes}
+use Rattle.std.proofs.Common.{◌+◌, arith}
 use Rattle.pv_network.specs.declared.packets.Span.{Span}
 use Rattle.pv_network.proofs.Runs.{packets_pushed, spelled_pushed}
 use Rattle.pv_network.proofs.packets.Packets.push.Goals as goal
