@@ -1,0 +1,6 @@
+mod Blocks
+mod Facts
+mod Steps
+mod Texts
+mod Whole
+mod Writes
