@@ -6,11 +6,13 @@ const VERSION: &str = "prestel 0.1.0\n";
 
 /// How the program is used.
 const HELP: &str = "usage: prestel play N < SCRIPT
+       prestel gen N > SCRIPT
        prestel --help
        prestel --version
 
-Runs the script on standard input on a viewdata network of N retrieval
+play runs the script on standard input on a viewdata network of N retrieval
 centres, 1 to 4, and writes an answer to each event.
+gen writes the script that is made by rule for the number N, 1 to 999.
 
 Exit status:
   0  everything was done

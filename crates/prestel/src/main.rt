@@ -1,6 +1,7 @@
-//! The program: `prestel play N` runs a script on a viewdata network of N retrieval centres, 1 to 4.
+//! The program: `prestel play N` runs a script on a viewdata network of N retrieval centres, 1 to 4, and `prestel gen N`
+//! writes the script that is made by rule for the number N.
 //!
-//! The script comes in by standard input and the transcript goes out by standard output; a fault is one
+//! A script comes in by standard input, and what is written goes out by standard output; a fault is one
 //! line on standard error, and the exit status says which. All that the program does is
 //! [`program::run_program`], over the source and the writer that it is handed; `main` makes the real ones,
 //! and ends with the status.
@@ -32,9 +33,13 @@ fn main(rt: HostRuntime) -> ExitCode {
 fn end<R: Eprint>(rt: &R, status: Status) -> ExitCode
     ensures { exit_status result ≡ number_of status }
 {
-    if status != Status::Done {
-        let _ = eprintln!(rt; "prestel: {status}");
-    }
+    let _ = match status {
+        Status::Done => Ok(()),
+        Status::Usage => eprintln!(rt;
+            "prestel: usage: prestel play N < SCRIPT, N 1 to 4, or prestel gen N, N 1 to 999"
+        ),
+        _ => eprintln!(rt; "prestel: {status}"),
+    };
     ExitCode::from(status.number())
 }
 

@@ -1,6 +1,8 @@
 ghost use Rattle.std.specs.Prelude.{◌≡◌, ◌≢◌, ℕ, ◌≤◌, ◌↔◌, List, map, string_bytes};
 ghost use Rattle.pv_outside.specs.Counts.{Rose};
 ghost use Rattle.prestel.specs.About.{about_words, about_text};
+ghost use Rattle.pv_gen.specs.Script.{script_of};
+ghost use Rattle.pv_script.specs.Generating.{AskToGenerate, AskNoScript};
 ghost use Rattle.pv_script.specs.Play.{AskToPlay, AskNoPlay, first_world, HasRead, IsNotRun};
 ghost use Rattle.prestel.specs.Program.{WritesText, IsRunOf};
 ghost use Rattle.prestel.specs.declared.about.About.{About};
@@ -8,12 +10,12 @@ ghost use Rattle.prestel.specs.declared.about.About.{About};
 use crate::about::About;
 use pv_files::StandardOutput;
 use pv_outside::{Failed, Sink, Source, Status};
-use pv_script::play;
+use pv_script::{generate, play};
 use std::alloc::Global;
 use std::io::Write;
 
-/// Does what the words ask for: prints the help or the version, or plays the script. All that the program
-/// does is this.
+/// Does what the words ask for: prints the help or the version, writes a generated script, or plays the script.
+/// All that the program does is this.
 pub fn run_program<S: Source, W: Write + Drop>(
     alloc: Global,
     words: &[String],
@@ -24,6 +26,10 @@ pub fn run_program<S: Source, W: Write + Drop>(
     ensures about { (about : About) → map string_bytes words.now ≡ about_words about
         → WritesText W.contents (about_text about) out.old out.new result × (script.new ≡ script.old) }
 
+    // So is the script of the number that they ask for.
+    ensures generates { (number : ℕ) → AskToGenerate (map string_bytes words.now) number
+        → WritesText W.contents (script_of number) out.old out.new result × (script.new ≡ script.old) }
+
     // If they ask for a play, what was read is a text, and what the writer has now is what a run of that text
     // makes of it.
     ensures runs { (centres : ℕ) → AskToPlay (map string_bytes words.now) centres → (text : List ℕ)
@@ -32,7 +38,7 @@ pub fn run_program<S: Source, W: Write + Drop>(
 
     // The words are refused exactly when they are none of those, and then nothing is read.
     ensures usage { (result ≡ Status.Usage)
-        ↔ (AskNoPlay (map string_bytes words.now)
+        ↔ (AskNoPlay (map string_bytes words.now) × AskNoScript (map string_bytes words.now)
         × ((about : About) → map string_bytes words.now ≢ about_words about)) }
     ensures unread { result ≡ Status.Usage → script.new ≡ script.old }
 
@@ -48,7 +54,10 @@ pub fn run_program<S: Source, W: Write + Drop>(
 {
     match About::asked(words) {
         Some(about) => write_about(about, out),
-        None => play_out(alloc, words, script, out),
+        None => match generate_out(words, out) {
+            Status::Usage => play_out(alloc, words, script, out),
+            status => status,
+        },
     }
 }
 
@@ -65,6 +74,30 @@ fn write_about<W: Write + Drop>(about: About, out: &mut StandardOutput<W>) -> St
         return Status::WriteFault;
     }
     Status::Done
+}
+
+/// Writes a generated script, and flushes what is still in the buffer.
+fn generate_out<W: Write + Drop>(words: &[String], out: &mut StandardOutput<W>) -> Status
+    // If the words ask for a script, the writer itself has the whole of it, or the output failed after a prefix.
+    ensures generates { (number : ℕ) → AskToGenerate (map string_bytes words.now) number
+        → WritesText W.contents (script_of number) out.old out.new result }
+
+    // The words are refused exactly when they ask for no script, and then nothing is written.
+    ensures usage { (result ≡ Status.Usage) ↔ AskNoScript (map string_bytes words.now) }
+    ensures unwritten { result ≡ Status.Usage → out.new ≡ out.old }
+
+    // A fault of the outside comes only if its count rose.
+    ensures write_fault { result ≡ Status.WriteFault → Rose out.old.faults out.new.faults }
+    ensures counted { out.old.faults ≤ out.new.faults }
+{
+    let status = generate(words, out);
+    if status != Status::Done {
+        return status;
+    }
+    match out.flush() {
+        Ok(()) => Status::Done,
+        Err(Failed) => Status::WriteFault,
+    }
 }
 
 /// Plays a script, and flushes the answers that are still in the buffer. If memory ran out, that is the

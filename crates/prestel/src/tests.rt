@@ -1,4 +1,5 @@
 mod calls;
+mod generated;
 
 use crate::about::About;
 use crate::program::run_program;

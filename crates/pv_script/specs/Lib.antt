@@ -1,4 +1,6 @@
+pub mod Asking
 pub mod Ends
+pub mod Generating
 pub mod Grammar
 pub mod Play
 pub mod Readers

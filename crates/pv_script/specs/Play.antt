@@ -1,5 +1,5 @@
 -- How a play may end, and what then was read and written.
-use Rattle.std.specs.Prelude.{◌≡◌, ℕ, ◌+◌, ◌≤◌, ◌==◌, Bool, IsTrue, List, [], ◌∷◌, ◌++◌, length, take, Option, Some, None, IsSomeAnd, codes, decimal}
+use Rattle.std.specs.Prelude.{◌≡◌, ℕ, ◌+◌, ◌≤◌, ◌==◌, Bool, IsTrue, List, [], ◌∷◌, ◌++◌, length, take, Option, Some, None, IsSomeAnd, codes}
 use Rattle.std.specs.Io.KnownBytes.{Appends, Consumes}
 use Rattle.std.proofs.Common.{lit<, lit≤}
 use Rattle.pv_outside.specs.declared.limits.Limits.{Limits}
@@ -12,18 +12,17 @@ use Rattle.pv_network.specs.Standing.{State, StandsFor}
 use Rattle.pv_network.specs.World.{World, start}
 use Rattle.pv_network.specs.Step.{Choice}
 use Rattle.pv_script.specs.declared.grammar.Command.{Command}
+use Rattle.pv_script.specs.Asking.{AskFor, AskNot}
 use Rattle.pv_script.specs.Grammar.{HasNoForm}
 use Rattle.pv_script.specs.Transcript.{AreRead, answers, world_after_all}
 
 -- the words ask for a play of this many centres, which are one to four
-pub record AskToPlay (words : List (List ℕ)) (centres : ℕ) : Type 0 where
-  pub some : 1 ≤ centres
-  pub few : centres ≤ MAX_CENTRES
-  pub asked : words ≡ codes "play" ∷ decimal centres ∷ []
+abbrev pub AskToPlay : List (List ℕ) → ℕ → Type 0
+AskToPlay words centres = AskFor (codes "play") MAX_CENTRES words centres
 
 -- the words ask for no play
 abbrev pub AskNoPlay : List (List ℕ) → Type 0
-AskNoPlay words = (centres : ℕ) → AskToPlay words centres → ⊥
+AskNoPlay words = AskNot (codes "play") MAX_CENTRES words
 
 -- the limits of a play: 2,000 frames and 10,000 records
 abbrev pub play_limits : Limits

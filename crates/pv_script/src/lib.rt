@@ -17,13 +17,16 @@
 #![tactic(auto)]
 
 mod answer;
+mod asking;
 mod ends;
+mod generating;
 mod grammar;
 mod playing;
 mod readers;
 mod script;
 mod word;
 
+pub use generating::generate;
 pub use grammar::{Command, parse};
 pub use playing::{FRAMES, Played, RECORDS, play};
 pub use script::LONGEST_SCRIPT;

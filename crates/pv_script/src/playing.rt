@@ -8,12 +8,13 @@ ghost use Rattle.pv_script.specs.Ends.{GivesAnswer, HasRun, IsAnswerEnd, IsLineE
 ghost use Rattle.pv_script.specs.Play.{AskToPlay, AskNoPlay, HasRead, IsPlayOf, IsPlayed, IsNotRun, first_world};
 
 use crate::answer::{push_answer, push_limits};
+use crate::asking::number_asked;
 use crate::ends::{AnswerEnd, RunEnd};
 use crate::grammar::{Command, parse};
 use crate::script::{LONGEST_SCRIPT, read_script};
 use pv_network::{Event, MAX_CENTRES, Network};
 use pv_outside::{Limits, Sink, Source, Status};
-use pv_words::{first_line, number_of};
+use pv_words::first_line;
 use std::alloc::Global;
 
 /// How many frames a node of a play may have, unless its script says otherwise.
@@ -94,23 +95,9 @@ fn centres_asked(words: &[String]) -> Option<u8>
     ensures found { IfSome result (AskToPlay (map string_bytes words.now)) }
     ensures only { (centres : ℕ) → AskToPlay (map string_bytes words.now) centres → result ≡ Some centres }
 {
-    match words {
-        [first, second] => centres_of(first.as_bytes(), second.as_bytes()),
-        _ => None,
-    }
-}
-
-/// How many centres these two words ask for a play of. `None` exactly when they ask for no play.
-fn centres_of(first: &[u8], second: &[u8]) -> Option<u8>
-    ensures found { IfSome result (AskToPlay (first.now ∷ second.now ∷ [])) }
-    ensures only { (centres : ℕ) → AskToPlay (first.now ∷ second.now ∷ []) centres → result ≡ Some centres }
-{
-    if first != b"play".as_slice() {
-        return None;
-    }
-    match number_of(second) {
-        Some(centres) if 1 <= centres && centres <= MAX_CENTRES as u64 => Some(centres as u8),
-        _ => None,
+    match number_asked(words, b"play", MAX_CENTRES as u32) {
+        Some(centres) => Some(centres as u8),
+        None => None,
     }
 }
 
