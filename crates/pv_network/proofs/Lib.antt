@@ -17,3 +17,4 @@ pub mod SoundCalls
 pub mod Soundness
 pub mod Standing
 pub mod Untouched
+pub mod Verdicts

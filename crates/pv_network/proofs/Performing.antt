@@ -24,6 +24,7 @@ use Rattle.pv_edits.specs.declared.record.Record.{Record}
 use Rattle.pv_edits.specs.declared.wish.EditWish.{EditWish}
 use Rattle.pv_edits.specs.Room.{has_room}
 use Rattle.pv_udc.specs.EditList.{EditList, all_places}
+use Rattle.pv_nodes.specs.OnDisk.{OnDisk, UpdateIsOnDisk, list_with}
 use Rattle.pv_editor.specs.Say.{new_seat, turn_of, Says}
 use Rattle.pv_editor.specs.declared.line.EditLine.{EditLine}
 use Rattle.pv_editor.specs.declared.seat.EditorSeat.{EditorSeat}
@@ -38,7 +39,7 @@ use Rattle.pv_network.specs.Sound.{CarriesRecord, IsGenuine, IsSound}
 use Rattle.pv_network.specs.Standing.{State, StandsFor}
 use Rattle.pv_network.specs.Step.{step_of_request, step_of_line, step_of_said, step_of_edit}
 use Rattle.pv_network.specs.Traffic.{step_of_send, step_of_acknowledging, with_next_at, arrived_answer, step_of_arrival, step_of_deliver, step_of_back}
-use Rattle.pv_network.specs.Verdict.{verdict_of, list_after}
+use Rattle.pv_network.specs.Verdict.{verdict_of}
 use Rattle.pv_network.specs.World.{World, seat_at, link_at, centre_at, with_centre, page_base}
 use Rattle.pv_network.proofs.Lists.{all_get}
 use Rattle.pv_network.proofs.Soundness.{sound_request, sound_packet, sound_count, sound_heard, sound_applied, taken_is_next}
@@ -46,13 +47,14 @@ use Rattle.pv_network.proofs.Arriving.{arrives}
 use Rattle.pv_network.proofs.Standing.{request_stands, seat_replaced, centre_stands, centre_replaced, link_replaced}
 
 -- an editor's request is judged
-pub asks : (s : State) (w : World) → StandsFor s w → (editor q : ℕ) (wish : EditWish) (here : EditList) (told : UdcReplyView)
-    → here ≡ list_after s.update (verdict_of s.update (Edit editor q wish)).stored → told ≡ (verdict_of s.update (Edit editor q wish)).reply
-    → StandsFor (record s { update = here }) (step_of_request w editor q wish).0 ×
+pub asks : (s : State) (w : World) → StandsFor s w → (editor q : ℕ) (wish : EditWish) (here : OnDisk EditList) (told : UdcReplyView)
+    → here.state ≡ list_with s.update (verdict_of s.update (Edit editor q wish)).stored → UpdateIsOnDisk here
+    → told ≡ (verdict_of s.update (Edit editor q wish)).reply
+    → StandsFor (record s { update = here.state; disk = here.disk }) (step_of_request w editor q wish).0 ×
     (Reply (reply_of told) ≡ (step_of_request w editor q wish).1)
-asks s w stands editor q wish here told is reply =
+asks s w stands editor q wish here told is on_disk reply =
     let verdict = verdict_of w.update (Edit editor q wish) in (
-      request_stands s w stands editor q verdict.stored verdict.reply here (rw stands.update at is)
+      request_stands s w stands here on_disk editor q verdict.stored verdict.reply (rw stands.update at is)
           (sound_request w editor q wish stands.sound),
       ap (λ (v : UdcReplyView). Reply (reply_of v)) (rw stands.update at reply),
     )

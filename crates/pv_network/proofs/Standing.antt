@@ -11,7 +11,7 @@ use Rattle.pv_editor.specs.declared.replies.UdcReplyView.TheVariants.{Stored, Re
 use Rattle.pv_network.specs.Centre.{Centre, Held, CentreStands, CentresStand, AreNew, new_centre, calls_of, record_count, state_of_prefix}
 use Rattle.pv_network.specs.Link.{Link}
 use Rattle.pv_editor.specs.declared.seat.EditorSeat.{EditorSeat}
-use Rattle.pv_network.specs.Verdict.{list_after}
+use Rattle.pv_nodes.specs.OnDisk.{OnDisk, UpdateIsOnDisk, list_with}
 use Rattle.pv_network.specs.World.{World, with_seat, centre_at, with_centre, with_link, with_edit, with_receipt}
 use Rattle.pv_network.specs.Sound.{IsSound}
 use Rattle.pv_network.specs.Standing.{State, StandsFor}
@@ -69,7 +69,14 @@ one_more_new limits count here held are is = record {
 module _ (s : State) (w : World) (stands : StandsFor s w) where
   -- it stands for the same world whether it is out of memory or not
   pub out_stands : (out : Bool) → StandsFor (record s { is_out = out }) w
-  out_stands out = record { sound = stands.sound; update = stands.update; seats = stands.seats; centres = stands.centres; links = stands.links }
+  out_stands out = record {
+    sound = stands.sound;
+    update = stands.update;
+    on_disk = stands.on_disk;
+    seats = stands.seats;
+    centres = stands.centres;
+    links = stands.links;
+  }
 
   -- the centres stand for the same with one more record in the list
   longer : (edit : Record) → CentresStand (with_record w.update edit) s.centres w.centres
@@ -78,14 +85,19 @@ module _ (s : State) (w : World) (stands : StandsFor s w) where
     each = λ c held is. centre_longer w.update c held _ (stands.centres.each c held is) edit;
   }
 
-  -- another Update Centre, which has stored what the world's stored, leaves all else standing, whatever is acknowledged
-  pub request_stands : (editor q : ℕ) (stored : Option Record) (reply : UdcReplyView) (here : EditList) → here ≡ list_after w.update stored
-      → IsSound (with_receipt (with_edit w stored) editor q reply)
-      → StandsFor (record s { update = here }) (with_receipt (with_edit w stored) editor q reply)
-  request_stands editor q None (Stored place) here is sound = record { sound = sound; update = is; seats = stands.seats; centres = stands.centres; links = stands.links }
-  request_stands editor q None (Refused code shown) here is sound = record { sound = sound; update = is; seats = stands.seats; centres = stands.centres; links = stands.links }
-  request_stands editor q (Some edit) (Stored place) here is sound = record { sound = sound; update = is; seats = stands.seats; centres = longer edit; links = stands.links }
-  request_stands editor q (Some edit) (Refused code shown) here is sound = record { sound = sound; update = is; seats = stands.seats; centres = longer edit; links = stands.links }
+  -- Another Update Centre, which has stored what the world's stored and has its list on its disk, leaves all else standing,
+  -- whatever is acknowledged.
+  module _ (here : OnDisk EditList) (on_disk : UpdateIsOnDisk here) where
+    -- the network with it
+    abbrev with_update : State
+    with_update = record s { update = here.state; disk = here.disk }
+
+    pub request_stands : (editor q : ℕ) (stored : Option Record) (reply : UdcReplyView) → here.state ≡ list_with w.update stored
+        → IsSound (with_receipt (with_edit w stored) editor q reply) → StandsFor with_update (with_receipt (with_edit w stored) editor q reply)
+    request_stands editor q None (Stored place) is sound = record { sound = sound; update = is; on_disk = on_disk; seats = stands.seats; centres = stands.centres; links = stands.links }
+    request_stands editor q None (Refused code shown) is sound = record { sound = sound; update = is; on_disk = on_disk; seats = stands.seats; centres = stands.centres; links = stands.links }
+    request_stands editor q (Some edit) (Stored place) is sound = record { sound = sound; update = is; on_disk = on_disk; seats = stands.seats; centres = longer edit; links = stands.links }
+    request_stands editor q (Some edit) (Refused code shown) is sound = record { sound = sound; update = is; on_disk = on_disk; seats = stands.seats; centres = longer edit; links = stands.links }
 
   -- another seat in the place of one leaves all else standing
   pub seat_replaced : (port : ℕ) (seats : List EditorSeat) (seat : EditorSeat) → seats ≡ set w.seats port seat
@@ -93,6 +105,7 @@ module _ (s : State) (w : World) (stands : StandsFor s w) where
   seat_replaced port seats seat is = record {
     sound = sound_seat w port seat stands.sound;
     update = stands.update;
+    on_disk = stands.on_disk;
     seats = is;
     centres = stands.centres;
     links = stands.links;
@@ -109,6 +122,7 @@ module _ (s : State) (w : World) (stands : StandsFor s w) where
     centre_replaced here centre is sound = record {
       sound = sound;
       update = stands.update;
+      on_disk = stands.on_disk;
       seats = stands.seats;
       centres = record {
         count = length-set s.centres c here ∙ stands.centres.count ∙ sym (length-set w.centres c centre);
@@ -120,4 +134,11 @@ module _ (s : State) (w : World) (stands : StandsFor s w) where
     -- another link in the place of one leaves all else standing
     pub link_replaced : (links : List Link) (link : Link) → links ≡ set w.links c link → IsSound (with_link w c link)
         → StandsFor (record s { links = links }) (with_link w c link)
-    link_replaced links link is sound = record { sound = sound; update = stands.update; seats = stands.seats; centres = stands.centres; links = is }
+    link_replaced links link is sound = record {
+      sound = sound;
+      update = stands.update;
+      on_disk = stands.on_disk;
+      seats = stands.seats;
+      centres = stands.centres;
+      links = is;
+    }

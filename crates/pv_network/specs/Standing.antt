@@ -2,7 +2,9 @@
 use Rattle.std.specs.Prelude.{◌≡◌, ℕ, ◌<◌, Bool, true, false, List, ◌++◌, length, Option}
 use Rattle.pv_network.specs.declared.event.Event.{Event}
 use Rattle.pv_network.specs.declared.event.Event.TheVariants as events
+use Rattle.pv_memory.specs.Medium.{Medium}
 use Rattle.pv_udc.specs.EditList.{EditList}
+use Rattle.pv_nodes.specs.OnDisk.{UpdateIsOnDisk}
 use Rattle.pv_editor.specs.declared.seat.EditorSeat.{EditorSeat}
 use Rattle.pv_network.specs.declared.event.TheConstants.{EDITORS, PORTS}
 use Rattle.pv_session.specs.declared.entry.Entry.{Entry}
@@ -18,18 +20,21 @@ use Rattle.pv_network.specs.declared.outcome.Turn.{Turn}
 use Rattle.pv_network.specs.Step.{Choice, IsChoice, happens}
 use Rattle.pv_network.specs.World.{World}
 
--- what is seen of a network: its parts, and whether it once was out of memory
+-- what is seen of a network: its parts, of which the Update Centre has its list on a disk, and whether it once was out of memory
 pub record State : Type 0 where
   pub update : EditList
+  pub disk : Medium
   pub seats : List EditorSeat
   pub centres : List Held
   pub links : List Link
   pub is_out : Bool
 
--- the network stands for a sound world, each part for its part
+-- The network stands for a sound world, each part for its part. Each image that a crash of the Update Centre's disk may leave
+-- spells the records of the edit list.
 pub record StandsFor (s : State) (w : World) : Type 0 where
   pub sound : IsSound w
   pub update : s.update ≡ w.update
+  pub on_disk : UpdateIsOnDisk (record { state = s.update; disk = s.disk })
   pub seats : s.seats ≡ w.seats
   pub centres : CentresStand w.update s.centres w.centres
   pub links : s.links ≡ w.links

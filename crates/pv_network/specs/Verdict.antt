@@ -7,7 +7,7 @@ use Rattle.pv_udc.specs.Replies.{reply_place}
 use Rattle.pv_edits.specs.declared.record.Record.{Record}
 use Rattle.pv_node.specs.declared.decision.Decision.{Decision}
 use Rattle.pv_node.specs.declared.decision.Decision.TheVariants.{Answer, Store}
-use Rattle.pv_udc.specs.EditList.{EditList, with_record}
+use Rattle.pv_udc.specs.EditList.{EditList}
 use Rattle.pv_udc.specs.Judgement.{judge}
 use Rattle.pv_udc.specs.declared.reply.UdcReply.{UdcReply}
 use Rattle.pv_udc.specs.declared.reply.UdcReply.TheVariants.{Stored, Again, Old, Early, Refused}
@@ -39,11 +39,6 @@ verdict_by u (Store edit reply) =
 -- the verdict on a request
 abbrev pub verdict_of : EditList → UdcRequest → Verdict
 verdict_of u request = verdict_by u (judge u.limits u.records request)
-
--- the list with the record that is stored, if there is one
-abbrev pub list_after : EditList → Option Record → EditList
-list_after u None = u
-list_after u (Some edit) = with_record u edit
 
 -- ---- what callers keyed into an editor's frames
 

@@ -17,22 +17,22 @@ use crate::event::{EDITORS, Event};
 use crate::links::Links;
 use crate::outcome::{Outcome, Turn};
 use crate::round::Round;
-use crate::verdict::{responses, store};
+use crate::verdict::{responses, store, within};
 use pv_editor::{EditStep, EditorSeat, closing_text, reply_text};
 use pv_edits::{EditWish, OPERATOR};
 use pv_frame::{FIRST_ROW, Frame};
-use pv_nodes::a_centre_shows_what_the_list_shows;
+use pv_nodes::{UpdateNode, a_centre_shows_what_the_list_shows};
 use pv_outside::Limits;
 use pv_page::{AccountNo, FrameName};
 use pv_screen::{Screen, compose};
-use pv_udc::{UdcRequest, UdcState, down};
+use pv_udc::{UdcRequest, down};
 use std::alloc::{AllocError, Global};
 use std::marker::Model;
 
 /// One Update Centre and one to four retrieval centres, with the links between them.
 #[derive(Drop)]
 pub struct Network {
-    update: UdcState,
+    update: UpdateNode,
     seats: [EditorSeat; EDITORS as usize],
     centres: Vec<Centre>,
     links: Links,
@@ -47,7 +47,8 @@ impl Model for Network {
     ghost Value = { State };
 
     ghost view = { λ n. record {
-      update = n.update;
+      update = n.update.state;
+      disk = n.update.disk;
       seats = n.seats;
       centres = n.centres.items;
       links = n.links;
@@ -56,7 +57,8 @@ impl Model for Network {
 
     // It stands for a world: so each record of a packet has room at the centre that takes it.
     ghost invariant = { λ n. (length n.links ≡ length n.centres.items) × IsStanding (record {
-      update = n.update;
+      update = n.update.state;
+      disk = n.update.disk;
       seats = n.seats;
       centres = n.centres.items;
       links = n.links;
@@ -75,7 +77,7 @@ impl Network {
         ensures memory { IfOk result (λ network. network.is_out ≡ false) }
     {
         Ok(Network {
-            update: UdcState::open(alloc, limits)?,
+            update: UpdateNode::open(alloc, limits)?,
             seats: [EditorSeat::new(); EDITORS as usize],
             centres: open_centres(alloc, centres, limits)?,
             links: Links::open(alloc, centres)?,
@@ -142,7 +144,7 @@ impl Network {
         let mut frame = Frame::blank();
         frame.set_row(FIRST_ROW, row);
         let editor = AccountNo::of_number(OPERATOR).unwrap();
-        let q = self.update.next_number(editor) as u32;
+        let q = self.update.state().next_number(editor) as u32;
         self.ask(editor, q, EditWish::Put { name, frame })
     }
 
@@ -151,6 +153,7 @@ impl Network {
         ensures performs { Performs self.old self.new result (λ w. step_of_request w editor q wish) }
         ensures centres { length self.new.centres ≡ length self.old.centres }
     {
+        within(editor, q, &wish);
         let reply = store(&mut self.update, &UdcRequest::Edit { editor, q, wish });
         Outcome::Reply(reply_text(&reply))
     }
@@ -177,7 +180,7 @@ impl Network {
             × Performs self.old self.new result (λ w. step_of_line w port said) }
         ensures centres { length self.new.centres ≡ length self.old.centres }
     {
-        self.seats[port].line(line, self.update.base())
+        self.seats[port].line(line, self.update.state().base())
     }
 
     /// What was keyed into an editor's frames, from a place on.
@@ -185,7 +188,7 @@ impl Network {
         ensures { (port : ℕ) → Performs self.now self.now result
             (λ w. step_of_said w port (steps.Responses editor from)) }
     {
-        Outcome::Reply(responses(&self.update, editor, from))
+        Outcome::Reply(responses(self.update.state(), editor, from))
     }
 
     /// Ends the session at a port.
@@ -207,11 +210,11 @@ impl Network {
         if self.links.is_full() {
             return Outcome::PacketsFull;
         }
-        let front = self.update.front();
+        let front = self.update.count();
         let Some(number) = self.links.next_number(centre, front) else {
             return Outcome::Idle;
         };
-        let Some(edit) = self.update.rec_at(number) else {
+        let Some(edit) = self.update.state().rec_at(number) else {
             return Outcome::Idle;
         };
         let index = self.links.pack(centre, front, number, down(edit));
@@ -247,7 +250,7 @@ impl Network {
         let Some(number) = self.links.heard(centre, index) else {
             return Outcome::NoPacket;
         };
-        self.links.hear(centre, self.update.front(), number);
+        self.links.hear(centre, self.update.count(), number);
         Outcome::Heard { number }
     }
 
@@ -280,7 +283,7 @@ impl Network {
     {
         if self
             .links
-            .next_number(centre, self.update.front())
+            .next_number(centre, self.update.count())
             .is_none()
         {
             return Round::Idle;
@@ -343,7 +346,7 @@ impl Network {
     fn list(&self) -> Outcome
         ensures { Performs self.now self.now result step_of_list }
     {
-        let count = self.update.front();
+        let count = self.update.count();
         Outcome::Records { count }
     }
 

@@ -1,32 +1,48 @@
 ghost use Rattle.std.specs.Prelude.{◌≡◌};
-ghost use Rattle.pv_udc.specs.Requests.{HasCentre};
-ghost use Rattle.pv_network.specs.Verdict.{editor_reply, verdict_of, list_after, reply_found};
+ghost use Rattle.pv_udc.specs.Requests.{IsRequest};
+ghost use Rattle.pv_udc.specs.declared.request.UdcRequest.TheVariants.{Edit};
+ghost use Rattle.pv_nodes.specs.OnDisk.{UpdateIsOnDisk, list_with};
+ghost use Rattle.pv_network.specs.Verdict.{editor_reply, verdict_of, reply_found};
 ghost use Rattle.pv_editor.specs.Replies.{responses_reply};
 
 use pv_editor::{Text, UdcReplyView, responses_text};
-use pv_edits::Record;
-use pv_node::Decision;
+use pv_edits::{EditWish, Record};
+use pv_nodes::UpdateNode;
 use pv_page::AccountNo;
 use pv_udc::{UdcReply, UdcRequest, UdcState};
 
 /// The code of a request whose record would be one too many: it prints how many there are.
 pub(crate) const FULL: u8 = 14;
 
-/// Judges a request, stores its record unless it is refused, and returns the editor's reply.
-pub(crate) fn store(update: &mut UdcState, request: &UdcRequest) -> UdcReplyView
-    requires { HasCentre request.now }
-    ensures reply { result ≡ (verdict_of update.old request.now).reply }
-    ensures stored { update.new ≡ list_after update.old (verdict_of update.old request.now).stored }
+/// Judges a request, stores its record unless it is refused, and returns the editor's reply. Each image of the
+/// disk then spells the records of the list.
+pub(crate) fn store(update: &mut UpdateNode, request: &UdcRequest) -> UdcReplyView
+    requires { IsRequest request.now }
+    ensures reply { result ≡ (verdict_of update.old.state request.now).reply }
+    ensures stored { update.new.state
+        ≡ list_with update.old.state (verdict_of update.old.state request.now).stored }
+    ensures on_disk { UpdateIsOnDisk update.new }
 {
-    match update.decide(request) {
-        Decision::Answer(reply) => editor_reply(reply),
-        Decision::Store(record, reply) => {
-            let place = update.front();
-            if update.is_full() {
-                return UdcReplyView::Refused(FULL, place);
-            }
-            update.absorb(&record, place);
-            editor_reply(reply)
+    match update.ask(request) {
+        Ok(told) => editor_reply(told.reply),
+        Err(count) => UdcReplyView::Refused(FULL, count),
+    }
+}
+
+/// An editor's request is within its ranges, by the types of its parts. This does nothing.
+pub(crate) fn within(editor: AccountNo, _q: u32, wish: &EditWish)
+    ensures { IsRequest (Edit editor _q wish.now) }
+{
+    let _number = editor.number();
+    match wish {
+        EditWish::Put { name, frame } => {
+            name.within();
+            frame.within();
+        }
+        EditWish::Drop { name } => name.within(),
+        EditWish::Account { account } => account.within(),
+        EditWish::Lease { root, account } => {
+            let _numbers = (root.number(), account.number());
         }
     }
 }

@@ -24,7 +24,7 @@ pub const FRAMES: u32 = 2_000;
 pub const RECORDS: u32 = 10_000;
 
 /// How a play ended, and the network after it, which is there exactly when all was done.
-#[derive(Debug, Drop)]
+#[derive(Drop)]
 pub struct Played {
     /// How it ended.
     pub status: Status,

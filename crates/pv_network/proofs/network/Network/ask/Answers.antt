@@ -11,14 +11,17 @@ use Rattle.pv_network.proofs.network.Network.ask.Goals.{After-reply_text}
 abbrev before : After-reply_text → State
 before c =
     let n = c.self.inside in
-    record { update = n.update; seats = n.seats; centres = n.centres.items; links = n.links; is_out = n.is_out }
+    record { update = n.update.state; disk = n.update.disk; seats = n.seats; centres = n.centres.items; links = n.links; is_out = n.is_out }
 
 -- the Update Centre does it
 asked : (c : After-reply_text) (w : World) → StandsFor (before c) w
-    → StandsFor (record (before c) { update = c.store-reply.new.update }) (step_of_request w c.args.editor c.args.q c.args.wish).0
+    → StandsFor (record (before c) { update = c.store-reply.new.update.state; disk = c.store-reply.new.update.disk })
+    (step_of_request w c.args.editor c.args.q c.args.wish).0
     × (Reply c.reply_text.result ≡ (step_of_request w c.args.editor c.args.q c.args.wish).1)
 asked c w stands =
-    let done = asks _ w stands c.args.editor c.args.q c.args.wish c.store-reply.new.update c.store-reply.result c.store-reply.ensures.stored c.store-reply.ensures.reply in
+    let store = c.store-reply in
+    let done = asks _ w stands c.args.editor c.args.q c.args.wish store.new.update store.result store.ensures.stored store.ensures.on_disk
+    store.ensures.reply in
     (done.0, ap Reply c.reply_text.ensures ∙ done.1)
 
 pub invariant_of-self : goal.invariant_of-self

@@ -12,14 +12,14 @@ use Rattle.pv_network.proofs.network.Network.back.Goals.{After-hear}
 abbrev before : After-hear → State
 before c =
     let n = c.self.inside in
-    record { update = n.update; seats = n.seats; centres = n.centres.items; links = n.links; is_out = n.is_out }
+    record { update = n.update.state; disk = n.update.disk; seats = n.seats; centres = n.centres.items; links = n.links; is_out = n.is_out }
 
 -- the link's end hears it
 heard : (c : After-hear) (w : World) → StandsFor (before c) w
     → StandsFor (record (before c) { links = c.hear.new.self }) (step_of_back w c.args.centre c.args.index).0 ×
     (Heard c.in-Some.number ≡ (step_of_back w c.args.centre c.args.index).1)
 heard c w stands =
-    hears _ w stands c.args.centre c.hear.new.self c.front.result c.in-Some.number c.args.index c.front.ensures.value
+    hears _ w stands c.args.centre c.hear.new.self c.count.result c.in-Some.number c.args.index c.count.ensures.count
     (sym c.in-Some.ensures) c.hear.ensures
 
 pub invariant_of-self : goal.invariant_of-self

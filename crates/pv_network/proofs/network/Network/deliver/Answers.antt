@@ -15,7 +15,7 @@ use Rattle.pv_network.proofs.network.Network.deliver.Goals.{After-apply}
 abbrev before : After-apply → State
 before c =
     let n = c.self.inside in
-    record { update = n.update; seats = n.seats; centres = n.centres.items; links = n.links; is_out = n.is_out }
+    record { update = n.update.state; disk = n.update.disk; seats = n.seats; centres = n.centres.items; links = n.links; is_out = n.is_out }
 
 abbrev now : After-apply → State
 now c = record (before c) { centres = slice_set c.self.inside.centres.items c.args.centre c.apply.new.self }

@@ -5,4 +5,4 @@ use Rattle.pv_network.proofs.network.Network.list.Goals as goal
 
 pub returns : goal.returns
 returns c = λ w stands. let here = rw (← c.self.view_is) at stands in
-    (stands, ap Records (c.front-count.ensures.value ∙ ap (λ (u : EditList). length u.records) here.update))
+    (stands, ap Records (c.count-count.ensures.count ∙ ap (λ (u : EditList). length u.records) here.update))

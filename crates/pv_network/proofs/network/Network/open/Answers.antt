@@ -11,13 +11,21 @@ use Rattle.pv_network.proofs.network.Network.open.Goals.{In_ok-open-2}
 
 -- nothing has happened to any centre
 started : (c : In_ok-open-2) → StandsFor
-    (record { update = c.in_ok-open.field-0; seats = c.new.result ∷ c.new.result ∷ c.new.result ∷ c.new.result ∷ []; centres = c.in_ok-open_centres.field-0.items; links = c.in_ok-open-2.field-0; is_out = false }) (start c.args.centres c.args.limits)
+    (record {
+      update = c.in_ok-open.field-0.state;
+      disk = c.in_ok-open.field-0.disk;
+      seats = c.new.result ∷ c.new.result ∷ c.new.result ∷ c.new.result ∷ [];
+      centres = c.in_ok-open_centres.field-0.items;
+      links = c.in_ok-open-2.field-0;
+      is_out = false;
+    }) (start c.args.centres c.args.limits)
 started c =
     let limits = c.args.limits in
     let made = c.in_ok-open_centres.ensures in
     record {
       sound = sound_start c.args.centres limits;
-      update = c.in_ok-open.ensures;
+      update = c.in_ok-open.ensures.nothing;
+      on_disk = c.in_ok-open.ensures.on_disk;
       seats = rw c.new.ensures refl;
       centres = record {
         count = made.count_is ∙ sym (length-replicate c.args.centres new_centre);

@@ -13,7 +13,7 @@ use Rattle.pv_network.proofs.network.Network.press.Goals.{After-press}
 abbrev before : After-press → State
 before c =
     let n = c.self.inside in
-    record { update = n.update; seats = n.seats; centres = n.centres.items; links = n.links; is_out = n.is_out }
+    record { update = n.update.state; disk = n.update.disk; seats = n.seats; centres = n.centres.items; links = n.links; is_out = n.is_out }
 
 -- the key makes an entry in the world, and does there what it does here
 done : (c : After-press) (w : World) → StandsFor (before c) w

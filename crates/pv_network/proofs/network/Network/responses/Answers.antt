@@ -10,5 +10,5 @@ returns c = λ port w stands.
     let here = rw (← c.self.view_is) at stands in (
       stands,
       ap Reply (c.responses.ensures ∙ ap
-          (λ (u : EditList). responses_reply (reply_found u.records c.args.editor c.args.from)) here.update),
+          (λ (u : EditList). responses_reply (reply_found u.records c.args.editor c.args.from)) (c.state.ensures ∙ here.update)),
     )

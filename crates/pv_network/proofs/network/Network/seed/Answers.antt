@@ -14,8 +14,8 @@ overflow_cast-q c =
     let stands = c.self.invariant.1.1 in
     let editor = c.unwrap-editor.result in
     let few = count_by-le-length (is_edit_of editor) w.update.records in
-    let next : next_number c.self.inside.update.records editor ≡ count_by (is_edit_of editor) w.update.records + 1 =
-    rw stands.update (stands.sound.next editor) in
+    let next : next_number c.state.result.now.records editor ≡ count_by (is_edit_of editor) w.update.records + 1 =
+    rw (c.state.ensures, stands.update) (stands.sound.next editor) in
     omega (arith, c.next_number-q.ensures, next, few, stands.sound.records, w.update.limits.records_in_range.1)
 
 pub returns-clause-performs : goal.returns-clause-performs
@@ -23,6 +23,6 @@ returns-clause-performs c = λ w stands.
     let here = rw (← c.self.view_is) at stands.update in
     let his : c.unwrap-editor.result ≡ OPERATOR = search rules in
     let frame : c.set_row.new.self ≡ seeded_frame c.args.row.now = rw c.blank-frame.ensures.blank at c.set_row.ensures.written in
-    let q = rw (here, his) at c.next_number-q.ensures in
+    let q = rw (c.state.ensures, here, his) at c.next_number-q.ensures in
     let asked = c.ask.ensures.performs w stands in
     rw (his, q, frame) at asked

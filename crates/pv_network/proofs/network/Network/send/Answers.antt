@@ -12,16 +12,16 @@ use Rattle.pv_network.proofs.network.Network.send.Goals.{After-pack-index}
 abbrev before : After-pack-index → State
 before c =
     let n = c.self.inside in
-    record { update = n.update; seats = n.seats; centres = n.centres.items; links = n.links; is_out = n.is_out }
+    record { update = n.update.state; disk = n.update.disk; seats = n.seats; centres = n.centres.items; links = n.links; is_out = n.is_out }
 
 -- the record of the next number goes down in a packet
 sent : (c : After-pack-index) (w : World) → StandsFor (before c) w
     → StandsFor (record (before c) { links = c.pack-index.new.self }) (step_of_send w c.args.centre).0 ×
     (SentRecord c.pack-index.result c.in-Some.number ≡ (step_of_send w c.args.centre).1)
 sent c w stands =
-    sends _ w stands c.args.centre c.pack-index.new.self c.front-front.result c.in-Some.number c.pack-index.result c.in-Some-rec_at.edit.now
-    (sym c.if-is_full.ensures) c.front-front.ensures.value (sym c.in-Some.ensures)
-    (sym (rw stands.update at c.in-Some-rec_at.ensures)) c.pack-index.ensures.index (rw c.down.ensures at c.pack-index.ensures.packed)
+    sends _ w stands c.args.centre c.pack-index.new.self c.count-front.result c.in-Some.number c.pack-index.result c.in-Some-rec_at.edit.now
+    (sym c.if-is_full.ensures) c.count-front.ensures.count (sym c.in-Some.ensures)
+    (sym (rw (c.state.ensures, stands.update) at c.in-Some-rec_at.ensures)) c.pack-index.ensures.index (rw c.down.ensures at c.pack-index.ensures.packed)
 
 pub invariant_of-self : goal.invariant_of-self
 invariant_of-self c =

@@ -15,16 +15,16 @@ use Rattle.pv_network.proofs.network.Network.take_line.Goals.{After-line}
 abbrev before : After-line → State
 before c =
     let n = c.self.inside in
-    record { update = n.update; seats = n.seats; centres = n.centres.items; links = n.links; is_out = n.is_out }
+    record { update = n.update.state; disk = n.update.disk; seats = n.seats; centres = n.centres.items; links = n.links; is_out = n.is_out }
 
 -- the seat
 abbrev here : After-line → EditorSeat
 here c = get_or c.self.inside.seats c.args.port c.index-self-port.result
 
 -- what the line says at it
-said : (c : After-line) → Says (here c) c.args.line.now c.self.inside.update.records
-    (all_places c.self.inside.update.records) c.line.new.self c.line.result
-said c = c.line.ensures.says _ _ c.base.ensures
+said : (c : After-line) → Says (here c) c.args.line.now c.self.inside.update.state.records
+    (all_places c.self.inside.update.state.records) c.line.new.self c.line.result
+said c = rw (c.base.ensures.records, c.base.ensures.places, c.state.ensures) at c.line.ensures.says
 
 -- it is one of the four
 read : (c : After-line) → here c ≡ get_or c.self.inside.seats c.args.port new_seat
