@@ -59,8 +59,10 @@ module _ (number : ℕ) (limits : Limits) (centre : Centre) (prefix : List Recor
       let edits : whole_records downs ++ whole_records (down_of edit ∷ []) ≡ records_below (prefix ++ edit ∷ []) =
       sym (ap whole_records more ∙ filter_map-append whole_in downs (down_of edit ∷ [])) in
       let place : centre.applied ≡ 0 + length downs = omega (arith, is, length-map prefix down_of) in
-      let places : whole_places 0 downs ++ place_if_whole centre.applied (down_of edit) ≡ whole_places 0 (map down_of (prefix ++ edit ∷ [])) =
-      ap (λ n. whole_places 0 downs ++ place_if_whole n (down_of edit)) place ∙ sym (ap (whole_places 0) more ∙ places-push 0 downs (down_of edit)) in
+      let places : whole_places 0 downs ++ place_if_whole centre.applied (down_of edit)
+      ≡ whole_places 0 (map down_of (prefix ++ edit ∷ [])) =
+      ap (λ n. whole_places 0 downs ++ place_if_whole n (down_of edit)) place
+      ∙ sym (ap (whole_places 0) more ∙ places-push 0 downs (down_of edit)) in
       with_one (state_of_prefix number limits centre prefix) (down_of edit) ∙ (λ i. record {
         centre = number;
         limits = limits;

@@ -64,7 +64,8 @@ no_count : (reply : IrcReply) (count : ℕ) → Ok reply ≡ Err count → ⊥
 no_count reply count is = absurd cc
 
 -- a serial is one serial, and a count is one count
-one_serial : (one other : ℕ) (result : Result IrcReply ℕ) → result ≡ Ok (replies.Serial one) → result ≡ Ok (replies.Serial other) → one ≡ other
+one_serial : (one other : ℕ) (result : Result IrcReply ℕ) → result ≡ Ok (replies.Serial one) → result ≡ Ok (replies.Serial other)
+    → one ≡ other
 one_serial one other result is also = cc
 
 one_count : (one other : ℕ) (result : Result IrcReply ℕ) → result ≡ Err one → result ≡ Err other → one ≡ other
@@ -72,7 +73,8 @@ one_count one other result is also = cc
 
 -- The node was asked for the wish of the call at a port, and the ports were then changed.
 module _ (old asked : Held) (port : ℕ) (account : ℕ) (result : Result IrcReply ℕ) (ports : List (Option Call)) (outcome : Outcome)
-    (wish : wish_at (call_among old.ports port) ≡ Ok (wishes.LogOn account)) (was : Asked old asked (request_for (wishes.LogOn account)) result) where
+    (wish : wish_at (call_among old.ports port) ≡ Ok (wishes.LogOn account))
+    (was : Asked old asked (request_for (wishes.LogOn account)) result) where
   abbrev Done : Type 0
   Done = Stores old (record asked { ports = ports }) port outcome
 
@@ -108,7 +110,8 @@ module _ (old asked : Held) (port : ℕ) (account : ℕ) (result : Result IrcRep
       by : (full : Bool) → leb old.node.state.limits.records (state_count old.node.state) ≡ full → Done
       by false how = absurd (no_count (replies.Serial old.node.state.log_ons) count (sym (rw how at was.reply) ∙ reply))
       by true how =
-          let count_is : count ≡ state_count old.node.state = one_count count (state_count old.node.state) result reply (rw how at was.reply) in
+          let count_is : count ≡ state_count old.node.state =
+          one_count count (state_count old.node.state) result reply (rw how at was.reply) in
           let end = ends owing.call (ap (λ (l : List (Option Call)). call_among l port) was.ports ∙ owing.is) in
           rw (owing.is, owing.owes, how) (record {
             state = rw how at was.state;
@@ -132,7 +135,8 @@ pub turned_away : (old asked : Held) (port : ℕ) (wish : Wish) (result : Result
     → ((call : Call) → call_among asked.ports port ≡ Some call
     → (ports ≡ set asked.ports port None) × (outcome ≡ away_answer count (full_turn call.seat call.seat.phase).1))
     → Stores old (record asked { ports = ports }) port outcome
-turned_away old asked port (wishes.LogOn account) result ports outcome wish was = turn_log_on_away old asked port account result ports outcome wish was
+turned_away old asked port (wishes.LogOn account) result ports outcome wish was =
+    turn_log_on_away old asked port account result ports outcome wish was
 
 -- ---- a turn at a port
 

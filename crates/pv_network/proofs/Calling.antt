@@ -78,7 +78,8 @@ module _ (s : State) (w : World) (stands : StandsFor s w) (c : ℕ) (here : Held
         λ limits n. store_at (leb limits.records n) n (calls_of here) port (call_in (calls_of here) port) in
         does (λ calls. store_at is_full count calls port (call_in calls port))
         (subst (λ (limits : Limits). Comes here new outcome (step limits count)) (limits_there w.update c here (centre_at w c) stood)
-        (subst (λ (n : ℕ). Comes here new outcome (step here.node.state.limits n)) (held_there w.update c here (centre_at w c) stood) comes))
+        (subst (λ (n : ℕ). Comes here new outcome (step here.node.state.limits n)) (held_there w.update c here (centre_at w c) stood)
+        comes))
         (store_sound (calls_at w c) port (stands.sound.calls c) is_full count (call_at w c port))
 
     -- What came down shows a caller what the list shows him. So he is shown what the world's centre shows him.
@@ -93,7 +94,8 @@ module _ (s : State) (w : World) (stands : StandsFor s w) (c : ℕ) (here : Held
         let view : sight_of here.node.state.edits here.node.state.centre caller ≡ sight_of (page_base w c) c caller =
         ap (λ (state : CentreState). sight_of state.edits state.centre caller) stood.state ∙ shown (page_base w c) c caller in
         let done =
-        does (λ calls. press_at calls port key (sight_of (page_base w c) c (caller_account (call_in calls port))) entry (call_in calls port))
+        does
+        (λ calls. press_at calls port key (sight_of (page_base w c) c (caller_account (call_in calls port))) entry (call_in calls port))
         (subst (λ (seen : View). Comes here new outcome (press_at (calls_of here) port key seen entry (call_in (calls_of here) port))) view
         pressed.comes)
         (press_sound (calls_at w c) port (stands.sound.calls c) key _ entry (call_at w c port) refl) in

@@ -127,7 +127,7 @@ impl Centre {
         }
     }
 
-    /// Stores what the call at a port owes, which is this, unless the centre is full.
+    /// Stores what the call at a port owes, a wish, unless the centre is full.
     fn store_wish(&mut self, port: usize, wish: Wish) -> Outcome
         requires port { port < PORTS }
         requires owed { wish_at (call_among self.old.ports port) ≡ Ok wish }

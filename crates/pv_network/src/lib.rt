@@ -5,6 +5,7 @@
 //! what they ask for is judged and stored by the rules of `pv_udc`. Callers dial at the 16 ports of a
 //! centre, and `pv_session` has their seats. An [`Event`] happens to the
 //! network, one at a time, and an [`Outcome`] says what came of it.
+//! Each centre is a node of `pv_nodes`: what it is brought, and the log-ons, are on its disk before it replies.
 //! Packets are numbered in the order in which they were made; any of them may be delivered at any time,
 //! never, or again. Each is kept in bytes, as `pv_packet` spells it, and decoded when it arrives.
 //!
