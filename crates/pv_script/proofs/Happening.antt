@@ -1,6 +1,5 @@
 -- An event that a line asks for can happen on a network of as many centres as the world has that it stands for.
-use Rattle.std.proofs.Common.{◌≡◌, List, [], ◌∷◌, ℕ, suc, length, refl, ap, sym, subst}
-use Rattle.std.specs.List.{AllZip}
+use Rattle.std.proofs.Common.{◌≡◌, List, ℕ, length, sym, subst}
 use Rattle.pv_network.specs.declared.event.Event.{Event}
 use Rattle.pv_network.specs.Standing.{State, StandsFor, IsPossible, IsNotation}
 use Rattle.pv_network.specs.World.{World}
@@ -47,13 +46,6 @@ can_happen s words.View tail event asks = subst (IsPossible s) (sym (event_is as
 can_happen s words.At tail event asks = subst (IsPossible s) (sym (event_is asks.is)) asks.are.first.0
 can_happen s words.List tail event asks = subst (IsPossible s) (sym (event_is asks.1)) tt
 
--- two lists whose elements stand together have one length
-zip_length : {X Y : Type 0} (R : X → Y → Type 0) (xs : List X) (ys : List Y) → AllZip R xs ys → length xs ≡ length ys
-zip_length R [] [] all = refl
-zip_length R [] (y ∷ ys) all = absurd all
-zip_length R (x ∷ xs) [] all = absurd all
-zip_length R (x ∷ xs) (y ∷ ys) all = ap suc (zip_length R xs ys all.1)
-
 -- a network has as many centres as a world that it stands for
 pub count_stands : (s : State) (w : World) → StandsFor s w → length s.centres ≡ length w.centres
-count_stands s w stands = zip_length _ s.centres w.centres stands.centres
+count_stands s w stands = stands.centres.count
