@@ -90,13 +90,12 @@ fn generate_out<W: Write + Drop>(words: &[String], out: &mut StandardOutput<W>) 
     ensures write_fault { result ≡ Status.WriteFault → Rose out.old.faults out.new.faults }
     ensures counted { out.old.faults ≤ out.new.faults }
 {
-    let status = generate(words, out);
-    if status != Status::Done {
-        return status;
-    }
-    match out.flush() {
-        Ok(()) => Status::Done,
-        Err(Failed) => Status::WriteFault,
+    match generate(words, out) {
+        Status::Done => match out.flush() {
+            Ok(()) => Status::Done,
+            Err(Failed) => Status::WriteFault,
+        },
+        status => status,
     }
 }
 
