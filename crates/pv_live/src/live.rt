@@ -1,7 +1,9 @@
-ghost use Rattle.std.specs.Prelude.{◌≡◌, ◌<◌, ◌≤◌, length, vec_len, [], None, IfOk, IfErr, OnOk};
+ghost use Rattle.std.specs.Prelude.{◌≡◌, length, vec_len, [], None, IfOk, IfErr, OnOk};
 ghost use mathlib.Core.List.{IsPrefix};
 ghost use Rattle.pv_node.specs.Standing.{StandsFor};
-ghost use Rattle.pv_live.specs.Pass.{new_passes};
+ghost use Rattle.left_right.specs.Handles.{published, pending};
+ghost use Rattle.pv_live.specs.Opening.{IsPassCount};
+ghost use Rattle.pv_live.specs.Pass.{new_passes, told_count, failed_count};
 ghost use Rattle.pv_live.specs.Asking.{HasAsked, HasFailed};
 ghost use Rattle.pv_live.specs.Closing.{IsClosed};
 
@@ -108,6 +110,25 @@ fn make_passes<R: Rules, N: Run<R::Rec>, H: Wait + Drop>(
     Ok(all)
 }
 
+/// Publishes two copies of the node's state, with room for this many readers.
+fn publish_state<R: Rules, D: Disk, N: Run<R::Rec>, H: Wait + Drop>(
+    rt: H,
+    alloc: Global,
+    node: &Node<R, D>,
+    known: &Known<R::Rec, N>,
+    readers: usize,
+) -> Result<WriteHandle<Published<R, N>, Change<R, N>, H>, AllocError>
+    requires stands { StandsFor ⟦<R as Rules>⟧ D.Reports node.now N.opening }
+    requires limits { R.limits_of node.now.state ≡ N.limits }
+    requires known { known.now ≡ [] }
+    requires readers { IsPassCount readers }
+    ensures { IfOk result (λ writer. (published writer ≡ []) × (pending writer ≡ [])) }
+{
+    let first = Published::new(R::copy(alloc, node.state())?, known.copy());
+    let second = Published::new(R::copy(alloc, node.state())?, known.copy());
+    WriteHandle::new(alloc, rt, first, second, readers)
+}
+
 /// Shares a node, of which no record is in hand, among this many passes. The run is named by what it starts
 /// with. If no memory is found the node is dropped, and its disk keeps what it held.
 pub fn open_live<R: Rules, D: Disk + Drop, N: Run<R::Rec>, H: Wait + Drop>(
@@ -120,7 +141,7 @@ pub fn open_live<R: Rules, D: Disk + Drop, N: Run<R::Rec>, H: Wait + Drop>(
     requires stands { StandsFor ⟦<R as Rules>⟧ D.Reports node N.opening }
     requires at_rest { node.hand ≡ None }
     requires limits { R.limits_of node.state ≡ N.limits }
-    requires passes { (passes ≡ N.passes) × (0 < passes) × (passes ≤ MAX_PASSES) }
+    requires passes { (passes ≡ N.passes) × IsPassCount passes }
 
     // The name is that of what it starts with.
     requires start { start ≡ record {
@@ -131,6 +152,9 @@ pub fn open_live<R: Rules, D: Disk + Drop, N: Run<R::Rec>, H: Wait + Drop>(
     } }
     ensures passes { IfOk result (λ r. r.1.items ≡ new_passes passes) }
     ensures count { IfOk result (λ r. vec_len r.1 ≡ passes) }
+
+    // No ask has been answered: if it were closed now, the node would have the records of its opening.
+    ensures unasked { IfOk result (λ r. (told_count r.1.items ≡ 0) × (failed_count r.1.items ≡ 0)) }
 {
     let Start {
         history,
@@ -139,11 +163,7 @@ pub fn open_live<R: Rules, D: Disk + Drop, N: Run<R::Rec>, H: Wait + Drop>(
     } = start;
     let (appender, entries) = history.named::<N>();
     let known = Known::opening(entries, node.count());
-    let first = Published::new(R::copy(alloc, node.state())?, known.copy());
-    let second = Published::new(R::copy(alloc, node.state())?, known.copy());
-    let writer: WriteHandle<Published<R, N>, Change<R, N>, H> = WriteHandle::new(
-        alloc, rt, first, second, passes,
-    )?;
+    let writer = publish_state::<R, D, N, H>(rt, alloc, &node, &known, passes)?;
     let (told, mut told_count) = told.open::<ToldLedger<R::Rec, N>>();
     let (failed, mut failed_count) = failed.open::<FailedLedger<R::Rec, N>>();
     let no_told = told_count.empty();

@@ -1,10 +1,11 @@
 //! An Update Centre over a disk in memory, which threads share.
-ghost use Rattle.std.specs.Prelude.{◌≡◌, ◌<◌, ◌≤◌, None, IfOk, IfSome};
+ghost use Rattle.std.specs.Prelude.{◌≡◌, None, IfOk, IfSome};
 ghost use Rattle.pv_node.specs.Standing.{StandsFor};
 ghost use Rattle.pv_edits.specs.Taken.{IsCentre};
 ghost use Rattle.pv_udc.specs.Requests.{IsRequest};
+ghost use Rattle.pv_live.specs.Opening.{IsPassCount};
 
-use crate::{Live, MAX_PASSES, Pass, Run, Start, open_live};
+use crate::{Live, LiveFault, Pass, Run, Start, open_live};
 use pv_charge::Line;
 use pv_edits::{EditWish, Record};
 use pv_frame::Frame;
@@ -141,7 +142,7 @@ fn crowd<N: Run<Record> + Send + Sync, R: Threads + Wait + Abort + Sync>(
 ) -> Result<(), Fail>
     requires stands { StandsFor ⟦<UdcRules as Rules>⟧ ⟦<MemDisk as Reports>⟧ node N.opening }
     requires rest { (node.hand ≡ None) × (node.state.limits ≡ N.limits) }
-    requires passes { (passes ≡ N.passes) × (0 < passes) × (passes ≤ MAX_PASSES) }
+    requires passes { (passes ≡ N.passes) × IsPassCount passes }
     requires start { start ≡ record { book = N.book; told = N.told; failed = N.failed; passes = N.passes } }
 {
     let (live, mut all) = open_live::<UdcRules, MemDisk, N, &R>(rt, alloc, node, passes, start)?;
@@ -278,4 +279,83 @@ fn first_reply<N: Run<Record>, H: Wait + Drop, R: Wait>(
         }
     }
     None
+}
+
+#[test]
+fn edits_are_stored_once_if_a_publishing_is_refused(rt: HostRuntime) -> Result<(), Fail> {
+    // With ample memory none is refused. The second disk fails at the last call of the first append, so that the
+    // next ask settles the record and publishes it.
+    let table: [&[u64]; 2] = [&[], &[10]];
+    for fails in table {
+        store_three(&rt, rt.alloc(), fails)?;
+    }
+    Ok(())
+}
+
+/// Three edits, at a node over this disk.
+fn store_three<R: Wait + Abort>(rt: &R, alloc: Global, fails: &[u64]) -> Result<(), Fail> {
+    let node = fresh(alloc, fails)?;
+    three_edits::<Brand, _>(rt, alloc, node, Start::new(1))
+}
+
+/// A pass asks for three edits. Each is stored once, and published.
+fn three_edits<N: Run<Record> + Send + Sync, R: Wait + Abort>(
+    rt: &R,
+    alloc: Global,
+    node: Udc,
+    start: Start<Record>,
+) -> Result<(), Fail>
+    requires stands { StandsFor ⟦<UdcRules as Rules>⟧ ⟦<MemDisk as Reports>⟧ node N.opening }
+    requires rest { (node.hand ≡ None) × (node.state.limits ≡ N.limits) }
+    requires passes { 1 ≡ N.passes }
+    requires start { start ≡ record { book = N.book; told = N.told; failed = N.failed; passes = N.passes } }
+{
+    let (live, mut passes) = open_live::<UdcRules, MemDisk, N, &R>(rt, alloc, node, 1, start)?;
+    assert!(rt; store_each(rt, &live, &mut passes[0], 3));
+    assert_eq!(rt; passes[0].look(|udc| udc.front()).ok(), Some(3));
+    let closed = live.close(rt, passes);
+    assert_eq!(rt; closed.asked, 3);
+    assert_eq!(rt; closed.node.count(), 3);
+    Ok(())
+}
+
+/// Whether each of these edits is stored at the place before its number.
+fn store_each<N: Run<Record>, H: Wait + Drop, R: Wait>(
+    rt: &R,
+    live: &Live<UdcRules, MemDisk, N, H>,
+    pass: &mut Pass<UdcRules, N>,
+    edits: u32,
+) -> bool {
+    for place in 0..edits {
+        let Some(request) = edit(place + 1) else {
+            return false;
+        };
+        if !is_stored_at(rt, live, pass, &request, u64::from(place)) {
+            return false;
+        }
+    }
+    true
+}
+
+/// Whether an edit is stored at this place, however often its ask is refused.
+fn is_stored_at<N: Run<Record>, H: Wait + Drop, R: Wait>(
+    rt: &R,
+    live: &Live<UdcRules, MemDisk, N, H>,
+    pass: &mut Pass<UdcRules, N>,
+    request: &UdcRequest,
+    place: u64,
+) -> bool
+    requires { IsRequest request.now }
+{
+    for _ in 0..9 {
+        match live.ask(rt, pass, request) {
+            Ok(told) => {
+                return told.reply == UdcReply::Stored(place)
+                    || told.reply == UdcReply::Again(place);
+            }
+            Err(LiveFault::Memory { stored: Some(at) }) if at != place => return false,
+            Err(_) => {}
+        }
+    }
+    false
 }
