@@ -10,11 +10,12 @@ use Rattle.pv_network.specs.declared.outcome.Outcome.{Outcome}
 use Rattle.pv_network.specs.Calling.{calls_at, call_at, at_calls, step_of_dial, step_of_hang, step_of_press, step_of_store, step_of_show}
 use Rattle.pv_network.specs.Calls.{Calls, caller_account, call_in, dial_at, hang_at, press_at, store_at, show_at, IsEntryOf}
 use Rattle.pv_network.specs.Centre.{Held, CentreStands, Comes, Pressed, calls_of, record_count}
+use Rattle.pv_network.specs.Crashing.{crash_at, step_of_centre_crash}
 use Rattle.pv_network.specs.Sound.{IsSoundCalls}
 use Rattle.pv_network.specs.Standing.{State, StandsFor}
 use Rattle.pv_network.specs.World.{World, centre_at, page_base}
 use Rattle.pv_network.proofs.SoundCalls.{dial_sound, hang_sound, press_sound, store_sound, show_sound}
-use Rattle.pv_network.proofs.Soundness.{sound_with_calls}
+use Rattle.pv_network.proofs.Soundness.{sound_with_calls, without_calls_sound}
 use Rattle.pv_network.proofs.Standing.{calls_are, held_there, limits_there, centre_stands, centre_replaced}
 
 module _ (s : State) (w : World) (stands : StandsFor s w) (c : ℕ) (here : Held) (there : c < length s.centres)
@@ -60,6 +61,13 @@ module _ (s : State) (w : World) (stands : StandsFor s w) (c : ℕ) (here : Held
         → StandsFor after (step_of_hang w c port).0 × (outcome ≡ (step_of_hang w c port).1)
     hangs comes = does (λ calls. hang_at calls port (call_in calls port)) comes
         (hang_sound (calls_at w c) port (stands.sound.calls c) (call_at w c port))
+
+    pub crashes : Comes here new outcome (crash_at (state_count here.node.state) (calls_of here))
+        → StandsFor after (step_of_centre_crash w c).0 × (outcome ≡ (step_of_centre_crash w c).1)
+    crashes comes =
+        does (crash_at (record_count (centre_at w c)))
+        (subst (λ (n : ℕ). Comes here new outcome (crash_at n (calls_of here))) (held_there w.update c here (centre_at w c) stood) comes)
+        (without_calls_sound (calls_at w c))
 
     pub shows : Comes here new outcome (show_at (calls_of here) port (call_in (calls_of here) port))
         → StandsFor after (step_of_show w c port).0 × (outcome ≡ (step_of_show w c port).1)

@@ -4,6 +4,7 @@ pub mod Calling
 pub mod Carried
 pub mod Carrying
 pub mod Counts
+pub mod Crashing
 pub mod Facts
 pub mod KeptSerials
 pub mod KeyTurns

@@ -1,6 +1,7 @@
 -- Facts that hold of each element of a list, and elements by their places.
-use Rattle.std.proofs.Common.{◌≡◌, ℕ, zero, suc, ◌<◌, ◌⊎◌, List, [], ◌∷◌, ◌++◌, length, get_or, set, Some, refl, ap, subst, arith, inl, inr}
+use Rattle.std.proofs.Common.{◌≡◌, ℕ, zero, suc, ◌+◌, ◌<◌, ◌⊎◌, List, [], ◌∷◌, ◌++◌, length, get_or, set, drop, Some, refl, ap, subst, arith, inl, inr}
 use Rattle.std.specs.List.{All, slice_get}
+use Rattle.std.specs.Prelude.{replicate}
 use Rattle.std.proofs.lemmas.Option.{slice_get_within, get_or_from_slice_get}
 
 -- the one that is at a place
@@ -39,6 +40,14 @@ pub read_again : {X : Type 0} (xs : List X) (i : ℕ) (d e : X) → i < length x
 read_again [] i d e within = let none : ⊥ = omega (arith, within) in absurd none
 read_again (x ∷ xs) zero d e within = refl
 read_again (x ∷ xs) (suc i) d e within = read_again xs i d e (omega (arith, within))
+
+-- a loop that writes an element over each one writes it over one more
+pub free_more : {X : Type 0} (x : X) (xs : List X) (k : ℕ) → k < length xs → set (replicate k x ++ drop k xs) k x
+    ≡ replicate (k + 1) x ++ drop (k + 1) xs
+free_more x [] k there = let none : ⊥ = omega (arith, there) in absurd none
+free_more x (y ∷ xs) zero there = refl
+free_more x (y ∷ xs) (suc k) there =
+    let next : suc k + 1 ≡ suc (k + 1) = omega arith in rw next (ap (λ (l : List _). x ∷ l) (free_more x xs k (omega (arith, there))))
 
 module _ {X : Type 0} where
   -- what is at a place stays there as the list grows

@@ -4,12 +4,12 @@ use Rattle.std.specs.Prelude.{map}
 use Rattle.std.specs.List.{All}
 use Rattle.std.proofs.lemmas.Bool.{leb-false}
 use Rattle.std.proofs.lemmas.List.{get_or-map, get_or_append_left, get_or_push, length-append, length-map, map-set, map_push}
-use Rattle.std.proofs.lemmas.List.Elements.{All-push, All-set, All-weaker}
+use Rattle.std.proofs.lemmas.List.Elements.{All-map, All-push, All-set, All-weaker}
 use Rattle.std.proofs.lemmas.List.Sums.{sum_by-cons, sum_by-set}
 use Rattle.pv_link.specs.Sending.{SendingEnd, end_after}
 use Rattle.pv_packet.specs.declared.packet.Packet.{Packet}
 use Rattle.pv_network.specs.declared.packets.TheConstants.{MAX_PACKETS}
-use Rattle.pv_network.specs.Link.{AreWithin, IsWithin, Link, Places, link_in, is_packets_full, link_of, links_of, new_link, no_packet, packet_at, packet_count, place_count, with_packet, with_place, with_place_up}
+use Rattle.pv_network.specs.Link.{AreWithin, IsWithin, Link, Places, link_in, is_packets_full, link_of, links_of, new_link, no_packet, packet_at, packet_count, place_count, places_with_new_end, with_new_end, with_packet, with_place, with_place_up}
 
 -- how many packets were made on a link
 abbrev size : Places → ℕ
@@ -154,3 +154,27 @@ module _ (packets : List Packet) (links : List Places) (c : ℕ) (there : c < le
       }) links within),
       omega (arith, count, more, sum_by-set size links c next here inside, ap size read, length-append packets (packet ∷ [])),
     )
+
+-- ---- ends that are new
+
+-- the links whose places have new ends are the links with new ends
+pub links_renewed : (packets : List Packet) (links : List Places)
+    → links_of packets (map places_with_new_end links) ≡ map with_new_end (links_of packets links)
+links_renewed packets [] = refl
+links_renewed packets (here ∷ links) =
+    ap (λ (ls : List Link). with_new_end (link_of packets here) ∷ ls) (links_renewed packets links)
+
+-- there are as many places
+pub count_renewed : (links : List Places) → place_count (map places_with_new_end links) ≡ place_count links
+count_renewed [] = refl
+count_renewed (here ∷ links) =
+    sum_by-cons size (places_with_new_end here) (map places_with_new_end links) ∙ ap (λ (n : ℕ). size here + n) (count_renewed links)
+    ∙ sym (sum_by-cons size here links)
+
+-- each is one of the row, as before
+pub within_renewed : (packets : List Packet) (links : List Places) → AreWithin packets links
+    → AreWithin packets (map places_with_new_end links)
+within_renewed packets links within =
+    All-map (IsWithin packets) places_with_new_end links
+    (All-weaker (IsWithin packets) (λ here. IsWithin packets (places_with_new_end here)) (λ here is. record { down = is.down; up = is.up })
+    links within)

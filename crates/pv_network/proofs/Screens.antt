@@ -17,6 +17,8 @@ use Rattle.pv_session.specs.State.{CallState, is_owing}
 use Rattle.pv_session.specs.Turns.{full_turn, storing_turn}
 use Rattle.pv_network.specs.declared.event.Event.{Event}
 use Rattle.pv_network.specs.declared.event.Event.TheVariants as events
+use Rattle.pv_network.specs.declared.event.NodeName.{NodeName}
+use Rattle.pv_network.specs.declared.event.NodeName.TheVariants as nodes
 use Rattle.pv_network.specs.declared.outcome.Outcome.{Outcome}
 use Rattle.pv_network.specs.declared.outcome.Outcome.TheVariants as outcomes
 use Rattle.pv_network.specs.declared.outcome.Turn.{Turn}
@@ -24,6 +26,7 @@ use Rattle.pv_network.specs.Call.{Call, first_call, is_waiting, is_to_store, key
 use Rattle.pv_network.specs.Calling.{calls_at, call_at, view_at, with_calls, step_of_dial, step_of_hang, step_of_press, step_of_store, step_of_show}
 use Rattle.pv_network.specs.Calls.{Calls, call_in, with_call, step_answer, call_after, turn_at, away_answer, with_log_on, dial_at, hang_at, press_at, storing_at, store_at, showing_at, show_at, IsEntryOf, IsEntryUnlessWaiting}
 use Rattle.pv_network.specs.Centre.{Centre, record_count, new_centre}
+use Rattle.pv_network.specs.Crashing.{step_of_centre_crash, step_of_crash}
 use Rattle.pv_network.specs.Keying.{KeyedByte, first_entry, is_owes, is_storing, step_of_payment, step_of_key, screens_in, is_over, keys_from, UnlessOver, TakesAll, turns_answer, keys_refusal, step_of_taken_keys, step_of_keys, TakesAllAt}
 use Rattle.pv_network.specs.Screens.{press_events, store_events, reply_events, show_events, is_full_at, payment_events, key_events, keys_events, taken_events, is_same_port, seat_events, step_turns, steps_turns, turns_in, port_turns, call_events, call_turns, AreChoices}
 use Rattle.pv_edits.specs.declared.room.TheConstants.{OPERATOR}
@@ -34,7 +37,7 @@ use Rattle.pv_network.specs.Traffic.{packet_room}
 use Rattle.pv_network.specs.World.{World, centre_at}
 use Rattle.pv_network.proofs.KeyTurns.{entry_turns}
 use Rattle.pv_network.proofs.SoundCalls.{first_holds}
-use Rattle.pv_network.proofs.Untouched.{request_same, line_same, send_same, deliver_same, back_same, rounds_same, call_elsewhere, calls_here, call_here}
+use Rattle.pv_network.proofs.Untouched.{request_same, line_same, send_same, deliver_same, back_same, rounds_same, call_elsewhere, calls_elsewhere, calls_here, none_here, call_here}
 
 -- ---- stretches of a call
 
@@ -180,6 +183,7 @@ owes_nothing_shown (outcomes.Early number ack) is = absurd cc
 owes_nothing_shown (outcomes.Heard number) is = absurd cc
 owes_nothing_shown (outcomes.Full count) is = absurd cc
 owes_nothing_shown (outcomes.Carried records items) is = absurd cc
+owes_nothing_shown (outcomes.Crashed count) is = absurd cc
 owes_nothing_shown outcomes.NotHeld is = absurd cc
 owes_nothing_shown (outcomes.Applied count) is = absurd cc
 owes_nothing_shown (outcomes.Records count) is = absurd cc
@@ -207,6 +211,7 @@ stored_nothing_shown (outcomes.Early number ack) is = absurd cc
 stored_nothing_shown (outcomes.Heard number) is = absurd cc
 stored_nothing_shown (outcomes.Full count) is = absurd cc
 stored_nothing_shown (outcomes.Carried records items) is = absurd cc
+stored_nothing_shown (outcomes.Crashed count) is = absurd cc
 stored_nothing_shown outcomes.NotHeld is = absurd cc
 stored_nothing_shown (outcomes.Applied count) is = absurd cc
 stored_nothing_shown (outcomes.Records count) is = absurd cc
@@ -553,6 +558,19 @@ no_turn w c p centre port here at elsewhere = by (is_same_port centre port c p) 
         (subst (λ (m : ℕ). Stretch (call_at w c p) [] [] (call_at (here c m).0 c p)) (sym place.1) (at place.0 place.1))
     by false is = unchanged (call_at w c p) _ (elsewhere (other_port centre port c p is))
 
+-- a crash of a node shows nothing, and ends the calls of a centre that crashes
+crash_stretch : (w : World) (c p : ℕ) (call : Call) (node : NodeName) → call_at w c p ≡ Some call
+    → Stretch (call_at w c p) [] [] (call_at (step_of_crash w node).0 c p)
+crash_stretch w c p call nodes.Udc is = stays (call_at w c p)
+crash_stretch w c p call (nodes.Centre centre) is =
+    no_turn w c p centre p (λ n m. step_of_centre_crash w n) (λ one two. ended) (λ other. calls_elsewhere w c p centre (λ same. other same refl))
+  where
+    ended : Stretch (call_at w c p) [] [] (call_at (step_of_centre_crash w c).0 c p)
+    ended =
+        subst (λ (there : Option Call). Stretch there [] [] (call_at (step_of_centre_crash w c).0 c p)) (sym is)
+        (subst (λ (next : Option Call). Goes call.seat [] [] next) (sym (none_here w c p call is))
+        (record { steps = []; after = call.seat; are = refl; shown = refl; left = tt }))
+
 -- one event, at a port that has a call
 event_stretch : (w : World) (c p : ℕ) (call : Call) (event : Event) (choice : Choice) → call_at w c p ≡ Some call → IsChoice w event choice
     → Stretch (call_at w c p) (seat_events w c p event choice) (port_turns c p event (happens w event choice).1)
@@ -593,6 +611,7 @@ event_stretch w c p call (events.Back centre index) choice is chosen =
     no_step w c p (happens w (events.Back centre index) choice).0 (back_same c w centre index)
 event_stretch w c p call (events.Carry centre) choice is chosen =
     no_step w c p (happens w (events.Carry centre) choice).0 (rounds_same c (packet_room w.links + 1) centre w 0)
+event_stretch w c p call (events.Crash node) choice is chosen = crash_stretch w c p call node is
 event_stretch w c p call (events.View centre name) choice is chosen = stays (call_at w c p)
 event_stretch w c p call (events.At centre) choice is chosen = stays (call_at w c p)
 event_stretch w c p call events.List choice is chosen = stays (call_at w c p)

@@ -8,6 +8,7 @@ use Rattle.std.proofs.lemmas.List.{length-append, take-append-le}
 use Rattle.std.proofs.lemmas.List.Elements.{All-push}
 use Rattle.std.proofs.lemmas.List.Sums.{sum_by_push}
 use Rattle.std.proofs.lemmas.Bool.Decides.{nat_tests}
+use Rattle.std.proofs.Math.ListN.{get_or-map}
 use Rattle.std.proofs.Math.Seq.{take-append_seam}
 use Rattle.std.proofs.lemmas.Option.{slice_get_within}
 use Rattle.pv_outside.specs.declared.limits.Limits.{Limits}
@@ -33,6 +34,8 @@ use Rattle.pv_editor.specs.declared.replies.UdcReplyView.TheVariants.{Stored, Re
 use Rattle.pv_network.specs.Centre as arrivals
 use Rattle.pv_network.specs.declared.event.Event.{Event}
 use Rattle.pv_network.specs.declared.event.Event.TheVariants as events
+use Rattle.pv_network.specs.declared.event.NodeName.{NodeName}
+use Rattle.pv_network.specs.declared.event.NodeName.TheVariants as nodes
 use Rattle.pv_network.specs.declared.outcome.Outcome.{Outcome}
 use Rattle.pv_network.specs.declared.outcome.Turn.{Turn}
 use Rattle.pv_packet.specs.declared.packet.Packet.{Packet}
@@ -48,7 +51,8 @@ use Rattle.pv_network.specs.Calling.{calls_at, call_at, view_at, with_calls, ste
 use Rattle.pv_network.specs.Keying.{KeyedByte, first_entry, is_owes, is_storing, step_of_payment, step_of_key, screens_in, is_over, keys_from, keys_refusal, step_of_taken_keys}
 use Rattle.pv_network.specs.Calls.{Calls, no_calls}
 use Rattle.pv_network.specs.Centre.{Arrival, Centre, new_centre, record_count, arrival_of}
-use Rattle.pv_network.specs.Link.{Link, new_link, is_packets_full, packet_of, with_packet, delivery_of, with_acknowledgement, heard_count, heard_link}
+use Rattle.pv_network.specs.Crashing.{without_calls, step_of_update_crash, step_of_centre_crash, step_of_crash}
+use Rattle.pv_network.specs.Link.{Link, new_link, with_new_end, is_packets_full, packet_of, with_packet, delivery_of, with_acknowledgement, heard_count, heard_link}
 use Rattle.pv_network.specs.OneList.{IsNextOfEditor, HasNumbersInOrder, StandsAt, HasOnePlaceEach, MatchesReceipt}
 use Rattle.pv_network.specs.Run.{EachFollows, MayFollow}
 use Rattle.pv_network.specs.Sound.{IsGenuine, Acknowledges, serial_in, IsSoundLink, IsSoundCalls, IsSound}
@@ -542,6 +546,53 @@ sound_keys : (w : World) (c port : ℕ) (keys : List KeyedByte) (refusal : Optio
 sound_keys w c port keys (Some refusal) sound = sound
 sound_keys w c port keys None sound = sound_keys_from w c port keys sound
 
+-- ---- crash
+
+-- among copies of an element and after them, that element stands for each place
+pub copy_at : {X : Type 0} (x : X) (n c : ℕ) → get_or (replicate n x) c x ≡ x
+copy_at x zero c = refl
+copy_at x (suc n) zero = refl
+copy_at x (suc n) (suc c) = copy_at x n c
+
+-- nobody calls, so that no serial is at a port
+pub without_calls_sound : (calls : Calls) → IsSoundCalls (without_calls calls)
+without_calls_sound calls = record {
+  ports = refl;
+  below = λ port serial is. absurd (no_serial port serial is);
+  differ = λ port other serial is there. absurd (no_serial port serial is);
+  owed = λ port. rw (copy_at {X = Option Call} None PORTS port) tt;
+}
+  where
+    no_serial : (port serial : ℕ) → serial_in (without_calls calls) port ≡ Some serial → ⊥
+    no_serial port serial is = let none = ap (λ (call : Option Call). call >>= serial_of)
+        (copy_at {X = Option Call} None PORTS port) in absurd cc
+
+-- a sound world stays sound without the calls of a centre
+pub sound_centre_crash : (w : World) (c : ℕ) → IsSound w → IsSound (step_of_centre_crash w c).0
+sound_centre_crash w c sound = sound_with_calls w c sound _ (without_calls_sound (calls_at w c))
+
+-- a new end has heard of nothing
+renewed : (edits : List Record) (c : ℕ) (centre : Centre) (link : Link) → IsSoundLink edits c centre link
+    → IsSoundLink edits c centre (with_new_end link)
+renewed edits c centre link sound = record { packets = sound.packets; acknowledged = sound.acknowledged; heard = omega arith }
+
+-- a sound world stays sound with new seats and ends
+pub sound_update_crash : (w : World) → IsSound w → IsSound (step_of_update_crash w).0
+sound_update_crash w sound = record {
+  law = sound.law;
+  next = sound.next;
+  records = sound.records;
+  frames = sound.frames;
+  links = λ c. subst (λ (link : Link). IsSoundLink w.update.records c (centre_at w c) link) (sym (get_or-map with_new_end w.links c new_link))
+      (renewed w.update.records c (centre_at w c) (link_at w c) (sound.links c));
+  calls = sound.calls;
+}
+
+-- a sound world stays sound whichever node crashes
+sound_crash : (w : World) (node : NodeName) → IsSound w → IsSound (step_of_crash w node).0
+sound_crash w nodes.Udc sound = sound_update_crash w sound
+sound_crash w (nodes.Centre c) sound = sound_centre_crash w c sound
+
 -- ---- all
 
 -- a sound world stays sound whatever event happens, whatever is open in it
@@ -562,6 +613,7 @@ sound_happens w (events.Send centre) choice sound = sound_send w centre sound
 sound_happens w (events.Deliver centre index) choice sound = sound_deliver w centre index sound
 sound_happens w (events.Back centre index) choice sound = sound_back w centre index sound
 sound_happens w (events.Carry centre) choice sound = sound_rounds (packet_room w.links + 1) centre w 0 sound
+sound_happens w (events.Crash node) choice sound = sound_crash w node sound
 sound_happens w (events.View centre name) choice sound = sound
 sound_happens w (events.At centre) choice sound = sound
 sound_happens w events.List choice sound = sound
@@ -570,25 +622,6 @@ sound_happens w events.List choice sound = sound
 pub sound_after : (w : World) (events : List (Event × Choice)) → IsSound w → IsSound (after w events)
 sound_after w [] sound = sound
 sound_after w (event ∷ events) sound = sound_after (happens w event.0 event.1).0 events (sound_happens w event.0 event.1 sound)
-
--- among copies of an element and after them, that element stands for each place
-pub copy_at : {X : Type 0} (x : X) (n c : ℕ) → get_or (replicate n x) c x ≡ x
-copy_at x zero c = refl
-copy_at x (suc n) zero = refl
-copy_at x (suc n) (suc c) = copy_at x n c
-
--- nobody has called yet
-sound_no_calls : IsSoundCalls no_calls
-sound_no_calls = record {
-  ports = refl;
-  below = λ port serial is. absurd (no_serial port serial is);
-  differ = λ port other serial is there. absurd (no_serial port serial is);
-  owed = λ port. rw (copy_at {X = Option Call} None PORTS port) tt;
-}
-  where
-    no_serial : (port serial : ℕ) → serial_in no_calls port ≡ Some serial → ⊥
-    no_serial port serial is = let none = ap (λ (call : Option Call). call >>= serial_of)
-        (copy_at {X = Option Call} None PORTS port) in absurd cc
 
 -- the start is sound
 pub sound_start : (centres : ℕ) (limits : Limits) → IsSound (start centres limits)
@@ -604,5 +637,5 @@ sound_start centres limits = record {
   records = omega arith;
   frames = omega (arith, frame_count-none);
   links = λ c. rw (copy_at new_centre centres c, copy_at new_link centres c) (sound_new [] c);
-  calls = λ c. rw (copy_at new_centre centres c) sound_no_calls;
+  calls = λ c. rw (copy_at new_centre centres c) (without_calls_sound no_calls);
 }

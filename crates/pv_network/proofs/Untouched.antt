@@ -20,6 +20,7 @@ use Rattle.pv_network.specs.Call.{Call}
 use Rattle.pv_network.specs.Calling.{calls_at, call_at, with_calls}
 use Rattle.pv_network.specs.Calls.{Calls, call_in, with_call}
 use Rattle.pv_network.specs.Centre.{Arrival, Centre, new_centre, arrival_of, record_count}
+use Rattle.pv_network.specs.Crashing.{without_calls, step_of_centre_crash}
 use Rattle.pv_network.specs.Link.{is_packets_full, delivery_of, heard_count}
 use Rattle.pv_network.specs.Step.{step_of_request, step_of_line, step_of_said, step_of_edit}
 use Rattle.pv_network.specs.Traffic.{ack_in, with_ack_back, round_of_send, round_of_number, step_of_round, after_round, carry_rounds, step_of_packing, step_of_number, step_of_send, step_of_acknowledging, with_next_at, step_of_arrival, step_of_packet, step_of_deliver, step_of_heard, step_of_back}
@@ -145,6 +146,13 @@ call_elsewhere w c p centre port call new other is =
         (λ k at. ap (λ (n : ℕ). get_or (calls_at w centre).ports n None) at) (λ at. absurd (other same at)) p refl
         ∙ ap (λ (n : ℕ). call_at w n p) same
 
+-- a crash of a centre leaves the calls of another
+pub calls_elsewhere : (w : World) (c p centre : ℕ) → (centre ≡ c → ⊥) → call_at (step_of_centre_crash w centre).0 c p ≡ call_at w c p
+calls_elsewhere w c p centre other =
+    set_at (λ k there. k ≡ c → call_in there.calls p ≡ call_at w c p) w.centres centre
+    (record (centre_at w centre) { calls = without_calls (calls_at w centre) }) new_centre
+    (λ k same. ap (λ (n : ℕ). call_at w n p) same) (λ same. absurd (other same)) c refl
+
 -- an element that differs from the default is there, and another takes its place
 read_set : {X : Type 0} (P : X → Type 0) (xs : List X) (i : ℕ) (x d : X) → (P d → ⊥) → P (get_or xs i d) → get_or (set xs i x) i d ≡ x
 read_set P [] i x d never is = absurd (never is)
@@ -161,6 +169,10 @@ module _ (w : World) (c p : ℕ) (call : Call) (is : call_at w c p ≡ Some call
     where
       none_some : None ≡ Some call → ⊥
       none_some never = absurd cc
+
+  -- after a crash of the centre there is none
+  pub none_here : call_at (step_of_centre_crash w c).0 c p ≡ None
+  none_here = calls_here (without_calls (calls_at w c)) ∙ copy_at {X = Option Call} None PORTS p
 
   -- another call at the port is read there
   pub call_here : (new : Option Call) → call_in (with_call (calls_at w c) p new) p ≡ new

@@ -2,6 +2,7 @@ pub mod Call
 pub mod Calling
 pub mod Calls
 pub mod Centre
+pub mod Crashing
 pub mod Keying
 pub mod Link
 pub mod OneList

@@ -69,6 +69,10 @@ heard_in packets index = slice_get packets index >>= heard_count
 abbrev pub heard_link : Link → ℕ → ℕ → Link
 heard_link link front count = record link { sending = end_that_heard link.sending count front }
 
+-- the end that sends down is new; the packets stay
+abbrev pub with_new_end : Link → Link
+with_new_end link = record link { sending = new_end }
+
 -- ---- how the code keeps the links: all packets in one row, and of each link the places of its own
 
 -- of a link: the places of the packets that went down and of those that went up, and the end that sends down
@@ -125,3 +129,7 @@ with_place_up here place = record here { up = here.up ++ place ∷ [] }
 -- the sending end hears of `count` records
 abbrev pub heard_places : Places → ℕ → ℕ → Places
 heard_places here front count = record here { sending = end_that_heard here.sending count front }
+
+-- the sending end is new
+abbrev pub places_with_new_end : Places → Places
+places_with_new_end here = record here { sending = new_end }

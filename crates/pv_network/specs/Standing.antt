@@ -2,6 +2,8 @@
 use Rattle.std.specs.Prelude.{◌≡◌, ℕ, ◌<◌, Bool, true, false, List, ◌++◌, length, Option}
 use Rattle.pv_network.specs.declared.event.Event.{Event}
 use Rattle.pv_network.specs.declared.event.Event.TheVariants as events
+use Rattle.pv_network.specs.declared.event.NodeName.{NodeName}
+use Rattle.pv_network.specs.declared.event.NodeName.TheVariants as nodes
 use Rattle.pv_memory.specs.Medium.{Medium}
 use Rattle.pv_udc.specs.EditList.{EditList}
 use Rattle.pv_nodes.specs.OnDisk.{UpdateIsOnDisk}
@@ -81,6 +83,7 @@ pub record IsNotation (text : List ℕ) : Type 0 where
 -- no other event takes memory
 abbrev pub takes_memory : Event → Bool
 takes_memory (events.Keys centre port keys) = true
+takes_memory (events.Crash node) = true
 takes_memory _ = false
 
 -- What an event leaves open is chosen in the world in which it happens: whatever world the network stood for, there is such a
@@ -89,7 +92,12 @@ abbrev pub TakesPlace : Event → State → State → Outcome → Type 0
 TakesPlace event old new outcome = (w : World) → StandsFor old w
     → (choice : Choice) × IsChoice w event choice × StandsFor new (happens w event choice).0 × (outcome ≡ (happens w event choice).1)
 
--- an event at a centre or at a port is at one that there is
+-- a node is one that there is
+abbrev pub IsNode : State → NodeName → Type 0
+IsNode s nodes.Udc = Unit {0}
+IsNode s (nodes.Centre c) = c < length s.centres
+
+-- an event at a node or at a port is at one that there is
 abbrev pub IsPossible : State → Event → Type 0
 IsPossible s (events.Seed name row) = Unit {0}
 IsPossible s (events.Edit port line) = port < EDITORS
@@ -103,6 +111,7 @@ IsPossible s (events.Send centre) = centre < length s.centres
 IsPossible s (events.Deliver centre index) = centre < length s.centres
 IsPossible s (events.Back centre index) = centre < length s.centres
 IsPossible s (events.Carry centre) = centre < length s.centres
+IsPossible s (events.Crash node) = IsNode s node
 IsPossible s (events.View centre name) = centre < length s.centres
 IsPossible s (events.At centre) = centre < length s.centres
 IsPossible s events.List = Unit {0}

@@ -26,6 +26,7 @@ use Rattle.pv_network.specs.declared.outcome.Outcome.{Outcome}
 use Rattle.pv_network.specs.declared.outcome.Outcome.TheVariants as outcomes
 use Rattle.pv_network.specs.Calling.{call_at, step_of_dial, step_of_press, step_of_store, step_of_show, step_of_hang}
 use Rattle.pv_network.specs.Calls.{IsEntryOf}
+use Rattle.pv_network.specs.Crashing.{step_of_crash}
 use Rattle.pv_network.specs.Keying.{KeyedByte, bytes_of, first_entry, step_of_keys, TakesAllAt}
 use Rattle.pv_network.specs.Traffic.{step_of_send, step_of_deliver, step_of_back, step_of_carry}
 use Rattle.pv_network.specs.Verdict.{Verdict, verdict_of, reply_found}
@@ -120,6 +121,7 @@ happens w (events.Send centre) choice = step_of_send w centre
 happens w (events.Deliver centre index) choice = step_of_deliver w centre index
 happens w (events.Back centre index) choice = step_of_back w centre index
 happens w (events.Carry centre) choice = step_of_carry w centre
+happens w (events.Crash node) choice = step_of_crash w node
 happens w (events.View centre name) choice = step_of_view w centre name
 happens w (events.At centre) choice = step_of_at w centre
 happens w events.List choice = step_of_list w

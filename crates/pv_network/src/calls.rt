@@ -1,4 +1,4 @@
-ghost use Rattle.std.specs.Prelude.{◌≡◌, ◌<◌, List, Option, Some, None, replicate, slice_set, IfOk};
+ghost use Rattle.std.specs.Prelude.{◌≡◌, ◌<◌, List, Option, Some, None, length, replicate, slice_set, IfOk};
 ghost use Rattle.pv_edits.specs.Sight.{view_of};
 ghost use Rattle.pv_session.specs.Turns.{full_turn};
 ghost use Rattle.pv_session.specs.declared.entry.Entry.{Entry};
@@ -101,6 +101,13 @@ impl Calls {
         Outcome::Hung
     }
 
+    /// Ends all calls.
+    pub(crate) fn end_all(&mut self)
+        ensures { self.new ≡ replicate PORTS None }
+    {
+        free_all(&mut self.ports);
+    }
+
     /// Takes a key at a port, with what the centre shows to the caller there.
     pub(crate) fn press(&mut self, port: usize, key: u8, sight: &Sight) -> Outcome
         requires { port < PORTS }
@@ -200,5 +207,14 @@ impl Calls {
                 })
             }
         }
+    }
+}
+
+/// No call is at any of these ports.
+fn free_all(ports: &mut Vec<Option<Call>>)
+    ensures { ports.new.items ≡ replicate (length ports.old.items) None }
+{
+    for port in ports.iter_mut() {
+        *port = None;
     }
 }

@@ -1,4 +1,4 @@
-ghost use Rattle.std.specs.Prelude.{◌≡◌, ◌<◌, ◌≤◌, Ok, nat_le, option_copied, IfOk, IfSome};
+ghost use Rattle.std.specs.Prelude.{◌≡◌, ◌<◌, ◌≤◌, Ok, nat_le, option_copied, IfOk, IfSome, OnErr};
 ghost use Rattle.pv_frame.specs.Errors.{IsValid};
 ghost use Rattle.pv_edits.specs.Edits.{frame_at};
 ghost use Rattle.pv_irc.specs.Deciding.{IsCentreRequest};
@@ -7,6 +7,7 @@ ghost use Rattle.pv_irc.specs.declared.request.IrcRequest.TheVariants as request
 ghost use Rattle.pv_udc.specs.EditList.{empty_list};
 ghost use Rattle.pv_network.specs.declared.event.TheConstants.{MAX_CENTRES, PORTS};
 ghost use Rattle.pv_network.specs.Calls.{call_among, call_in, wish_at, dial_at, hang_at, store_at, show_at};
+ghost use Rattle.pv_network.specs.Crashing.{crash_at};
 ghost use Rattle.pv_network.specs.Keying.{keys_refusal};
 ghost use Rattle.pv_network.specs.Centre.{new_centre, calls_of, request_for, Asked, CentreStands, AreNew, Comes, Pressed};
 
@@ -22,6 +23,9 @@ use pv_page::FrameName;
 use pv_session::Wish;
 use std::alloc::{AllocError, Global};
 use std::marker::Model;
+
+/// The number of the image of a disk that is what the disk reads as. Between events nothing is on its way to a disk.
+pub(crate) const AS_IT_READS: u8 = 1;
 
 /// A retrieval centre: its node, which has what it has applied of the edit list and counts the log-ons, and its calls.
 #[derive(Drop)]
@@ -85,6 +89,19 @@ impl Centre {
             n: number,
             rec: *rec,
         })
+    }
+
+    /// The centre is lost, and opened again from its disk. Its calls are over. The only error is that memory ran
+    /// out for that, and then the centre is as it was.
+    pub(crate) fn crash(&mut self, alloc: Global) -> Result<Outcome, AllocError>
+        ensures ok { IfOk result (λ outcome. Comes self.old self.new outcome
+            (crash_at (state_count self.old.node.state) (calls_of self.old))) }
+        ensures err { OnErr result (self.new ≡ self.old) }
+    {
+        self.node.crash(alloc, AS_IT_READS)?;
+        self.calls.end_all();
+        let count = self.node.count();
+        Ok(Outcome::Crashed { count })
     }
 
     /// Begins a call at a port.

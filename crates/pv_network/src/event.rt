@@ -10,6 +10,15 @@ pub const MAX_CENTRES: u8 = 4;
 /// How many callers' ports a centre has.
 pub const PORTS: u8 = 16;
 
+/// A node of the network.
+#[derive(Clone, Copy, Debug, PartialEq, Eq)]
+pub enum NodeName {
+    /// The Update Centre.
+    Udc,
+    /// The retrieval centre of this number.
+    Centre(u8),
+}
+
 /// What can happen to a network. Centres, ports and packets are counted from 0. An event borrows the line
 /// of an editor and the keys of a caller.
 #[derive(Debug, Drop)]
@@ -74,6 +83,10 @@ pub enum Event<'a> {
     /// Record after record is sent to a centre and delivered there, and its acknowledgement arrives.
     Carry {
         centre: u8,
+    },
+    /// A node is lost, and opened again from its disk.
+    Crash {
+        node: NodeName,
     },
     /// Somebody reads a frame as a centre holds it.
     View {

@@ -7,7 +7,8 @@
 //! network, one at a time, and an [`Outcome`] says what came of it.
 //! Each centre is a node of `pv_nodes`: what it is brought, and the log-ons, are on its disk before it replies.
 //! Packets are numbered in the order in which they were made; any of them may be delivered at any time,
-//! never, or again. Each is kept in bytes, as `pv_packet` spells it, and decoded when it arrives.
+//! never, or again. Each is kept in bytes, as `pv_packet` spells it, and decoded when it arrives. A node
+//! may crash: it is opened again from its disk, and knows what it had stored.
 //!
 //! ```text
 //! let mut network = Network::open(alloc, 1, limits)?;
@@ -37,7 +38,7 @@ mod round;
 mod turns;
 mod verdict;
 
-pub use event::{EDITORS, Event, MAX_CENTRES, PORTS};
+pub use event::{EDITORS, Event, MAX_CENTRES, NodeName, PORTS};
 pub use laws::{
     a_carried_centre_has_every_record, a_carry_has_rounds_enough,
     caller_is_shown_the_steps_of_his_seat, every_reachable_world_is_sound,

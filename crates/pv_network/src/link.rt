@@ -1,7 +1,7 @@
 ghost use Rattle.std.specs.Prelude.{◌≡◌, ◌↔◌, ◌<◌, ◌≤◌, ℕ, length, slice_get, IfOk};
 ghost use Rattle.pv_link.specs.Sending.{number_to_give};
 ghost use Rattle.pv_network.specs.declared.packets.TheConstants.{MAX_PACKETS};
-ghost use Rattle.pv_network.specs.Link.{no_places, with_place, with_place_up, heard_places};
+ghost use Rattle.pv_network.specs.Link.{no_places, with_place, with_place_up, heard_places, places_with_new_end};
 
 use crate::packets::MAX_PACKETS;
 use pv_link::DownEnd;
@@ -68,6 +68,13 @@ impl Link {
         ensures { self.new ≡ heard_places self.old front count }
     {
         self.sending.acknowledged(count, front);
+    }
+
+    /// The end that sends down is new. The packets stay.
+    pub(crate) fn renew(&mut self)
+        ensures { self.new ≡ places_with_new_end self.old }
+    {
+        self.sending = DownEnd::new();
     }
 
     /// Sends the packet at a place down, under the number that the end gives of `front` records. Returns its index.

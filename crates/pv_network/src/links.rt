@@ -1,9 +1,9 @@
-ghost use Rattle.std.specs.Prelude.{◌≡◌, ◌+◌, ◌<◌, ◌≤◌, ℕ, false, length, replicate, slice_set, IfOk};
+ghost use Rattle.std.specs.Prelude.{◌≡◌, ◌+◌, ◌<◌, ◌≤◌, ℕ, false, length, map, replicate, slice_set, IfOk};
 ghost use Rattle.pv_edits.specs.Taken.{IsCentre};
 ghost use Rattle.pv_link.specs.Sending.{number_to_give};
 ghost use Rattle.pv_packet.specs.declared.packet.Packet.TheVariants.{Down};
 ghost use Rattle.pv_network.specs.declared.event.TheConstants.{MAX_CENTRES};
-ghost use Rattle.pv_network.specs.Link.{new_link, link_in, is_packets_full, with_packet, delivery_in, with_acknowledgement, heard_in, heard_link};
+ghost use Rattle.pv_network.specs.Link.{new_link, link_in, is_packets_full, with_packet, delivery_in, with_acknowledgement, heard_in, heard_link, with_new_end, places_with_new_end};
 
 use crate::delivery::Delivery;
 use crate::event::MAX_CENTRES;
@@ -94,6 +94,13 @@ impl Links {
         self.links[link].hear(front, count);
     }
 
+    /// The end that sends down each link is new. The packets stay.
+    pub(crate) fn renew(&mut self)
+        ensures { self.new ≡ map with_new_end self.old }
+    {
+        renew_all(&mut self.links);
+    }
+
     /// The number that goes down a link next, if there are `front` records. `None` if all of them are acknowledged.
     pub(crate) fn next_number(&self, link: usize, front: u64) -> Option<u64>
         requires { link < length self.now }
@@ -142,5 +149,14 @@ impl Links {
         packet.within();
         self.packets.push(&packet);
         index
+    }
+}
+
+/// The end that sends down each of these links is new.
+fn renew_all(links: &mut Vec<Link>)
+    ensures { links.new.items ≡ map places_with_new_end links.old.items }
+{
+    for link in links.iter_mut() {
+        link.renew();
     }
 }

@@ -10,6 +10,7 @@ ghost use Rattle.pv_network.specs.Standing.{StandsFor, Performs, TakesPlace, IsP
 ghost use Rattle.pv_network.specs.Step.{step_of_request, step_of_seeding, step_of_line, step_of_said, step_of_edit, step_of_view, step_of_at, step_of_list};
 
 mod calling;
+mod crashing;
 mod keying;
 
 use crate::centre::{Centre, open_centres};
@@ -87,7 +88,7 @@ impl Network {
 
     /// Lets an event happen, and returns what came of it. The event's centre is one of the network's, and
     /// its port is below [`EDITORS`], or below [`PORTS`](crate::PORTS) at a centre. The only error is that memory ran out: after it, every later step
-    /// returns it too. No event but [`Event::Keys`] takes memory.
+    /// returns it too. No events but [`Event::Keys`] and [`Event::Crash`] take memory.
     pub fn step(&mut self, event: &Event) -> Result<Outcome, AllocError>
         requires { IsPossible self.old event.now }
 
@@ -130,6 +131,7 @@ impl Network {
             Event::Deliver { centre, index } => self.deliver(*centre as usize, *index),
             Event::Back { centre, index } => self.back(*centre as usize, *index),
             Event::Carry { centre } => self.carry(*centre as usize),
+            Event::Crash { node } => self.crash(*node)?,
             Event::View { centre, name } => self.view(*centre as usize, *name),
             Event::At { centre } => self.at(*centre as usize),
             Event::List => self.list(),

@@ -64,6 +64,8 @@ pub enum Outcome {
     Full { count: u64 },
     /// Nothing was left to send. The centre took this many records, and the Update Centre this many items.
     Carried { records: u64, items: u64 },
+    /// The node was opened again, and has this many records.
+    Crashed { count: u64 },
     /// The centre has no such frame.
     NotHeld,
     /// The centre has applied this many records.

@@ -58,6 +58,9 @@ returns-clause-performs c = λ w stands.
       | goal.in-Carry b ↦
           let done = b.carry.ensures.performs w stands in
           (any, rw b.in-Carry.is tt, rw (b.in-Carry.is, b.self-is) done.0, rw (b.in-Carry.is, b.result-is) done.1)
+      | goal.in-Crash+in_ok-crash-in-Crash b ↦
+          let done = b.in_ok-crash-in-Crash.ensures.performs w stands in
+          (any, rw b.in-Crash.is tt, rw (b.in-Crash.is, b.self-is) done.0, rw (b.in-Crash.is, b.result-is) done.1)
       | goal.in-View b ↦
           let done = b.view.ensures w stands in
           (any, rw b.in-View.is tt, rw (b.in-View.is, b.self-is) done.0, rw (b.in-View.is, b.result-is) done.1)

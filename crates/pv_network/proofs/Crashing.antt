@@ -1,0 +1,39 @@
+-- A crash of the Update Centre at a network is that crash in each world that it stands for.
+use Rattle.std.proofs.Common.{◌≡◌, ℕ, List, length, sym, ap, subst, ◌∙◌}
+use Rattle.std.specs.Prelude.{map, replicate}
+use Rattle.pv_udc.specs.EditList.{EditList}
+use Rattle.pv_nodes.specs.OnDisk.{OnDisk, UpdateIsOnDisk}
+use Rattle.pv_editor.specs.Say.{new_seat}
+use Rattle.pv_editor.specs.declared.seat.EditorSeat.{EditorSeat}
+use Rattle.pv_network.specs.declared.event.TheConstants.{EDITORS}
+use Rattle.pv_network.specs.declared.outcome.Outcome.TheVariants.{Crashed}
+use Rattle.pv_network.specs.Crashing.{step_of_update_crash}
+use Rattle.pv_network.specs.Link.{Link, with_new_end}
+use Rattle.pv_network.specs.Standing.{State, StandsFor}
+use Rattle.pv_network.specs.World.{World}
+use Rattle.pv_network.proofs.Soundness.{sound_update_crash}
+
+-- the node knows what it knew and has it on its disk, and the seats and the ends are new
+pub update_crashes : (s : State) (w : World) → StandsFor s w → (node : OnDisk EditList) (seats : List EditorSeat) (links : List Link) (count : ℕ)
+    → node.state ≡ s.update → UpdateIsOnDisk node → seats ≡ replicate EDITORS new_seat → links ≡ map with_new_end s.links
+    → count ≡ length node.state.records
+    → StandsFor (record s { update = node.state; disk = node.disk; seats = seats; links = links }) (step_of_update_crash w).0
+    × (Crashed count ≡ (step_of_update_crash w).1)
+update_crashes s w stands node seats links count same on_disk seats_are links_are counted =
+    let update = same ∙ stands.update in (
+      record {
+        sound = sound_update_crash w stands.sound;
+        update = update;
+        on_disk = on_disk;
+        seats = seats_are;
+        centres = stands.centres;
+        links = links_are ∙ ap (map with_new_end) stands.links;
+      },
+      ap Crashed (counted ∙ ap (λ (u : EditList). length u.records) update),
+    )
+
+-- without memory for another node the network stands for what it stood for
+pub update_same : (s : State) (w : World) → StandsFor s w → (node : OnDisk EditList)
+    → node ≡ record { state = s.update; disk = s.disk } → StandsFor (record s { update = node.state; disk = node.disk }) w
+update_same s w stands node same =
+    subst (λ (here : OnDisk EditList). StandsFor (record s { update = here.state; disk = here.disk }) w) (sym same) stands

@@ -1,0 +1,18 @@
+use Rattle.std.proofs.Common.{◌≡◌, ◌≤◌, length, ◌∙◌, sym, arith}
+use Rattle.std.proofs.lemmas.List.{length-map}
+use Rattle.pv_network.specs.Link.{places_with_new_end}
+use Rattle.pv_network.proofs.Rows.{links_renewed, count_renewed, within_renewed}
+use Rattle.pv_network.proofs.links.Links.renew.Goals as goal
+
+-- the places are where they were
+pub invariant_of-self : goal.invariant_of-self
+invariant_of-self c =
+    let links = c.self.inside.links.items in
+    rw c.renew_all.ensures (
+      within_renewed c.self.inside.packets links c.self.invariant.0,
+      c.self.invariant.1 ∙ sym (count_renewed links),
+      omega (arith, length-map links places_with_new_end, c.self.invariant.2),
+    )
+
+pub returns : goal.returns
+returns c = rw (← c.self.view_is, c.renew_all.ensures) (links_renewed c.self.inside.packets c.self.inside.links.items)
