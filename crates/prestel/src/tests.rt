@@ -177,10 +177,50 @@ OK 2
 records 3
 ";
 
+/// Both nodes crash, after records came down, and while an editor is logged on.
+const CRASHES: &[u8] = b"seed 1a A
+seed 2a B
+send 0
+send 0
+deliver 0 0
+deliver 0 1
+back 0 1
+edit 0 LOGON 0000000000 0000
+crash 0
+at 0
+crash u
+edit 0 LAST
+list
+send 0
+deliver 0 2
+back 0 2
+send 0
+";
+
+/// What is written then: all records are there, nobody is logged on, and sending begins again.
+const OPENED: &[u8] = b"OK 0
+OK 1
+sent 0 record 0
+sent 1 record 1
+taken 0 ack 0
+taken 1 ack 1
+heard 2
+OK
+crashed 2
+applied 2
+crashed 2
+NO 1 LOG ON FIRST
+records 2
+sent 2 record 0
+old 0 ack 2
+heard 2
+idle
+";
+
 #[test]
 fn scripts_have_their_transcripts(rt: HostRuntime) -> Result<(), Fail> {
     let alloc = rt.alloc();
-    let cases: [(&[u8], &[u8], &[u8]); 8] = [
+    let cases: [(&[u8], &[u8], &[u8]); 9] = [
         (b"", b"", b""),
         (
             b"seed 1a HELLO\nview 0 1a\nsend 0\ndeliver 0 0\nview 0 1a",
@@ -205,6 +245,7 @@ fn scripts_have_their_transcripts(rt: HostRuntime) -> Result<(), Fail> {
         (OWNERS, OWNED, b""),
         (SMALL, FILLED, b""),
         (TWO_PORTS, ONE_ACCOUNT, b""),
+        (CRASHES, OPENED, b""),
     ];
     for (script, first, rest) in cases {
         let mut wanted = Vec::new(alloc);
@@ -266,7 +307,7 @@ fn centres_are_apart(rt: HostRuntime) -> Result<(), Fail> {
 }
 
 /// Lines at the edge of a form, and what is written for them.
-const FORMS: [(&[u8], &[u8]); 20] = [
+const FORMS: [(&[u8], &[u8]); 22] = [
     (b"\n", b""),
     (b"; seed 1a X\n", b""),
     (b";\n\n;", b""),
@@ -291,6 +332,8 @@ const FORMS: [(&[u8], &[u8]); 20] = [
     (b"deliver 0 18446744073709551615", b"no packet\n"),
     (b"view 0 1a", b"-\n"),
     (b"carry 0", b"carried 0 0\n"),
+    (b"crash 0", b"crashed 0\n"),
+    (b"crash u", b"crashed 0\n"),
     (
         b"limits 1 1\nseed 0a X\nseed 0a X",
         b"limits 1 1\nOK 0\nNO 14 FULL 1\n",
@@ -310,7 +353,7 @@ fn lines_at_the_edge_of_a_form(rt: HostRuntime) -> Result<(), Fail> {
 }
 
 /// Lines that are no valid commands.
-const NO_FORMS: [&[u8]; 47] = [
+const NO_FORMS: [&[u8]; 53] = [
     b"seed 1a 01234567890123456789012345678901234567890",
     b"seed 1a \\1f\\1f\\1f\\1f\\1f\\1f\\1f\\1f\\1f\\1f\\1f\\1f\\1f\\1f\\1f\\1f\\1f\\1f\\1f\\1f\\1f\\1f\\1f\\1f\\1f\\1f\\1f\\1f\\1f\\1f\\1f\\1f\\1f\\1f\\1f\\1f\\1f\\1f\\1f\\1f\\1f",
     b"seed 1a",
@@ -352,6 +395,12 @@ const NO_FORMS: [&[u8]; 47] = [
     b"edit 4 QUIT",
     b"carry 1",
     b"carry 0 0",
+    b"crash",
+    b"crash ",
+    b"crash 1",
+    b"crash 00",
+    b"crash U",
+    b"crash u ",
     b"limits 1",
     b"limits 0 1",
     b"limits 1 0",

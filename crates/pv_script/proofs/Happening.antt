@@ -1,7 +1,9 @@
 -- An event that a line asks for can happen on a network of as many centres as the world has that it stands for.
 use Rattle.std.proofs.Common.{◌≡◌, List, ℕ, length, sym, subst}
 use Rattle.pv_network.specs.declared.event.Event.{Event}
-use Rattle.pv_network.specs.Standing.{State, StandsFor, IsPossible, IsNotation}
+use Rattle.pv_network.specs.declared.event.NodeName.{NodeName}
+use Rattle.pv_network.specs.declared.event.NodeName.TheVariants as nodes
+use Rattle.pv_network.specs.Standing.{State, StandsFor, IsPossible, IsNode, IsNotation}
 use Rattle.pv_network.specs.World.{World}
 use Rattle.pv_script.specs.declared.grammar.Command.TheVariants.{Do}
 use Rattle.pv_script.specs.declared.word.CallWord.{CallWord}
@@ -9,6 +11,7 @@ use Rattle.pv_script.specs.declared.word.CallWord.TheVariants as calling
 use Rattle.pv_script.specs.declared.word.Word.{Word}
 use Rattle.pv_script.specs.declared.word.Word.TheVariants as words
 use Rattle.pv_script.specs.Grammar.{AsksAs, CallAsksAs}
+use Rattle.pv_script.specs.Readers.{IsNodeText}
 
 -- a command to let an event happen is of that event
 event_is : {event other : Event} → Do event ≡ Do other → event ≡ other
@@ -31,6 +34,11 @@ call_can_happen s calling.Keys tail event asks =
 call_can_happen s calling.Hang tail event asks =
     subst (IsPossible s) (sym (event_is asks.is)) (asks.are.first.0, asks.are.second.first.0)
 
+-- a node that a text names is one that there is
+node_there : (s : State) (node : NodeName) (text : List ℕ) → IsNodeText (length s.centres) node text → IsNode s node
+node_there s nodes.Udc text names = tt
+node_there s (nodes.Centre c) text names = names.0
+
 -- by the line's word: its centre is one that there is, or its row is a row of cells
 pub can_happen : (s : State) (word : Word) (tail : List ℕ) (event : Event) → AsksAs (length s.centres) word tail (Do event)
     → IsPossible s event
@@ -42,6 +50,8 @@ can_happen s words.Send tail event asks = subst (IsPossible s) (sym (event_is as
 can_happen s words.Deliver tail event asks = subst (IsPossible s) (sym (event_is asks.is)) asks.are.first.0
 can_happen s words.Back tail event asks = subst (IsPossible s) (sym (event_is asks.is)) asks.are.first.0
 can_happen s words.Carry tail event asks = subst (IsPossible s) (sym (event_is asks.is)) asks.are.first.0
+can_happen s words.Crash tail event asks =
+    subst (IsPossible s) (sym (event_is asks.is)) (node_there s asks.parts asks.are.text asks.are.first)
 can_happen s words.View tail event asks = subst (IsPossible s) (sym (event_is asks.is)) asks.are.first.0
 can_happen s words.At tail event asks = subst (IsPossible s) (sym (event_is asks.is)) asks.are.first.0
 can_happen s words.List tail event asks = subst (IsPossible s) (sym (event_is asks.1)) tt

@@ -3,6 +3,7 @@ pub mod Ending
 pub mod Facts
 pub mod Happening
 pub mod Limits
+pub mod Nodes
 pub mod Notation
 pub mod Reading
 pub mod Running

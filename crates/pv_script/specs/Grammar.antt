@@ -14,7 +14,7 @@ use Rattle.pv_script.specs.declared.word.CallWord.{CallWord}
 use Rattle.pv_script.specs.declared.word.CallWord.TheVariants as calling
 use Rattle.pv_script.specs.declared.word.Word.{Word}
 use Rattle.pv_script.specs.declared.word.Word.TheVariants as words
-use Rattle.pv_script.specs.Readers.{IsFrameText, IsRowText, IsKeyText, IsKeysText, IsLimitsText}
+use Rattle.pv_script.specs.Readers.{IsFrameText, IsNodeText, IsRowText, IsKeyText, IsKeysText, IsLimitsText}
 use Rattle.pv_script.specs.Words.{word_of_text}
 
 -- a word of a caller's line and the tail after it ask for the command: a row for each form
@@ -38,6 +38,7 @@ AsksAs centres words.Send tail = Gives (IsOne (IsBelow centres)) (λ centre. Do 
 AsksAs centres words.Deliver tail = Gives (AreTwo (IsBelow centres) IsNumber) (λ parts. Do (events.Deliver parts.0 parts.1)) tail
 AsksAs centres words.Back tail = Gives (AreTwo (IsBelow centres) IsNumber) (λ parts. Do (events.Back parts.0 parts.1)) tail
 AsksAs centres words.Carry tail = Gives (IsOne (IsBelow centres)) (λ centre. Do (events.Carry centre)) tail
+AsksAs centres words.Crash tail = Gives (IsOne (IsNodeText centres)) (λ node. Do (events.Crash node)) tail
 AsksAs centres words.View tail = Gives (AreTwo (IsBelow centres) IsFrameText) (λ parts. Do (events.View parts.0 parts.1)) tail
 AsksAs centres words.At tail = Gives (IsOne (IsBelow centres)) (λ centre. Do (events.At centre)) tail
 AsksAs centres words.List tail = GivesAlone (Do events.List) tail

@@ -1,18 +1,25 @@
 -- Parts of lines that the script alone has, and what each of them stands for.
-use Rattle.std.specs.Prelude.{◌≡◌, ℕ, List, [], ◌∷◌}
+use Rattle.std.specs.Prelude.{◌≡◌, ℕ, List, [], ◌∷◌, codes}
 use Rattle.pv_outside.specs.declared.limits.Limits.{Limits}
-use Rattle.pv_words.specs.Numbers.{IsNumber}
+use Rattle.pv_words.specs.Numbers.{IsNumber, IsBelow}
 use Rattle.pv_words.specs.Parts.{IsPart, IsOne}
 use Rattle.pv_words.specs.Split.{IsSplit}
 use Rattle.pv_page.specs.Names.{Name, IsName, name_text}
 use Rattle.pv_cells.specs.Notation.{ReadsAs}
 use Rattle.pv_cells.specs.Row.{SpellsCells}
+use Rattle.pv_network.specs.declared.event.NodeName.{NodeName}
+use Rattle.pv_network.specs.declared.event.NodeName.TheVariants.{Udc, Centre}
 use Rattle.pv_network.specs.Standing.{IsNotation}
 use Rattle.pv_screen.specs.Grid.{IsRow}
 
 -- the text is a frame's name
 abbrev pub IsFrameText : Name → List ℕ → Type 0
 IsFrameText name text = IsName name × (text ≡ name_text name)
+
+-- the text names a node: `u`, or the number of one of this many centres
+abbrev pub IsNodeText : ℕ → NodeName → List ℕ → Type 0
+IsNodeText centres Udc text = text ≡ codes "u"
+IsNodeText centres (Centre c) text = IsBelow centres c text
 
 -- the text is the notation of a row: of at most 40 cells, which are the row with spaces after them
 abbrev pub IsRowText : List ℕ → List ℕ → Type 0

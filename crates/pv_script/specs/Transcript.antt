@@ -67,6 +67,7 @@ answer_text (outcomes.Early number ack) = codes "early " ++ decimal number ++ ac
 answer_text (outcomes.Heard number) = codes "heard " ++ decimal number ++ newline
 answer_text (outcomes.Full count) = codes "full " ++ decimal count ++ newline
 answer_text (outcomes.Carried records items) = codes "carried " ++ decimal records ++ codes " " ++ decimal items ++ newline
+answer_text (outcomes.Crashed count) = codes "crashed " ++ decimal count ++ newline
 answer_text outcomes.NotHeld = codes "-" ++ newline
 answer_text (outcomes.Applied count) = codes "applied " ++ decimal count ++ newline
 answer_text (outcomes.Records count) = codes "records " ++ decimal count ++ newline

@@ -31,6 +31,7 @@ word_of_text text =
     if is_text text (codes "deliver") then Some words.Deliver else
     if is_text text (codes "back") then Some words.Back else
     if is_text text (codes "carry") then Some words.Carry else
+    if is_text text (codes "crash") then Some words.Crash else
     if is_text text (codes "view") then Some words.View else
     if is_text text (codes "at") then Some words.At else
     if is_text text (codes "list") then Some words.List else

@@ -55,6 +55,7 @@ pub fn push_answer(text: &mut Vec<u8>, outcome: &Outcome) -> Result<(), AllocErr
             push_number(text, b" ", *items)?;
             push_words(text, b"\n")
         }
+        Outcome::Crashed { count } => push_line(text, b"crashed ", *count),
         Outcome::NotHeld => push_words(text, b"-\n"),
         Outcome::Applied { count } => push_line(text, b"applied ", *count),
         Outcome::Records { count } => push_line(text, b"records ", *count),

@@ -2,7 +2,7 @@ ghost use Rattle.std.specs.Prelude.{◌≡◌, ◌↔◌, Some, IfSome, IsTrue};
 ghost use Rattle.pv_words.specs.Parts.{Exactly};
 ghost use Rattle.pv_script.specs.Grammar.{Asks, AsksAs, CallAsksAs, MayStand, ReadsLine};
 
-use crate::readers::{FrameText, KeyText, KeysText, LimitsText, RowText};
+use crate::readers::{FrameText, KeyText, KeysText, LimitsText, NodeText, RowText};
 use crate::word::{CallWord, Word, word_of};
 use pv_network::{EDITORS, Event, PORTS};
 use pv_outside::Limits;
@@ -65,7 +65,7 @@ fn command_of(line: &[u8], centres: u8) -> Option<Command<'_>>
 fn asked_command(word: Word, tail: &[u8], centres: u8) -> Option<Command<'_>>
     ensures { Exactly (AsksAs centres word tail.now) result }
 {
-    let centre = Below(centres);
+    let (centre, node) = (Below(centres), NodeText(centres));
     match word {
         Word::Limits => one_as(&LimitsText, tail, |limits| Command::Limits(limits)),
         Word::Seed => two_as(
@@ -95,6 +95,7 @@ fn asked_command(word: Word, tail: &[u8], centres: u8) -> Option<Command<'_>>
             |(centre, index)| Command::Do(Event::Back { centre, index }),
         ),
         Word::Carry => one_as(&centre, tail, |centre| Command::Do(Event::Carry { centre })),
+        Word::Crash => one_as(&node, tail, |node| Command::Do(Event::Crash { node })),
         Word::View => two_as(
             &centre,
             &FrameText,

@@ -2,12 +2,13 @@ ghost use Rattle.std.specs.Prelude.{◌≡◌, ◌↔◌, Some, IfSome, IsTrue};
 ghost use Rattle.pv_words.specs.Parts.{Exactly};
 ghost use Rattle.pv_outside.specs.declared.limits.Limits.{Limits};
 ghost use Rattle.pv_network.specs.Standing.{IsNotation};
-ghost use Rattle.pv_script.specs.Readers.{IsFrameText, IsRowText, IsKeyText, IsKeysText, IsLimitsText, AreOf};
+ghost use Rattle.pv_script.specs.Readers.{IsFrameText, IsNodeText, IsRowText, IsKeyText, IsKeysText, IsLimitsText, AreOf};
 
 use pv_cells::{ROW_LENGTH, first_byte, row_of};
+use pv_network::NodeName;
 use pv_outside::{Limits, MAX_FRAMES, MAX_RECORDS};
 use pv_page::FrameName;
-use pv_words::{Number, Part, Reader, number_of, one, split_word};
+use pv_words::{Below, Number, Part, Reader, number_of, one, split_word};
 
 /// The part of a line that is the name of a frame.
 #[derive(Clone, Copy, Debug)]
@@ -21,6 +22,31 @@ impl<'a> Reader<'a> for FrameText {
     fn read(&self, text: &'a [u8]) -> Option<FrameName> {
         FrameName::of_text(text)
     }
+}
+
+/// The part of a line that names a node, in a play of this many centres: `u`, or the number of a centre.
+#[derive(Clone, Copy, Debug)]
+pub struct NodeText(pub u8);
+
+impl<'a> Reader<'a> for NodeText {
+    type Value = NodeName;
+
+    ghost Writes = { λ centres. IsNodeText centres.0 };
+
+    fn read(&self, text: &'a [u8]) -> Option<NodeName> {
+        node_of(text, self.0)
+    }
+}
+
+/// The node that a text names in a play of this many centres. `None` exactly when it names none.
+fn node_of(text: &[u8], centres: u8) -> Option<NodeName>
+    ensures { Exactly (λ node. IsNodeText centres node text.now) result }
+{
+    if text == b"u".as_slice() {
+        return Some(NodeName::Udc);
+    }
+    let centre = Below(centres).read(text)?;
+    Some(NodeName::Centre(centre))
 }
 
 /// The part of a line that is a row in notation.

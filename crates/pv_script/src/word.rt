@@ -20,6 +20,8 @@ pub enum Word {
     Back,
     /// `carry C`
     Carry,
+    /// `crash NODE`
+    Crash,
     /// `view C NAME`
     View,
     /// `at C`
@@ -63,6 +65,8 @@ pub fn word_of(text: &[u8]) -> Option<Word>
         Some(Word::Back)
     } else if text == b"carry".as_slice() {
         Some(Word::Carry)
+    } else if text == b"crash".as_slice() {
+        Some(Word::Crash)
     } else if text == b"view".as_slice() {
         Some(Word::View)
     } else if text == b"at".as_slice() {
