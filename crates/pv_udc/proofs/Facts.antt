@@ -1,5 +1,5 @@
 -- Worked examples, computed from the definitions: constants, small judgements, and the numbers of edits.
-use Rattle.std.proofs.Common.{◌≡◌, ℕ, ◌+◌, [], ◌∷◌, Some, None, refl}
+use Rattle.std.proofs.Common.{◌≡◌, ℕ, ◌+◌, List, [], ◌∷◌, map, Some, None, refl}
 use Rattle.pv_outside.specs.declared.limits.Limits.{Limits}
 use Rattle.pv_page.specs.Names.{Name}
 use Rattle.pv_account.specs.Profile.{Profile}
@@ -13,6 +13,7 @@ use Rattle.pv_edits.specs.declared.record.Record.TheVariants.{Put, Drop, Account
 use Rattle.pv_edits.specs.declared.down.DownRecord.TheVariants.{Whole, Blank}
 use Rattle.pv_edits.specs.declared.wish.EditWish.TheVariants as wishes
 use Rattle.pv_node.specs.declared.decision.Decision.TheVariants.{Answer, Store}
+use Rattle.pv_udc.specs.Bills.{billed_lines, billed_pence, charge_place}
 use Rattle.pv_udc.specs.Codes.{code_of}
 use Rattle.pv_udc.specs.Judgement.{last_edit, next_number, judge}
 use Rattle.pv_udc.specs.Numbers.{numbers_of, from_one}
@@ -131,3 +132,32 @@ reply-found = refl
 
 pub reply-of_another : reply_place (of_centre_2 0 charge ∷ of_centre_2 1 reply ∷ []) 5 0 ≡ None
 reply-of_another = refl
+
+-- ---- bills
+
+-- another line of the same account, and a line of another
+abbrev later_charge : Item
+later_charge = items.Charge (record { serial = 0; number = 1; account = 5; name = page_1a; price = 99; moment = 0 })
+
+abbrev other_charge : Item
+other_charge = items.Charge (record { serial = 1; number = 0; account = 6; name = page_1a; price = 7; moment = 0 })
+
+abbrev charges : List Record
+charges = put_1a ∷ of_centre_2 0 charge ∷ of_centre_2 1 other_charge ∷ of_centre_2 2 reply ∷ of_centre_2 3 later_charge ∷ []
+
+-- the bill of 5 has its two lines, of 9 and 99 pence, and no other
+pub bill-lines : map (λ line. line.number) (billed_lines charges 5) ≡ 0 ∷ 1 ∷ []
+bill-lines = refl
+
+pub bill-pence : billed_pence charges 5 ≡ 108
+bill-pence = refl
+
+-- its lines are at these places
+pub charge-first : charge_place charges 5 0 ≡ Some 1
+charge-first = refl
+
+pub charge-next : charge_place charges 5 2 ≡ Some 4
+charge-next = refl
+
+pub charge-no_more : charge_place charges 5 5 ≡ None
+charge-no_more = refl

@@ -1,3 +1,4 @@
+pub mod Bills
 pub mod Codes
 pub mod Counts
 pub mod Deciding

@@ -38,6 +38,10 @@ brings_reply_to records editor (Account other q account) = false
 brings_reply_to records editor (Lease other q root account) = false
 brings_reply_to records editor (Taken taken) = is_reply_to records editor taken.item
 
+-- the first place, from this one on, of a record that passes a test
+abbrev pub place_from : (Record → Bool) → List Record → ℕ → Option ℕ
+place_from test records from = position_from test from (drop from records)
+
 -- the first place, from this one on, of a record that brought a reply to a page that is this editor's now
 abbrev pub reply_place : List Record → ℕ → ℕ → Option ℕ
-reply_place records editor from = position_from (brings_reply_to records editor) from (drop from records)
+reply_place records editor from = place_from (brings_reply_to records editor) records from

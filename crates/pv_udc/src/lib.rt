@@ -7,6 +7,7 @@
 //! - A [`Refusal`] says why an edit is not stored. Its [`Code`] is what goes to the editor: a number,
 //!   and the number that its text shows.
 //! - [`down`] is what a centre gets of a record.
+//! - [`UdcState::bill`] is how many charge lines came up for an account, and the sum of their prices.
 //!
 //! An editor numbers his edits 1, 2, 3 and on. A request under his last number is the same edit again,
 //! whatever it asks: its reply is [`UdcReply::Again`] with the place that is kept, and nothing is stored.
@@ -24,6 +25,7 @@
 //! record. The calls have the contracts that a node's rules have. Only `open` and `copy` take memory.
 #![tactic(auto)]
 
+mod billing;
 mod judging;
 mod law;
 mod refusal;
@@ -31,6 +33,7 @@ mod reply;
 mod request;
 mod rules;
 mod sending;
+mod sought;
 mod state;
 
 pub use law::{

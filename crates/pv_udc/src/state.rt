@@ -6,6 +6,7 @@ ghost use Rattle.pv_edits.specs.Taken.{IsCentre};
 ghost use Rattle.pv_edits.specs.declared.record.Record.{Record};
 ghost use Rattle.pv_udc.specs.Counts.{counted_on};
 
+use crate::sought::Sought;
 use pv_account::LAST_CENTRE;
 use pv_edits::{Base, Record};
 use pv_outside::Limits;
@@ -40,7 +41,8 @@ impl Model for UdcState {
 impl UdcState {
     ghost use Rattle.pv_udc.specs.EditList.{empty_list, with_record, all_places};
     ghost use Rattle.pv_udc.specs.Judgement.{last_edit};
-    ghost use Rattle.pv_udc.specs.Replies.{brings_reply_to, reply_place};
+    ghost use Rattle.pv_udc.specs.Bills.{brings, charge_place};
+    ghost use Rattle.pv_udc.specs.Replies.{brings_reply_to, place_from, reply_place};
 
     /// The state of no records. Room for `limits.records` records is reserved.
     pub fn open(alloc: Global, limits: Limits) -> Result<UdcState, AllocError>
@@ -128,12 +130,39 @@ impl UdcState {
     pub fn reply_for(&self, editor: AccountNo, from: u64) -> Option<u64>
         ensures { result ≡ reply_place self.now.records editor from }
     {
+        self.first_place(&Sought::Reply(editor), from)
+    }
+
+    /// The first place, from this one on, of a record that brought a charge line of the account. `None`
+    /// exactly when there is none.
+    pub fn charge_for(&self, account: AccountNo, from: u64) -> Option<u64>
+        ensures { result ≡ charge_place self.now.records account from }
+    {
+        self.first_place(&Sought::Charge(account), from)
+    }
+
+    /// The first place, from this one on, of a record that brought what is sought.
+    fn first_place(&self, sought: &Sought, from: u64) -> Option<u64>
+        ensures { result ≡ place_from (brings self.now.records sought.now) self.now.records from }
+    {
         for place in from..self.count {
-            if self.brings_reply_to(editor, place) {
+            if self.brings(sought, place) {
                 return Some(place);
             }
         }
         None
+    }
+
+    /// Whether the record at a place brought what is sought.
+    fn brings(&self, sought: &Sought, place: u64) -> bool
+        requires { place < length self.now.records }
+        ensures { (rec : Record) → slice_get self.now.records place ≡ Some rec →
+            result ≡ brings self.now.records sought.now rec }
+    {
+        match sought {
+            Sought::Reply(editor) => self.brings_reply_to(*editor, place),
+            Sought::Charge(account) => self.line_at(*account, place).is_some(),
+        }
     }
 
     /// Whether the record at a place brought a reply to a page that is the editor's now.

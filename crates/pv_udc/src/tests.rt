@@ -2,7 +2,7 @@ ghost use Rattle.pv_udc.specs.Requests.{HasCentre};
 
 use crate::{Code, Refusal, UdcReply, UdcRequest, UdcState, down};
 use pv_account::{Account, Groups, LAST_CENTRE, digest};
-use pv_charge::Line;
+use pv_charge::{Bill, Line};
 use pv_edits::{DownRecord, EditWish, MAX_ACCOUNTS, MAX_LEASES};
 use pv_frame::{Frame, FrameError, Kind};
 use pv_node::Decision;
@@ -329,6 +329,7 @@ fn refusals_have_codes(rt: HostRuntime) -> Result<(), Fail> {
 #[derive(Clone, Copy)]
 enum Sent {
     Charge,
+    ChargeToSecond,
     Reply(&'static [u8]),
     Mail,
 }
@@ -342,6 +343,14 @@ fn item(sent: Sent) -> Result<Item, Fail> {
             account,
             name: name(b"40a")?,
             price: 25,
+            moment: 9,
+        }),
+        Sent::ChargeToSecond => Item::Charge(Line {
+            serial: 8,
+            number: 0,
+            account: account_no(SECOND)?,
+            name: name(b"40a")?,
+            price: 99,
             moment: 9,
         }),
         Sent::Reply(text) => Item::Reply(Reply {
@@ -431,5 +440,28 @@ fn a_reply_is_for_whoever_has_the_page_now(rt: HostRuntime) -> Result<(), Fail> 
     assert_eq!(rt; state.reply_for(owner, 0), Some(1));
     assert_eq!(rt; state.reply_for(owner, 2), None);
     assert_eq!(rt; state.reply_for(operator, 0), Some(2));
+    Ok(())
+}
+
+/// Two charge lines of the first account, with a reply and a line of the second account between them.
+const CHARGES: [Arrival; 4] = [
+    (0, 0, Sent::Charge, UdcReply::Stored(0)),
+    (0, 1, Sent::Reply(b"12a"), UdcReply::Stored(1)),
+    (1, 0, Sent::ChargeToSecond, UdcReply::Stored(2)),
+    (0, 2, Sent::Charge, UdcReply::Stored(3)),
+];
+
+#[test]
+fn a_bill_has_the_lines_of_its_account(rt: HostRuntime) -> Result<(), Fail> {
+    let mut state = UdcState::open(rt.alloc(), LARGE)?;
+    assert_eq!(rt; first_amiss(&mut state, &CHARGES)?, None);
+    for (number, lines, pence) in [(FIRST, 2, 50), (SECOND, 1, 99), (0, 0, 0)] {
+        let bill = state.bill(account_no(number)?);
+        assert_eq!(rt; bill, Bill { lines, pence }, "{number}");
+    }
+    let first = account_no(FIRST)?;
+    for (from, place) in [(0, Some(0)), (1, Some(3)), (4, None), (u64::MAX, None)] {
+        assert_eq!(rt; state.charge_for(first, from), place);
+    }
     Ok(())
 }
