@@ -23,18 +23,15 @@ def words(x, y, text, size=13, anchor="middle", weight="normal"):
     return f'<text x="{x}" y="{y}" font-size="{size}" text-anchor="{anchor}" font-weight="{weight}" fill="{INK}">{text}</text>'
 
 
-def box(x, y, width, height, text, below="", dashed=False, fill=SOFT):
-    """A named box; a dashed one is still to come."""
-    dash = ' stroke-dasharray="5 4"' if dashed else ""
-    fill = PAPER if dashed else fill
+def box(x, y, width, height, text, below=""):
+    """A named box."""
     middle, up = x + width / 2, y + height / 2
     lines = [words(middle, up + 4, text)] if not below else [words(middle, up - 4, text), words(middle, up + 13, below, 11)]
-    return [f'<rect x="{x}" y="{y}" width="{width}" height="{height}" rx="5" fill="{fill}" stroke="{INK}"{dash}/>', *lines]
+    return [f'<rect x="{x}" y="{y}" width="{width}" height="{height}" rx="5" fill="{SOFT}" stroke="{INK}"/>', *lines]
 
 
-def line(x1, y1, x2, y2, colour=LINE, dashed=False, arrow=""):
-    dash = ' stroke-dasharray="5 4"' if dashed else ""
-    return f'<line x1="{x1}" y1="{y1}" x2="{x2}" y2="{y2}" stroke="{colour}"{dash}{arrow}/>'
+def line(x1, y1, x2, y2, arrow=""):
+    return f'<line x1="{x1}" y1="{y1}" x2="{x2}" y2="{y2}" stroke="{LINE}"{arrow}/>'
 
 
 # ---- the crates
@@ -94,7 +91,7 @@ def crates_picture():
 
 
 def network_picture():
-    """Editors, the Update Centre, links, centres with their disks, callers. Dashed: still to come."""
+    """Editors, the Update Centre and centres with their disks, links, callers."""
     marker = (
         f'<defs><marker id="tip" viewBox="0 0 8 8" refX="7" refY="4" markerWidth="7" markerHeight="7" orient="auto-start-reverse">'
         f'<path d="M0 0 L8 4 L0 8 z" fill="{LINE}"/></marker></defs>'
@@ -107,21 +104,20 @@ def network_picture():
         body.append(line(310 + at * 150, 64, 330, 110, arrow=down))
     body.append(line(115, 64, 290, 110, arrow=down))
     body += box(220, 110, 200, 56, "Update Centre", "the one edit list")
-    body += box(470, 116, 110, 44, "disk", "its journal", dashed=True)
-    body.append(line(420, 138, 470, 138, dashed=True, arrow=both))
+    body += box(470, 116, 110, 44, "disk", "its journal")
+    body.append(line(420, 138, 470, 138, arrow=both))
     body.append(words(425, 183, "edits go down in numbered packets;", 12, "start"))
-    body.append(words(425, 199, "acknowledgements, charges, mail go up", 12, "start"))
+    body.append(words(425, 199, "acknowledgements go up", 12, "start"))
     for at in range(3):
         x = 30 + at * 215
         body += box(x, 260, 130, 56, f"centre {at}", "a prefix of the list")
         body.append(line(320, 166, x + 65, 260, arrow=both))
-        body += box(x + 145, 268, 52, 40, "disk", dashed=True)
-        body.append(line(x + 130, 288, x + 145, 288, dashed=True))
+        body += box(x + 145, 268, 52, 40, "disk")
+        body.append(line(x + 130, 288, x + 145, 288, arrow=both))
         for caller in range(2):
             body += box(x + caller * 72, 360, 62, 36, "caller")
             body.append(line(x + 65, 316, x + 31 + caller * 72, 360, arrow=both))
-    body.append(words(30, 430, "Solid: stands and is proved as one machine. Dashed: to come.", 12, "start"))
-    return svg(680, 444, body)
+    return svg(680, 416, body)
 
 
 PICTURES = {"docs/crates.svg": crates_picture, "docs/network.svg": network_picture}
