@@ -1,7 +1,7 @@
 -- The texts of lines, made of their parts.
 use Rattle.std.proofs.Common.{◌≡◌, ℕ, ◌+◌, List, [], ◌∷◌, ◌++◌, flat_map, codes, decimal, sym, ap, ◌∙◌, append_assoc}
 use Rattle.pv_gen.specs.Script.{page_lines, page_at_place}
-use Rattle.pv_gen.specs.Writing.{text_of}
+use Rattle.pv_gen.specs.Writing.{lines_text}
 
 -- a number at the end of its line, before other text
 ends : (number later : List ℕ) → number ++ 10 ∷ later ≡ (number ++ 10 ∷ []) ++ later
@@ -51,5 +51,5 @@ module _ (a b c d : List ℕ) where
   -- so the parts are the text of the lines
   pub page-text : (place price : ℕ) → a ≡ decimal (page_at_place place) → b ≡ decimal place → c ≡ decimal price → d ≡ decimal (place + 1)
       → flat_map (λ (part : List ℕ). part) (codes "edit 0 NEW " ∷ a ∷ codes "a\nedit 0 ROW 2 FRAME " ∷ b ∷ codes "\nedit 0 PRICE " ∷ c
-      ∷ codes "\nedit 0 STORE " ∷ d ∷ codes "\n" ∷ []) ≡ text_of (page_lines place price)
+      ∷ codes "\nedit 0 STORE " ∷ d ∷ codes "\n" ∷ []) ≡ lines_text (page_lines place price)
   page-text place price e f g h = rw (sym e, sym f, sym g, sym h) (ap (λ (l : List ℕ). codes "edit 0 NEW " ++ l) from_page)

@@ -2,7 +2,7 @@
 use Rattle.std.specs.Prelude.{ℕ, ◌+◌, ◌*◌, ◌%◌, List, [], ◌∷◌, ◌++◌, map, flat_map, codes, decimal}
 use Rattle.std.specs.List.{range_with_len}
 use Rattle.pv_gen.specs.Sequence.{output_at}
-use Rattle.pv_gen.specs.Writing.{line_text, text_of}
+use Rattle.pv_gen.specs.Writing.{line_text, lines_text}
 use Rattle.pv_gen.specs.declared.writing.TheConstants.{PAGE_BASE, PRICE_END, FETCHES}
 
 -- the operator logs on and makes an account for a caller
@@ -44,7 +44,7 @@ closing_lines = codes "hang 0 0" ∷ codes "crash 0" ∷ codes "crash u" ∷ cod
 
 -- the text of the page at a place, and of a fetch
 abbrev pub page_text : ℕ → ℕ → List ℕ
-page_text number place = text_of (page_lines place (price_at number place))
+page_text number place = lines_text (page_lines place (price_at number place))
 
 abbrev pub fetch_text : ℕ → ℕ → List ℕ
 fetch_text number fetch = line_text (fetch_line (fetched_at number fetch))
@@ -60,4 +60,4 @@ script_lines number =
 
 -- the script
 abbrev pub script_of : ℕ → List ℕ
-script_of number = text_of (script_lines number)
+script_of number = lines_text (script_lines number)

@@ -9,8 +9,8 @@ abbrev pub line_text : List ℕ → List ℕ
 line_text line = line ++ 10 ∷ []
 
 -- lines, one after another
-abbrev pub text_of : List (List ℕ) → List ℕ
-text_of lines = flat_map line_text lines
+abbrev pub lines_text : List (List ℕ) → List ℕ
+lines_text lines = flat_map line_text lines
 
 -- The text is appended, as far as the sink reports it; or a prefix of it is, perhaps none or all, and the count of faults rose.
 pub record AppendsOrFails {T : Type 0} (before now : Option (List ℕ)) (faults_before faults_now : ℕ)

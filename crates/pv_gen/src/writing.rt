@@ -2,7 +2,7 @@ ghost use Rattle.std.specs.Prelude.{◌≡◌, ◌+◌, ◌*◌, ◌≤◌, IfOk
 ghost use Rattle.std.specs.List.{range_with_len};
 ghost use Rattle.pv_gen.specs.Sequence.{state_at};
 ghost use Rattle.pv_gen.specs.Script.{page_lines, page_text, fetch_line, fetch_text, script_of};
-ghost use Rattle.pv_gen.specs.Writing.{AppendsOrFails, line_text, text_of};
+ghost use Rattle.pv_gen.specs.Writing.{AppendsOrFails, line_text, lines_text};
 ghost use Rattle.pv_gen.specs.declared.writing.TheConstants.{LAST_NUMBER, FETCHES};
 
 use crate::line::{put, put_all};
@@ -35,8 +35,8 @@ const CLOSING: &[u8] = b"hang 0 0\ncrash 0\ncrash u\ncarry 0\nbill 1000000001\n"
 pub fn script<K: Sink>(number: u32, out: &mut K) -> Result<(), Failed>
     requires some { 1 ≤ number }
     requires within { number ≤ LAST_NUMBER }
-    ensures { AppendsOrFails (K.written out.old) (K.written out.new) (K.write_faults out.old) (K.write_faults out.new) result
-        (script_of number) }
+    ensures { AppendsOrFails (K.written out.old) (K.written out.new) (K.write_faults out.old)
+        (K.write_faults out.new) result (script_of number) }
 {
     put(out, OPENING)?;
     let state = put_pages(number, out)?;
@@ -48,8 +48,8 @@ pub fn script<K: Sink>(number: u32, out: &mut K) -> Result<(), Failed>
 /// Writes the lines that make the pages, and returns the state of the sequence after them.
 fn put_pages<K: Sink>(number: u32, out: &mut K) -> Result<u32, Failed>
     requires within { number ≤ LAST_NUMBER }
-    ensures writes { AppendsOrFails (K.written out.old) (K.written out.new) (K.write_faults out.old) (K.write_faults out.new) result
-        (flat_map (page_text number) (range_with_len 1 number)) }
+    ensures writes { AppendsOrFails (K.written out.old) (K.written out.new) (K.write_faults out.old)
+        (K.write_faults out.new) result (flat_map (page_text number) (range_with_len 1 number)) }
     ensures state { IfOk result (λ state. state ≡ state_at number number) }
 {
     let mut state = number;
@@ -63,8 +63,8 @@ fn put_pages<K: Sink>(number: u32, out: &mut K) -> Result<u32, Failed>
 /// Writes the lines that make one page, with this price.
 fn put_page<K: Sink>(place: u32, price: u32, out: &mut K) -> Result<(), Failed>
     requires within { place ≤ LAST_NUMBER }
-    ensures { AppendsOrFails (K.written out.old) (K.written out.new) (K.write_faults out.old) (K.write_faults out.new) result
-        (text_of (page_lines place price)) }
+    ensures { AppendsOrFails (K.written out.old) (K.written out.new) (K.write_faults out.old)
+        (K.write_faults out.new) result (lines_text (page_lines place price)) }
 {
     put_all(
         out,
@@ -87,8 +87,8 @@ fn put_fetches<K: Sink>(number: u32, first: u32, out: &mut K) -> Result<(), Fail
     requires some { 1 ≤ number }
     requires within { number ≤ LAST_NUMBER }
     requires first { first ≡ state_at number number }
-    ensures { AppendsOrFails (K.written out.old) (K.written out.new) (K.write_faults out.old) (K.write_faults out.new) result
-        (flat_map (fetch_text number) (range_with_len 1 (FETCHES * number))) }
+    ensures { AppendsOrFails (K.written out.old) (K.written out.new) (K.write_faults out.old)
+        (K.write_faults out.new) result (flat_map (fetch_text number) (range_with_len 1 (FETCHES * number))) }
 {
     let mut state = first;
     for made in 0..FETCHES * number {
@@ -101,8 +101,8 @@ fn put_fetches<K: Sink>(number: u32, first: u32, out: &mut K) -> Result<(), Fail
 /// Writes the line that fetches the page at a place.
 fn put_fetch<K: Sink>(place: u32, out: &mut K) -> Result<(), Failed>
     requires within { place ≤ LAST_NUMBER }
-    ensures { AppendsOrFails (K.written out.old) (K.written out.new) (K.write_faults out.old) (K.write_faults out.new) result
-        (line_text (fetch_line place)) }
+    ensures { AppendsOrFails (K.written out.old) (K.written out.new) (K.write_faults out.old)
+        (K.write_faults out.new) result (line_text (fetch_line place)) }
 {
     put_all(
         out,

@@ -85,9 +85,11 @@ impl<
       maker = d.maker;
     } };
 
-    ghost invariant = { λ d. IsDesk R.Rules D.Reports N.limits N.opening d.node d.known d.told.total d.failed.total
+    ghost invariant = { λ d. IsDesk R.Rules D.Reports N.limits N.opening d.node d.known d.told.total
+        d.failed.total
         × (fold T.applied (T.state (shown d.writer)) (waiting_changes (pending d.writer) d.kept) ≡ d.known)
-        × (d.no_told.parts ≡ 0) × (d.no_told.amount ≡ 0) × (d.no_failed.parts ≡ 0) × (d.no_failed.amount ≡ 0) };
+        × (d.no_told.parts ≡ 0) × (d.no_told.amount ≡ 0)
+        × (d.no_failed.parts ≡ 0) × (d.no_failed.amount ≡ 0) };
 }
 
 /// Hands the kept change to the writer, and returns whether there is none now.

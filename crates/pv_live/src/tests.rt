@@ -34,7 +34,8 @@ type Udc = Node<UdcRules, MemDisk>;
 /// A fresh Update Centre, of whose disk the calls of these numbers fail. The first seven are those of the
 /// formatting and the opening.
 fn fresh(alloc: Global, fails: &[u64]) -> Result<Udc, Fail>
-    ensures stands { IfOk result (λ node. StandsFor ⟦<UdcRules as Rules>⟧ ⟦<MemDisk as Reports>⟧ node node.state.records) }
+    ensures stands { IfOk result
+        (λ node. StandsFor ⟦<UdcRules as Rules>⟧ ⟦<MemDisk as Reports>⟧ node node.state.records) }
     ensures rest { IfOk result (λ node. node.hand ≡ None) }
 {
     let mut disk = MemDisk::new(alloc, 2_000_000, fails)?;

@@ -21,7 +21,7 @@ use Rattle.pv_nodes.specs.Below.{records_below}
 use Rattle.pv_udc.specs.EditList.{EditList}
 use Rattle.pv_udc.specs.Replies.{down_of, down_of_item}
 use Rattle.pv_udc.proofs.CallerLemmas.{has_room-judged}
-use Rattle.pv_network.specs.Centre.{Arrival, Centre, with_next, record_count, arrival_of, centre_after, asked_of, reply_to_arrival, state_of_prefix, node_state}
+use Rattle.pv_network.specs.Centre.{Arrival, Centre, with_next, record_count, arrival_of, centre_with_arrival, asked_of, reply_to_arrival, state_of_prefix, node_state}
 use Rattle.pv_network.specs.Run.{IsRun}
 use Rattle.pv_network.specs.Sound.{CarriesRecord}
 
@@ -103,7 +103,7 @@ module _ (room_below : (limits : Limits) (records : List Record) (edit : Record)
 
   -- the reply, and what the node knows afterwards
   abbrev Arrives : Type 0
-  Arrives = asked_of state (Apply number rec) ≡ (reply_to_arrival arrival centre, node_state c u (centre_after arrival centre))
+  Arrives = asked_of state (Apply number rec) ≡ (reply_to_arrival arrival centre, node_state c u (centre_with_arrival arrival centre))
 
   module _ (next : number ≡ centre.applied) where
     -- the list has the record at the centre's count

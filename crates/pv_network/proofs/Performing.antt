@@ -33,7 +33,7 @@ use Rattle.pv_network.specs.declared.outcome.Outcome.{Outcome}
 use Rattle.pv_udc.specs.declared.request.UdcRequest.TheVariants.{Edit}
 use Rattle.pv_editor.specs.Replies.{reply_of}
 use Rattle.pv_editor.specs.declared.replies.UdcReplyView.{UdcReplyView}
-use Rattle.pv_network.specs.Centre.{Arrival, Centre, CentreStands, Held, Asked, new_centre, arrival_of, with_next, record_count, centre_after, asked_of, reply_to_arrival, node_state}
+use Rattle.pv_network.specs.Centre.{Arrival, Centre, CentreStands, Held, Asked, new_centre, arrival_of, with_next, record_count, centre_with_arrival, asked_of, reply_to_arrival, node_state}
 use Rattle.pv_network.specs.Link.{Link, link_in, is_packets_full, packet_of, with_packet, delivery_of, with_acknowledgement, heard_count, heard_link}
 use Rattle.pv_network.specs.Sound.{CarriesRecord, IsGenuine, IsSound}
 use Rattle.pv_network.specs.Standing.{State, StandsFor}
@@ -197,7 +197,7 @@ module _ (s : State) (w : World) (stands : StandsFor s w) (c : ℕ) where
 
         -- what comes of it
         comes : asked_of here.node.state (Apply delivery.number delivery.rec)
-            ≡ (reply_to_arrival arrival (centre_at w c), node_state c w.update (centre_after arrival (centre_at w c)))
+            ≡ (reply_to_arrival arrival (centre_at w c), node_state c w.update (centre_with_arrival arrival (centre_at w c)))
         comes = ap (λ state. asked_of state (Apply delivery.number delivery.rec)) stood.state
             ∙ arrives room_below c w.update stands.sound.law.run (centre_at w c) stood.within delivery.number delivery.rec genuine
 
@@ -209,19 +209,19 @@ module _ (s : State) (w : World) (stands : StandsFor s w) (c : ℕ) where
         pub arrived : StandsFor (record s { centres = set s.centres c new }) (world_after w c arrival)
         arrived = by arrival refl
           where
-            knows : new.node.state ≡ node_state c w.update (centre_after arrival (centre_at w c))
+            knows : new.node.state ≡ node_state c w.update (centre_with_arrival arrival (centre_at w c))
             knows = asked.state ∙ ap (λ (done : Result IrcReply ℕ × CentreState). done.1) comes
 
-            follows : (how : Arrival) → arrival ≡ how → (centre_after how (centre_at w c)).applied ≤ length w.update.records
-                → CentreStands w.update c new (centre_after how (centre_at w c))
+            follows : (how : Arrival) → arrival ≡ how → (centre_with_arrival how (centre_at w c)).applied ≤ length w.update.records
+                → CentreStands w.update c new (centre_with_arrival how (centre_at w c))
             follows how is within = record {
               within = within;
-              state = knows ∙ ap (λ (a : Arrival). node_state c w.update (centre_after a (centre_at w c))) is;
+              state = knows ∙ ap (λ (a : Arrival). node_state c w.update (centre_with_arrival a (centre_at w c))) is;
               on_disk = asked.on_disk;
               ports = asked.ports ∙ stood.ports ∙ ap (λ (calls : Calls). calls.ports) (same_calls how);
             }
               where
-                same_calls : (a : Arrival) → (centre_at w c).calls ≡ (centre_after a (centre_at w c)).calls
+                same_calls : (a : Arrival) → (centre_at w c).calls ≡ (centre_with_arrival a (centre_at w c)).calls
                 same_calls arrivals.Taken = refl
                 same_calls arrivals.Old = refl
                 same_calls arrivals.Early = refl

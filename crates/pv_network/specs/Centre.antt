@@ -52,9 +52,9 @@ arrival_of applied count limit number = if number == applied then (if nat_le lim
     else (if nat_lt number applied then Old else Early)
 
 -- a centre after an arrival
-abbrev pub centre_after : Arrival → Centre → Centre
-centre_after Taken centre = with_next centre
-centre_after _ centre = centre
+abbrev pub centre_with_arrival : Arrival → Centre → Centre
+centre_with_arrival Taken centre = with_next centre
+centre_with_arrival _ centre = centre
 
 -- ---- what the code shows of a centre
 

@@ -17,7 +17,7 @@ AskNoScript words = AskNot (codes "gen") LAST_NUMBER words
 
 -- What was written of a number's script, by the status that it ended with: all of it, or a prefix if the output failed. It ends
 -- in no other way.
-abbrev pub IsGenerated : ℕ → Option (List ℕ) → Option (List ℕ) → Status → Type 0
-IsGenerated number before now Done = Appends before now (script_of number)
-IsGenerated number before now WriteFault = (count : ℕ) × Appends before now (take count (script_of number))
-IsGenerated number before now _ = ⊥
+abbrev pub WritesScript : ℕ → Option (List ℕ) → Option (List ℕ) → Status → Type 0
+WritesScript number before now Done = Appends before now (script_of number)
+WritesScript number before now WriteFault = (count : ℕ) × Appends before now (take count (script_of number))
+WritesScript number before now _ = ⊥

@@ -1,6 +1,6 @@
 ghost use Rattle.std.specs.Prelude.{◌≡◌, ℕ, ◌≤◌, ◌↔◌, map, string_bytes};
 ghost use Rattle.pv_outside.specs.Counts.{Rose};
-ghost use Rattle.pv_script.specs.Generating.{AskToGenerate, AskNoScript, IsGenerated};
+ghost use Rattle.pv_script.specs.Generating.{AskToGenerate, AskNoScript, WritesScript};
 
 use crate::asking::number_asked;
 use pv_gen::{LAST_NUMBER, script};
@@ -10,7 +10,7 @@ use pv_outside::{Failed, Sink, Status};
 pub fn generate<K: Sink>(words: &[String], out: &mut K) -> Status
     // If they ask for a script, it is written whole; or a prefix of it, if the output failed.
     ensures generates { (number : ℕ) → AskToGenerate (map string_bytes words.now) number
-        → IsGenerated number (K.written out.old) (K.written out.new) result }
+        → WritesScript number (K.written out.old) (K.written out.new) result }
 
     // The words are refused exactly when they ask for no script, and then nothing is written.
     ensures usage { (result ≡ Status.Usage) ↔ AskNoScript (map string_bytes words.now) }

@@ -1,7 +1,7 @@
 use Rattle.std.proofs.Common.{◌≡◌, ℕ, ◌+◌, ◌%◌, refl, sym, ap}
 use Rattle.pv_gen.specs.Script.{page_lines, page_text}
 use Rattle.pv_gen.specs.Sequence.{output_at}
-use Rattle.pv_gen.specs.Writing.{text_of}
+use Rattle.pv_gen.specs.Writing.{lines_text}
 use Rattle.pv_gen.specs.declared.writing.TheConstants.{PRICE_END}
 use Rattle.pv_gen.proofs.Blocks.{later_blocks, blocks-more}
 use Rattle.pv_gen.proofs.Steps.{state-next, output-next}
@@ -10,8 +10,8 @@ use Rattle.pv_gen.proofs.writing.put_pages.Goals as goal
 
 -- the text of a page whose price is of this output
 priced : (number place : ℕ) {output : ℕ} → output ≡ output_at number place
-    → page_text number place ≡ text_of (page_lines place (output % PRICE_END))
-priced number place is = ap (λ (o : ℕ). text_of (page_lines place (o % PRICE_END))) (sym is)
+    → page_text number place ≡ lines_text (page_lines place (output % PRICE_END))
+priced number place is = ap (λ (o : ℕ). lines_text (page_lines place (o % PRICE_END))) (sym is)
 
 pub loop-made-init : goal.loop-made-init
 loop-made-init g c = record { written = wrote-none; state = refl }

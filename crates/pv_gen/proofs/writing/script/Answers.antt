@@ -1,6 +1,6 @@
 use Rattle.std.proofs.Common.{refl}
 use Rattle.pv_gen.specs.Script.{closing_lines}
-use Rattle.pv_gen.specs.Writing.{text_of}
+use Rattle.pv_gen.specs.Writing.{lines_text}
 use Rattle.pv_gen.proofs.Whole.{after_call, after_pages, after_opening, closing_apart, call_apart, pages_apart, opening_apart}
 use Rattle.pv_gen.proofs.Writes.{wrote-none, wrote-more, wrote-last, fails-after}
 use Rattle.pv_gen.proofs.writing.script.Goals as goal
@@ -29,7 +29,7 @@ returns-in_err-put_fetches g c =
     let opening = wrote-more refl wrote-none c.in_ok-put.ensures in
     let pages = wrote-more refl opening c.in_ok-state.ensures.writes in
     let call = wrote-more refl pages c.in_ok-put-2.ensures in
-    fails-after c.from_residual-in_err-put_fetches.result (text_of closing_lines) c.from_residual-in_err-put_fetches.ensures.0
+    fails-after c.from_residual-in_err-put_fetches.result (lines_text closing_lines) c.from_residual-in_err-put_fetches.ensures.0
     (closing_apart c.args.number) call c.in_err-put_fetches.ensures
 
 -- all was written, unless the last part failed
