@@ -26,7 +26,8 @@ all_flushed (Some x) None buffer kept none = absurd kept
 all_flushed (Some x) (Some y) buffer kept none = sym (append-nil y) ∙ ap (λ (l : List ℕ). y ++ l) (sym none) ∙ kept
 
 -- a text that was written whole is a prefix of itself, and stays so
-pub whole_is_prefix : (a b c : Option (List ℕ)) (text : List ℕ) → Appends a b text → Keeps b c → (count : ℕ) × Appends a c (take count text)
+pub whole_is_prefix : (a b c : Option (List ℕ)) (text : List ℕ) → Appends a b text → Keeps b c
+    → (count : ℕ) × Appends a c (take count text)
 whole_is_prefix a b c text written kept = (length text, subst (λ (l : List ℕ). Appends a c l) (sym (take-length text)) (Appends-kept a b c text written kept))
 
 module _ (centres : ℕ) (first : World) (a b c : Option (List ℕ)) (kept : Keeps b c) where
@@ -35,19 +36,23 @@ module _ (centres : ℕ) (first : World) (a b c : Option (List ℕ)) (kept : Kee
   transcript_kept lines t = record { runs = t.runs; read = t.read; written = Appends-kept a b c _ t.written kept }
 
   -- the answers before a bad line stay written
-  bad_line_kept : (text : List ℕ) (number : ℕ) → StopsAtBadLine centres first text number a b → StopsAtBadLine centres first text number a c
-  bad_line_kept text number p = record { run = p.run; bad = p.bad; later = p.later; lines = p.lines; place = p.place; none = p.none; transcript = transcript_kept p.run p.transcript }
+  bad_line_kept : (text : List ℕ) (number : ℕ) → StopsAtBadLine centres first text number a b
+      → StopsAtBadLine centres first text number a c
+  bad_line_kept text number p = record { run = p.run; bad = p.bad; later = p.later;
+      lines = p.lines; place = p.place; none = p.none; transcript = transcript_kept p.run p.transcript }
 
   -- a prefix of the answers stays written
   in_answers_kept : (text : List ℕ) → StopsInAnswers centres first text a b → StopsInAnswers centres first text a c
-  in_answers_kept text p = record { run = p.run; later = p.later; runs = p.runs; lines = p.lines; read = p.read; count = p.count; written = Appends-kept a b c _ p.written kept }
+  in_answers_kept text p = record { run = p.run; later = p.later; runs = p.runs; lines = p.lines; read = p.read; count = p.count;
+      written = Appends-kept a b c _ p.written kept }
 
   -- the answers of the first lines stay written
   after_line_kept : (text : List ℕ) → StopsAfterLine centres first text a b → StopsAfterLine centres first text a c
   after_line_kept text p = record { run = p.run; later = p.later; lines = p.lines; transcript = transcript_kept p.run p.transcript }
 
   -- the answers of the first lines are a prefix of all, and stay so
-  transcript_is_prefix : (text : List ℕ) (run later : List (List ℕ)) → lines_of text ≡ run ++ later → IsTranscript centres first run a b → StopsInAnswers centres first text a c
+  transcript_is_prefix : (text : List ℕ) (run later : List (List ℕ)) → lines_of text ≡ run ++ later
+      → IsTranscript centres first run a b → StopsInAnswers centres first text a c
   transcript_is_prefix text run later lines t =
       let prefix = whole_is_prefix a b c (answers first t.runs) t.written kept in
       record { run = run; later = later; runs = t.runs; lines = lines; read = t.read; count = prefix.0; written = prefix.1 }
@@ -60,14 +65,16 @@ some_network None P is = absurd is
 some_network (Some n) P is = (n, is)
 
 -- the bytes were flushed, or the faults rose, at the latest now
-which : {T E : Type 0} (flush : Result T E) (buffer : List ℕ) (before mid now : ℕ) → OnOk flush (buffer ≡ []) → (IsErr flush → Rose mid now) → before ≤ mid → (buffer ≡ []) ⊎ Rose before now
+which : {T E : Type 0} (flush : Result T E) (buffer : List ℕ) (before mid now : ℕ) → OnOk flush (buffer ≡ []) → (IsErr flush → Rose mid now)
+    → before ≤ mid → (buffer ≡ []) ⊎ Rose before now
 which (Ok done) buffer before mid now none rose counted = inl none
 which (Err failed) buffer before mid now none rose counted = inr (let more = rose refl in omega (arith, more, counted))
 
 module _ {W : Type 0} (contents : W → Option (List ℕ)) (centres : ℕ) (first : World) (text : List ℕ) (network : Option State) (left : Option (List ℕ)) (ended : Bool)
     (before mid now : StandardOutput W) (kept : Keeps (written_bytes contents mid) (written_bytes contents now)) where
   -- the buffer was flushed: the run ended as its play did
-  pub flushed : (status : Status) → IsPlayOf centres first text network left ended (written_bytes contents before) (written_bytes contents mid) status → buffered_bytes now ≡ []
+  pub flushed : (status : Status) → IsPlayOf centres first text network left ended (written_bytes contents before) (written_bytes contents mid) status
+      → buffered_bytes now ≡ []
       → IsRunOf contents centres first text left ended before now status
   flushed Done p none =
       let n = some_network network _ p.1 in

@@ -1,4 +1,5 @@
 mod calls;
+mod charges;
 mod generated;
 
 use crate::about::About;

@@ -43,6 +43,7 @@ mod word;
 pub use change::FrameChange;
 pub use digit::RouteDigit;
 pub use line::EditLine;
+pub use parts::AccountText;
 pub use reading::{LONGEST_LINE, line_of};
 pub use replies::{UdcReplyView, closing_text, reply_text};
 pub use responses::responses_text;

@@ -9,9 +9,9 @@ use pv_frame::{FieldKind, Kind};
 use pv_page::{FrameName, PageNo};
 use pv_words::Reader;
 
-/// The part that is the number of an account.
-#[derive(Clone, Copy)]
-pub(crate) struct AccountText;
+/// The part that is the number of an account, in ten digits.
+#[derive(Clone, Copy, Debug)]
+pub struct AccountText;
 
 impl<'a> Reader<'a> for AccountText {
     type Value = AccountNo;

@@ -1,7 +1,9 @@
 -- What a proof in a crate above may cite: records are read as they are spelled, how long they are, and what one record more does to a list.
+pub use Rattle.pv_edits.proofs.Accounts.{account_stays, accounts-within, accounts_few}
 pub use Rattle.pv_edits.proofs.Counting.{frame_count-push, account_count-push, lease_count-push}
 pub use Rattle.pv_edits.proofs.Growing.{last_of-push, has_operator}
 pub use Rattle.pv_edits.proofs.Lengths.{length-item, length-record, length-down}
+pub use Rattle.pv_edits.proofs.LastIndex.{get_before, get_at_end}
 pub use Rattle.pv_edits.proofs.LastRecord.{last_record-push, has_last-push}
 use Rattle.std.proofs.Common.{◌≡◌, ℕ, zero, suc, List, [], ◌++◌, Some, Result, Ok, Err, refl, ap, lit<, arith}
 use Rattle.std.specs.Result.{result_ok}

@@ -38,7 +38,7 @@ module _ (records : List Record) (places : List ℕ) (edit : Record) (place edit
 -- ---- the operator's account
 
 -- a record of an account makes one
-makes_account : (number : ℕ) (edit : Record) → makes number edit ≡ true → is_some (account_in edit) ≡ true
+pub makes_account : (number : ℕ) (edit : Record) → makes number edit ≡ true → is_some (account_in edit) ≡ true
 makes_account number (Put e q n f) is = absurd cc
 makes_account number (Drop e q n) is = absurd cc
 makes_account number (Account e q a) is = refl

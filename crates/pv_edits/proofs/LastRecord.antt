@@ -1,5 +1,5 @@
 -- The last record that passes a test, with one record more.
-use Rattle.std.proofs.Common.{◌≡◌, Bool, true, false, List, [], ◌∷◌, ◌++◌, length, Option, Some, None, refl, ap, ◌∙◌}
+use Rattle.std.proofs.Common.{◌≡◌, Bool, true, false, List, [], ◌∷◌, ◌++◌, length, Option, Some, None, refl}
 use Rattle.std.specs.Prelude.{is_some, slice_get, if◌then◌else◌}
 use Rattle.pv_fields.specs.Reading.{◌>>=◌}
 use Rattle.pv_edits.specs.declared.record.Record.{Record}

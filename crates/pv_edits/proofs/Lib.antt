@@ -1,3 +1,4 @@
+mod Accounts
 pub mod CallerLemmas
 mod Chains
 mod Counting

@@ -9,3 +9,4 @@ pub mod Sight
 pub mod Room
 pub mod Standing
 pub mod Keeping
+pub mod Letters

@@ -1,4 +1,6 @@
 mod Applying
+mod Delivering
 mod Facts
 mod Numbering
 mod OneSpelling
+mod Placing

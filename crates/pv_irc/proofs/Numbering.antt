@@ -1,5 +1,5 @@
 -- In a list that a centre stored, what was applied has the places 0, 1, 2 and on.
-use Rattle.std.proofs.Common.{◌≡◌, ℕ, zero, suc, ◌+◌, ◌<◌, ◌≤◌, List, [], ◌∷◌, ◌++◌, length, Option, None, refl, ap, sym, subst, ◌∙◌, append_assoc, append-nil, arith}
+use Rattle.std.proofs.Common.{◌≡◌, ℕ, zero, suc, ◌+◌, ◌≤◌, List, [], ◌∷◌, ◌++◌, length, None, refl, ap, sym, subst, ◌∙◌, append_assoc, append-nil, arith}
 use Rattle.std.specs.List.{range_with_len}
 use Rattle.std.proofs.lemmas.Bool.{ltb-false}
 use Rattle.std.proofs.lemmas.List.{length-append}
@@ -7,18 +7,19 @@ use Rattle.std.proofs.lemmas.List.Elements.{filter_map-append}
 use Rattle.pv_outside.specs.declared.limits.Limits.{Limits}
 use Rattle.pv_fields.specs.Refusals.{first_of}
 use Rattle.pv_fields.proofs.CallerLemmas.{some_if-none, all_missing}
+use Rattle.pv_post.specs.Boxes.{has_letter}
 use Rattle.pv_edits.specs.declared.down.DownRecord.{DownRecord}
 use Rattle.pv_node.specs.declared.decision.Decision.TheVariants.{Store}
-use Rattle.pv_irc.specs.History.{applied_in, applied_records, applied_of, CentreState, centre_state_of}
+use Rattle.pv_irc.specs.History.{applied_in, applied_records, applied_of, CentreState, centre_state_of, letters_for}
 use Rattle.pv_irc.specs.Deciding.{reasons_against, centre_judgement}
 use Rattle.pv_irc.specs.Numbers.{IsCentreRun, place_in, applied_places, first_places}
-use Rattle.pv_irc.specs.Ruling.{is_applied, stored_or}
+use Rattle.pv_irc.specs.Ruling.{is_applied, is_removed, stored_or}
 use Rattle.pv_irc.specs.declared.record.CentreRecord.{CentreRecord}
 use Rattle.pv_irc.specs.declared.record.CentreRecord.TheVariants as records
 use Rattle.pv_irc.specs.declared.reply.IrcReply.{IrcReply}
 use Rattle.pv_irc.specs.declared.reply.IrcReply.TheVariants.{Old, Early}
 use Rattle.pv_irc.specs.declared.request.IrcRequest.{IrcRequest}
-use Rattle.pv_irc.specs.declared.request.IrcRequest.TheVariants.{Apply, LogOn, Keep}
+use Rattle.pv_irc.specs.declared.request.IrcRequest.TheVariants.{Apply, LogOn, Keep, Remove}
 
 -- one place more
 range_with_len-push : (a n : ℕ) → range_with_len a (suc n) ≡ range_with_len a n ++ (a + n) ∷ []
@@ -74,6 +75,10 @@ module _ (centre : ℕ) (limits : Limits) where
       subst (λ r. Counts (before ++ r ∷ [])) (ap (stored_or rec) is) (others before (records.LogOn account) refl refl counts)
   one_more before rec (Keep item) reply is counts =
       subst (λ r. Counts (before ++ r ∷ [])) (ap (stored_or rec) is) (others before (records.Kept item) refl refl counts)
+  one_more before rec (Remove account number) reply is counts =
+      let waits = has_letter (letters_for (centre_state_of centre limits before) account) number in
+      subst (λ r. Counts (before ++ r ∷ [])) (is_removed waits account number rec reply is)
+      (others before (records.Removed account number) refl refl counts)
 
   -- and so on to the end of the list
   on : (before later stored : List CentreRecord) → stored ≡ before ++ later → IsCentreRun centre limits stored → Counts before → Counts stored

@@ -6,7 +6,7 @@ use Rattle.pv_node.specs.declared.decision.Decision.TheVariants.{Store}
 use Rattle.pv_irc.specs.History.{centre_state_of}
 use Rattle.pv_irc.specs.Deciding.{centre_judgement}
 use Rattle.pv_irc.specs.declared.record.CentreRecord.{CentreRecord}
-use Rattle.pv_irc.specs.declared.record.CentreRecord.TheVariants.{Applied, LogOn, Kept}
+use Rattle.pv_irc.specs.declared.record.CentreRecord.TheVariants.{Applied, LogOn, Kept, Removed}
 use Rattle.pv_irc.specs.declared.reply.IrcReply.{IrcReply}
 use Rattle.pv_irc.specs.declared.request.IrcRequest.{IrcRequest}
 
@@ -25,6 +25,7 @@ abbrev pub place_in : CentreRecord → Option ℕ
 place_in (Applied n rec) = Some n
 place_in (LogOn account) = None
 place_in (Kept item) = None
+place_in (Removed account number) = None
 
 -- the places of all that was applied, in the order of the list
 abbrev pub applied_places : List CentreRecord → List ℕ

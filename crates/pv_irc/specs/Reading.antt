@@ -5,7 +5,7 @@ use Rattle.pv_fields.specs.Reading.{IsBytes, ReadsLast, ◌>>=◌, whole, rest_a
 use Rattle.pv_fields.proofs.Readings.{Reads-eight, ◌&◌, at_end, Reads-cases, FindsCase, finds_none, finds_case, case_again, Reads-whole}
 use Rattle.pv_page.proofs.Spellings.{Reads-account}
 use Rattle.pv_post.proofs.CallerLemmas.{Reads-item}
-use Rattle.pv_edits.specs.Record.{record_tag, record_body, record_bytes, record_after, record_at}
+use Rattle.pv_edits.specs.Record.{record_tag, record_bytes, record_after, record_at}
 use Rattle.pv_edits.specs.Down.{IsDown, down_bytes}
 use Rattle.pv_edits.specs.declared.record.Record.{Record}
 use Rattle.pv_edits.specs.declared.record.Record.TheVariants.{Put, Drop, Account, Lease, Taken}
@@ -13,9 +13,9 @@ use Rattle.pv_edits.specs.declared.down.DownRecord.{DownRecord}
 use Rattle.pv_edits.specs.declared.down.DownRecord.TheVariants.{Whole, Blank}
 use Rattle.pv_edits.specs.declared.down.TheConstants.{BLANK_TAG}
 use Rattle.pv_edits.proofs.CallerLemmas.{Reads-record}
-use Rattle.pv_irc.specs.Record.{IsCentreRecord, applied_bytes, centre_tag, centre_body, centre_bytes, down_after, down_at, down_at_end, applied_at, centre_after, centre_record_at}
+use Rattle.pv_irc.specs.Record.{IsCentreRecord, applied_bytes, centre_tag, centre_body, centre_bytes, down_at, down_at_end, applied_at, removed_bytes, removed_at, centre_after, centre_record_at}
 use Rattle.pv_irc.specs.declared.record.CentreRecord.{CentreRecord}
-use Rattle.pv_irc.specs.declared.record.CentreRecord.TheVariants.{Applied, LogOn, Kept}
+use Rattle.pv_irc.specs.declared.record.CentreRecord.TheVariants.{Applied, LogOn, Kept, Removed}
 
 -- ---- what came down
 
@@ -91,21 +91,25 @@ down_is_read bytes down has is =
 
 -- what is found after each tag
 finds : (tag : ℕ) → FindsCase IsCentreRecord centre_tag centre_body tag (centre_after tag)
-unfolding applied_at applied_bytes
+unfolding applied_at applied_bytes removed_at removed_bytes
 finds zero = finds_none 0
 finds (suc zero) = finds_case (λ x. Applied x.0 x.1) 1 (Reads-eight & Reads-down_end) (λ x h. (((h.0, h.1), refl), refl))
 finds (suc (suc zero)) = finds_case LogOn 2 (at_end Reads-account) (λ account has. ((has, refl), refl))
 finds (suc (suc (suc zero))) = finds_case Kept 3 (at_end Reads-item) (λ item has. ((has, refl), refl))
-finds (suc (suc (suc (suc other)))) = finds_none (suc (suc (suc (suc other))))
+finds (suc (suc (suc (suc zero)))) =
+    finds_case (λ x. Removed x.0 x.1) 4 (at_end (Reads-account & Reads-eight)) (λ x h. (((h.0, h.1), refl), refl))
+finds (suc (suc (suc (suc (suc other))))) = finds_none (suc (suc (suc (suc (suc other)))))
 
 -- each record is found after its tag
 again : (rec : CentreRecord) (rest : List ℕ) → rest ≡ [] → IsCentreRecord rec
     → centre_after (centre_tag rec) (centre_body rec ++ rest) ≡ Some (rec, rest)
-unfolding applied_at applied_bytes
+unfolding applied_at applied_bytes removed_at removed_bytes
 again (Applied n rec) rest ends has =
     case_again (λ x. Applied x.0 x.1) (Reads-eight & Reads-down_end) (n, rec) rest ends (has.0, has.1)
 again (LogOn account) rest ends has = case_again LogOn (at_end Reads-account) account rest ends has
 again (Kept item) rest ends has = case_again Kept (at_end Reads-item) item rest ends has
+again (Removed account number) rest ends has =
+    case_again (λ x. Removed x.0 x.1) (at_end (Reads-account & Reads-eight)) (account, number) rest ends (has.0, has.1)
 
 -- a record, at the end
 pub Reads-centre : ReadsLast IsCentreRecord centre_bytes centre_record_at

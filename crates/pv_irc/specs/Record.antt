@@ -11,13 +11,14 @@ use Rattle.pv_edits.specs.declared.down.DownRecord.{DownRecord}
 use Rattle.pv_edits.specs.declared.down.DownRecord.TheVariants.{Whole, Blank}
 use Rattle.pv_edits.specs.declared.down.TheConstants.{BLANK_TAG}
 use Rattle.pv_irc.specs.declared.record.CentreRecord.{CentreRecord}
-use Rattle.pv_irc.specs.declared.record.CentreRecord.TheVariants.{Applied, LogOn, Kept}
+use Rattle.pv_irc.specs.declared.record.CentreRecord.TheVariants.{Applied, LogOn, Kept, Removed}
 
 -- each part of the record is within its range
 abbrev pub IsCentreRecord : CentreRecord → Type 0
 IsCentreRecord (Applied n rec) = (n < 2 ^ 64) × IsDown rec
 IsCentreRecord (LogOn account) = IsAccount account
 IsCentreRecord (Kept item) = IsItem item
+IsCentreRecord (Removed account number) = IsAccount account × (number < 2 ^ 64)
 
 -- ---- how it is spelled
 
@@ -25,17 +26,23 @@ IsCentreRecord (Kept item) = IsItem item
 unfoldable pub applied_bytes : ℕ → DownRecord → List ℕ
 applied_bytes n rec = to_be_bytes w64 n ++ down_bytes rec
 
+-- what a Removed has: whose letter was removed, and its number
+unfoldable pub removed_bytes : ℕ → ℕ → List ℕ
+removed_bytes account number = account_bytes account ++ to_be_bytes w64 number
+
 -- the first byte, which says what the record is
 abbrev pub centre_tag : CentreRecord → ℕ
 centre_tag (Applied n rec) = 1
 centre_tag (LogOn account) = 2
 centre_tag (Kept item) = 3
+centre_tag (Removed account number) = 4
 
 -- the other bytes
 abbrev pub centre_body : CentreRecord → List ℕ
 centre_body (Applied n rec) = applied_bytes n rec
 centre_body (LogOn account) = account_bytes account
 centre_body (Kept item) = item_bytes item
+centre_body (Removed account number) = removed_bytes account number
 
 -- its spelling: the tag, and the other bytes
 unfoldable pub centre_bytes : CentreRecord → List ℕ
@@ -59,13 +66,18 @@ down_at_end = rest_at (whole down_at)
 unfoldable pub applied_at : Parser CentreRecord
 applied_at = map_at (λ x. Applied x.0 x.1) (number_at w64 ⊗ down_at_end)
 
+-- a Removed
+unfoldable pub removed_at : Parser CentreRecord
+removed_at = map_at (λ x. Removed x.0 x.1) (account_at ⊗ number_at w64)
+
 -- how the other bytes are read after a tag
 abbrev pub centre_after : ℕ → Parser CentreRecord
 centre_after zero = nothing_at
 centre_after (suc zero) = applied_at
 centre_after (suc (suc zero)) = map_at LogOn account_at
 centre_after (suc (suc (suc zero))) = map_at Kept item_at
-centre_after (suc (suc (suc (suc other)))) = nothing_at
+centre_after (suc (suc (suc (suc zero)))) = removed_at
+centre_after (suc (suc (suc (suc (suc other))))) = nothing_at
 
 -- the record that bytes begin with
 unfoldable pub centre_record_at : Parser CentreRecord

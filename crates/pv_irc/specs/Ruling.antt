@@ -1,16 +1,15 @@
 -- The laws of a centre's rules.
-use Rattle.std.proofs.Common.{◌≡◌, ℕ, suc, ◌+◌, ◌<◌, ◌≤◌, Bool, true, false, not, List, [], ◌∷◌, ◌++◌, length, Option, Some, None, refl, ap, sym, subst, ◌∙◌, arith}
-use Rattle.std.proofs.lemmas.List.{length-append}
-use Rattle.pv_outside.specs.declared.limits.Limits.{Limits}
+use Rattle.std.proofs.Common.{◌≡◌, ℕ, ◌+◌, Bool, true, false, not, List, [], ◌∷◌, ◌++◌, length, Option, Some, None, refl, ap, sym, subst, ◌∙◌}
 use Rattle.pv_fields.specs.Refusals.{first_of}
 use Rattle.pv_fields.proofs.CallerLemmas.{all_missing, some_if-none}
 use Rattle.pv_journal.specs.Text.{IsBody}
+use Rattle.pv_post.specs.Boxes.{has_letter}
 use Rattle.pv_edits.specs.declared.down.DownRecord.{DownRecord}
 use Rattle.pv_node.specs.declared.decision.Decision.{Decision}
 use Rattle.pv_node.specs.declared.decision.Decision.TheVariants.{Answer, Store}
 use Rattle.pv_irc.specs.Record.{IsCentreRecord, centre_bytes, centre_record_at}
-use Rattle.pv_irc.specs.History.{CentreState, centre_state_of, state_count, with_centre_record}
-use Rattle.pv_irc.specs.Deciding.{IsCentreRequest, down_fits, centre_has_room, reasons_against, applied_unless, centre_judgement}
+use Rattle.pv_irc.specs.History.{CentreState, centre_state_of, letters_for, state_count, with_centre_record}
+use Rattle.pv_irc.specs.Deciding.{IsCentreRequest, down_fits, centre_has_room, reasons_against, applied_unless, removed_if, centre_judgement}
 use Rattle.pv_irc.specs.Growing.{grown, counted_state, record_count-with, limits-with}
 use Rattle.pv_irc.specs.Lengths.{IsBody-centre}
 use Rattle.pv_irc.specs.Reading.{Reads-centre}
@@ -19,7 +18,7 @@ use Rattle.pv_irc.specs.declared.record.CentreRecord.TheVariants as records
 use Rattle.pv_irc.specs.declared.reply.IrcReply.{IrcReply}
 use Rattle.pv_irc.specs.declared.reply.IrcReply.TheVariants.{NoRoom}
 use Rattle.pv_irc.specs.declared.request.IrcRequest.{IrcRequest}
-use Rattle.pv_irc.specs.declared.request.IrcRequest.TheVariants.{Apply, LogOn, Keep}
+use Rattle.pv_irc.specs.declared.request.IrcRequest.TheVariants.{Apply, LogOn, Keep, Remove}
 
 -- a spelling is a body of a journal
 pub sized : (rec : CentreRecord) → IsCentreRecord rec → IsBody (centre_bytes rec)
@@ -55,6 +54,12 @@ pub is_applied : (reason : Option IrcReply) (n : ℕ) (down : DownRecord) (rec :
 is_applied None n down rec reply is = (refl, ap (stored_or rec) is)
 is_applied (Some other) n down rec reply is = absurd (subst IsAnswer is tt)
 
+-- what is known of a removal that is stored: its record is stored
+pub is_removed : (waits : Bool) (account number : ℕ) (rec : CentreRecord) (reply : IrcReply) → removed_if waits account number ≡ Store rec reply
+    → records.Removed account number ≡ rec
+is_removed true account number rec reply is = ap (stored_or rec) is
+is_removed false account number rec reply is = absurd (subst IsAnswer is tt)
+
 -- a test whose negation fails holds
 of_not : (test : Bool) → not test ≡ false → test ≡ true
 of_not true is = refl
@@ -77,6 +82,9 @@ stored state (LogOn account) rec reply ranges is =
     subst (λ r. IsCentreRecord r × (centre_has_room state r ≡ true)) (ap (stored_or rec) is) (ranges, refl)
 stored state (Keep item) rec reply ranges is =
     subst (λ r. IsCentreRecord r × (centre_has_room state r ≡ true)) (ap (stored_or rec) is) (ranges, refl)
+stored state (Remove account number) rec reply ranges is =
+    subst (λ r. IsCentreRecord r × (centre_has_room state r ≡ true)) (is_removed (has_letter (letters_for state account) number) account number rec reply is)
+    (ranges, refl)
 
 -- ---- what a state stands for
 

@@ -21,6 +21,7 @@
 //! judged in `specs/Deciding.antt`. Only `open` and `copy` take memory.
 #![tactic(auto)]
 
+mod delivery;
 mod law;
 mod record;
 mod reply;

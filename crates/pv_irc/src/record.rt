@@ -1,7 +1,7 @@
 ghost use Rattle.std.specs.Prelude.{◌≡◌, [], IsNone, IfSome};
 ghost use Rattle.pv_fields.specs.Out.{Puts};
 ghost use Rattle.pv_fields.specs.Reading.{Gives, GivesAll, same, whole};
-ghost use Rattle.pv_irc.specs.Record.{IsCentreRecord, centre_bytes, centre_record_at, applied_bytes, applied_at, down_at_end};
+ghost use Rattle.pv_irc.specs.Record.{IsCentreRecord, centre_bytes, centre_record_at, applied_bytes, applied_at, removed_bytes, removed_at, down_at_end};
 
 use pv_edits::DownRecord;
 use pv_fields::{In, NoRoom, NoSpelling, Out};
@@ -28,6 +28,13 @@ pub enum CentreRecord {
         /// The item.
         item: Item,
     },
+    /// A letter was taken out of the box of an account.
+    Removed {
+        /// The account.
+        account: AccountNo,
+        /// The letter's number.
+        number: u64,
+    },
 }
 
 impl CentreRecord {
@@ -49,6 +56,10 @@ impl CentreRecord {
             CentreRecord::Kept { item } => {
                 out.u8(3)?;
                 item.encode(out)
+            }
+            CentreRecord::Removed { account, number } => {
+                out.u8(4)?;
+                put_removed(*account, *number, out)
             }
         }
     }
@@ -73,6 +84,25 @@ fn put_applied(n: u64, rec: &DownRecord, out: &mut Out) -> Result<(), NoRoom>
 {
     out.u64(n)?;
     rec.encode(out)
+}
+
+/// Appends the rest of a `Removed`.
+#[tactic(auto, unfolding(crate::specs::Record::removed_bytes))]
+fn put_removed(account: AccountNo, number: u64, out: &mut Out) -> Result<(), NoRoom>
+    ensures { Puts result out.old out.new (removed_bytes account number) }
+{
+    account.put(out)?;
+    out.u64(number)
+}
+
+/// Takes the rest of a `Removed`.
+#[tactic(auto, unfolding(crate::specs::Record::removed_at))]
+fn read_removed(bytes: &mut In) -> Result<CentreRecord, NoSpelling>
+    ensures { Gives same result (removed_at bytes.old) bytes.new }
+{
+    let account = AccountNo::read(bytes)?;
+    let number = bytes.u64()?;
+    Ok(CentreRecord::Removed { account, number })
 }
 
 /// Takes the rest of an `Applied`.
@@ -109,6 +139,7 @@ fn read_all(bytes: &[u8]) -> Result<CentreRecord, NoSpelling>
         3 => CentreRecord::Kept {
             item: Item::read(&mut from)?,
         },
+        4 => read_removed(&mut from)?,
         _ => return Err(NoSpelling),
     };
     if from.left() == 0 {

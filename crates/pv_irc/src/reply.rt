@@ -1,7 +1,7 @@
 /// What a centre replies.
 #[derive(Clone, Copy, Debug, PartialEq, Eq)]
 pub enum IrcReply {
-    /// The record that came down is applied.
+    /// The record that came down is applied, or the letter is removed.
     Applied,
     /// The record was applied before: this many were.
     Old(u64),
@@ -13,4 +13,6 @@ pub enum IrcReply {
     Serial(u64),
     /// The item is kept. This many were kept before, which is its number.
     Kept(u64),
+    /// No such letter waits.
+    Nothing,
 }

@@ -22,4 +22,11 @@ pub enum IrcRequest {
         /// The item.
         item: Item,
     },
+    /// A letter is to be taken out of the box of an account.
+    Remove {
+        /// The account.
+        account: AccountNo,
+        /// The letter's number.
+        number: u64,
+    },
 }

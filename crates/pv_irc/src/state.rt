@@ -1,22 +1,24 @@
-ghost use Rattle.std.specs.Prelude.{◌≡◌, ◌<◌, [], length, slice_get, option_copied, IfOk, IsTrue};
+ghost use Rattle.std.specs.Prelude.{◌≡◌, ◌<◌, ◌≤◌, [], length, slice_get, option_copied, IfOk, IsTrue};
 ghost use Rattle.std.specs.Vec.{vec_capacity};
 ghost use Rattle.pv_irc.specs.History.{state_count, with_down, with_centre_record};
 ghost use Rattle.pv_irc.specs.Deciding.{down_fits, centre_has_room, centre_judgement};
+ghost use Rattle.pv_irc.specs.declared.record.CentreRecord.TheVariants as records;
 ghost use Rattle.pv_irc.specs.declared.request.IrcRequest.TheVariants as requests;
 
+use crate::delivery::deliver;
 use crate::record::CentreRecord;
 use crate::reply::IrcReply;
 use crate::request::IrcRequest;
-use pv_edits::{Base, DownRecord, Sight};
+use pv_edits::{Base, DownRecord, MAX_ACCOUNTS, Sight};
 use pv_node::Decision;
 use pv_outside::Limits;
 use pv_page::AccountNo;
-use pv_post::Item;
+use pv_post::{Item, Mailboxes, Removal};
 use std::alloc::{AllocError, Global};
 use std::marker::Model;
 
-/// What a centre knows: its number, the base of the records that it has applied, its items, and its
-/// counts. All room is reserved when it is opened.
+/// What a centre knows: its number, the base of the records that it has applied, its items, the letters
+/// that wait for its callers, and its counts. All room is reserved when it is opened.
 #[derive(Debug, Drop)]
 pub struct IrcState {
     centre: u8,
@@ -25,13 +27,13 @@ pub struct IrcState {
     applied: u64,
     items: Vec<Item>,
     log_ons: u64,
+    removals: Vec<Removal>,
+    boxes: Mailboxes,
 }
 
 impl Model for IrcState {
-    ghost use Rattle.std.specs.Prelude.{length};
-    ghost use Rattle.std.specs.Vec.{vec_capacity};
     ghost use Rattle.pv_irc.specs.History.{CentreState};
-    ghost use Rattle.pv_irc.specs.Room.{IsWithinLimits};
+    ghost use Rattle.pv_irc.specs.Room.{IsKeptCentre};
 
     ghost Value = { CentreState };
 
@@ -43,10 +45,10 @@ impl Model for IrcState {
       places = s.base.places;
       items = s.items.items;
       log_ons = s.log_ons;
+      removals = s.removals.items;
     } };
 
-    ghost invariant = { λ s. IsWithinLimits s.base s.limits s.applied (length s.items.items) s.log_ons
-        (vec_capacity s.items) };
+    ghost invariant = { IsKeptCentre };
 }
 
 impl IrcState {
@@ -64,6 +66,8 @@ impl IrcState {
             applied: 0,
             items: Vec::with_capacity(alloc, limits.records as usize)?,
             log_ons: 0,
+            removals: Vec::with_capacity(alloc, limits.records as usize)?,
+            boxes: Mailboxes::open(alloc, MAX_ACCOUNTS)?,
         })
     }
 
@@ -71,15 +75,16 @@ impl IrcState {
     pub fn copy(&self, alloc: Global) -> Result<IrcState, AllocError>
         ensures { IfOk result (λ copy. copy ≡ self.now) }
     {
-        let mut items = Vec::with_capacity(alloc, self.limits.records as usize)?;
-        items.extend_from_slice(&self.items)?;
+        let room = self.limits.records as usize;
         Ok(IrcState {
             centre: self.centre,
             base: self.base.copy(alloc)?,
             limits: self.limits,
             applied: self.applied,
-            items,
+            items: list_with_room(alloc, &self.items, room)?,
             log_ons: self.log_ons,
+            removals: list_with_room(alloc, &self.removals, room)?,
+            boxes: self.boxes.copy(alloc)?,
         })
     }
 
@@ -88,7 +93,8 @@ impl IrcState {
     /// A record that came down is to be stored if its place is the count of those that were applied and
     /// there is room for it. It is [`IrcReply::Old`] exactly below that count, [`IrcReply::Early`] exactly
     /// above, and [`IrcReply::NoRoom`] exactly at it if it is whole and has no room. A log-on and an item
-    /// are always to be stored.
+    /// are always to be stored. A removal is to be stored if its letter waits, and is [`IrcReply::Nothing`]
+    /// exactly if it does not.
     pub fn decide(&self, request: &IrcRequest) -> Decision<CentreRecord, IrcReply>
         ensures { result ≡ centre_judgement self.now request.now }
     {
@@ -102,6 +108,7 @@ impl IrcState {
                 CentreRecord::Kept { item: *item },
                 IrcReply::Kept(self.items()),
             ),
+            IrcRequest::Remove { account, number } => self.decide_removal(*account, *number),
         }
     }
 
@@ -120,6 +127,17 @@ impl IrcState {
             return Decision::Answer(IrcReply::NoRoom(count));
         }
         Decision::Store(CentreRecord::Applied { n, rec: *rec }, IrcReply::Applied)
+    }
+
+    /// Decides on the removal of a letter.
+    fn decide_removal(&self, account: AccountNo, number: u64) -> Decision<CentreRecord, IrcReply>
+        ensures { result ≡ centre_judgement self.now (requests.Remove account number) }
+    {
+        if self.boxes.waits(account, number) {
+            Decision::Store(CentreRecord::Removed { account, number }, IrcReply::Applied)
+        } else {
+            Decision::Answer(IrcReply::Nothing)
+        }
     }
 
     /// Whether there is room for a record: if it is of a whole record that came down, what this adds is
@@ -153,7 +171,21 @@ impl IrcState {
             CentreRecord::Applied { rec, .. } => self.apply(rec),
             CentreRecord::LogOn { .. } => self.log_ons += 1,
             CentreRecord::Kept { item } => self.items.push_reserved(*item),
+            CentreRecord::Removed { account, number } => self.remove(*account, *number),
         }
+    }
+
+    /// Takes a letter out of an account's box. There are fewer than the limit of records.
+    fn remove(&mut self, account: AccountNo, number: u64)
+        requires { state_count self.old < self.old.limits.records }
+        ensures { self.new ≡ with_centre_record self.old (records.Removed account number) }
+    {
+        self.boxes.remove(account, number);
+        self.removals.push_reserved(Removal {
+            account,
+            number,
+            place: self.applied,
+        });
     }
 
     /// Applies what came down.
@@ -163,6 +195,7 @@ impl IrcState {
         ensures { self.new ≡ with_down self.old rec.now }
     {
         if let DownRecord::Whole(edit) = rec {
+            deliver(&mut self.boxes, &self.base, self.centre, self.applied, edit);
             self.base.absorb(edit, self.applied);
         }
         self.applied += 1;
@@ -210,4 +243,14 @@ impl IrcState {
     {
         Sight::new(&self.base, self.centre, account)
     }
+}
+
+/// A copy of a list, with room for this many in all.
+fn list_with_room<T: Copy>(alloc: Global, list: &[T], room: usize) -> Result<Vec<T>, AllocError>
+    ensures same { IfOk result (λ copy. copy.items ≡ list.now) }
+    ensures room { IfOk result (λ copy. room ≤ vec_capacity copy) }
+{
+    let mut copy = Vec::with_capacity(alloc, room)?;
+    copy.extend_from_slice(list)?;
+    Ok(copy)
 }

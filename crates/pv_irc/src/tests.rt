@@ -66,9 +66,20 @@ fn a_whole_record_without_room_is_not_applied(rt: HostRuntime) -> Result<(), Fai
 }
 
 #[test]
+fn a_letter_that_does_not_wait_is_not_removed(rt: HostRuntime) -> Result<(), Fail> {
+    let state = IrcState::open(rt.alloc(), 2, SMALL)?;
+    let account = AccountNo::of_number(5).ok_or("an account")?;
+    match state.decide(&IrcRequest::Remove { account, number: 0 }) {
+        Decision::Answer(reply) => assert_eq!(rt; reply, IrcReply::Nothing),
+        Decision::Store(..) => return Err("a removal".into()),
+    }
+    Ok(())
+}
+
+#[test]
 fn a_record_has_one_spelling() -> Result<(), Fail> {
     let account = AccountNo::of_number(5).ok_or("an account")?;
-    let spellings: [(&[u8], Option<CentreRecord>); 5] = [
+    let spellings: [(&[u8], Option<CentreRecord>); 7] = [
         (
             b"\x01\0\0\0\0\0\0\0\x09\x06",
             Some(CentreRecord::Applied {
@@ -82,6 +93,11 @@ fn a_record_has_one_spelling() -> Result<(), Fail> {
         ),
         (b"\x02\0\0\0\0\0\0\0\x05\0", None),
         (b"\x02\0\0\0\0\0\0\0", None),
+        (
+            b"\x04\0\0\0\0\0\0\0\x05\0\0\0\0\0\0\0\x09",
+            Some(CentreRecord::Removed { account, number: 9 }),
+        ),
+        (b"\x04\0\0\0\0\0\0\0\x05\0\0\0\0\0\0\0", None),
         (b"\x05\0\0\0\0\0\0\0\x05", None),
     ];
     for (bytes, rec) in spellings {

@@ -21,7 +21,8 @@ use Rattle.pv_nodes.specs.Below.{records_below}
 use Rattle.pv_udc.specs.EditList.{EditList}
 use Rattle.pv_udc.specs.Replies.{down_of, down_of_item}
 use Rattle.pv_udc.proofs.CallerLemmas.{has_room-judged}
-use Rattle.pv_network.specs.Centre.{Arrival, Centre, with_next, record_count, arrival_of, centre_with_arrival, asked_of, reply_to_arrival, state_of_prefix, node_state}
+use Rattle.pv_network.specs.declared.arrival.Arrival.{Arrival}
+use Rattle.pv_network.specs.Centre.{Centre, with_next, record_count, arrival_of, centre_with_arrival, asked_of, reply_to_arrival, state_of_prefix, node_state}
 use Rattle.pv_network.specs.Run.{IsRun}
 use Rattle.pv_network.specs.Sound.{CarriesRecord}
 
@@ -69,8 +70,9 @@ module _ (number : ℕ) (limits : Limits) (centre : Centre) (prefix : List Recor
         applied = centre.applied + 1;
         edits = edits i;
         places = places i;
-        items = [];
+        items = centre.calls.items;
         log_ons = centre.calls.log_ons;
+        removals = [];
       })
 
 -- what goes down of a record has room if the record has

@@ -1,33 +1,30 @@
--- What is done at a centre's ports is done with its calls, and what a log-on makes of both.
-use Rattle.std.proofs.Common.{◌≡◌, ℕ, Bool, true, false, cond, not, ◌&&◌, ◌||◌, leb, List, set, Option, Some, None, Result, Ok, Err, refl, sym, ap, subst, ◌∙◌}
-use Rattle.std.specs.Prelude.{is_some}
+-- What is done at a centre's ports is done with its calls, and what a wish that is stored makes of both.
+use Rattle.std.proofs.Common.{◌≡◌, ℕ, Bool, true, false, leb, List, length, set, Option, Some, None, Result, Ok, Err, refl, sym, ap, subst, ◌∙◌}
 use Rattle.pv_edits.specs.Sight.{View}
-use Rattle.pv_irc.specs.History.{state_count}
+use Rattle.pv_irc.specs.History.{CentreState, state_count}
 use Rattle.pv_irc.specs.declared.reply.IrcReply.{IrcReply}
 use Rattle.pv_irc.specs.declared.reply.IrcReply.TheVariants as replies
 use Rattle.pv_session.specs.declared.entry.Entry.{Entry}
 use Rattle.pv_session.specs.declared.step.Paid.{Paid}
-use Rattle.pv_session.specs.declared.step.Paid.TheVariants.{Serial}
-use Rattle.pv_session.specs.declared.step.Phase.{Phase}
-use Rattle.pv_session.specs.declared.step.Phase.TheVariants.{Listening, Owing, Over}
 use Rattle.pv_session.specs.declared.step.Step.{Step}
 use Rattle.pv_session.specs.declared.step.Wish.{Wish}
 use Rattle.pv_session.specs.declared.step.Wish.TheVariants as wishes
-use Rattle.pv_session.specs.State.{CallState, is_owing, wish_in}
+use Rattle.pv_session.specs.State.{CallState, is_owing}
 use Rattle.pv_session.specs.Turns.{storing_turn, full_turn}
 use Rattle.pv_network.specs.declared.outcome.Outcome.{Outcome}
 use Rattle.pv_network.specs.declared.outcome.Outcome.TheVariants as outcomes
-use Rattle.pv_network.specs.Call.{Call, call_of, is_waiting, is_to_store, key_turn}
-use Rattle.pv_network.specs.Calls.{Calls, call_among, call_in, IsDone, turn_at, press_at, show_at, away_answer, wish_or_nothing, wish_at, store_at}
-use Rattle.pv_network.specs.Centre.{Held, calls_of, request_for, Asked, Comes}
+use Rattle.pv_network.specs.Call.{Call, call_of, is_waiting, wish_to_store, key_turn}
+use Rattle.pv_network.specs.Calls.{Calls, calls_with, call_among, call_in, IsDone, turn_at, press_at, show_at, away_answer, wish_or_nothing, wish_at, log_ons_with, items_with, reply_for, store_at}
+use Rattle.pv_network.specs.Centre.{Held, calls_of, request_for, paid_by, asked_of, Asked, Comes}
+use Rattle.pv_network.proofs.SoundCalls.{none_stored}
 
 -- what is done at the ports is done with the calls
 pub comes_of : (old : Held) (ports : List (Option Call)) (outcome : Outcome) (step : Calls → Calls × Outcome)
     → IsDone old.ports ports outcome step → Comes old (record old { ports = ports }) outcome (step (calls_of old))
 comes_of old ports outcome step done =
-    let here = done old.node.state.log_ons in
+    let here = done old.node.state.log_ons old.node.state.items in
     record {
-      state = λ i. record old.node.state { log_ons = (here.0 i).log_ons };
+      state = λ i. record old.node.state { items = (here.0 i).items; log_ons = (here.0 i).log_ons };
       on_disk = λ is. is;
       ports = ap (λ (calls : Calls). calls.ports) here.0;
       answer = here.1;
@@ -41,110 +38,130 @@ Stores old new port outcome = Comes old new outcome
     (store_at (leb old.node.state.limits.records (state_count old.node.state)) (state_count old.node.state) (calls_of old) port
     (call_in (calls_of old) port))
 
--- a call owes this
-record Owes (found : Option Call) : Type 0 where
+-- a call that is to have a wish stored owes it
+record Owes (found : Option Call) (wish : Wish) : Type 0 where
   call : Call
   is : found ≡ Some call
-  owes : is_to_store call ≡ true
+  owes : wish_to_store call ≡ Some wish
 
--- a call that is to have a wish stored owes it
-owes : (found : Option Call) (wish : Wish) → wish_at found ≡ Ok wish → Owes found
+owes : (found : Option Call) (wish : Wish) → wish_at found ≡ Ok wish → Owes found wish
 owes None wish is = absurd cc
-owes (Some call) wish is = record { call = call; is = refl; owes = of call.stored call.seat.phase is }
+owes (Some call) wish is = record { call = call; is = refl; owes = of (wish_to_store call) is }
   where
-    of : (stored : Option Paid) (phase : Phase) → wish_or_nothing (cond (is_some stored) None (wish_in phase)) ≡ Ok wish
-        → (is_owing phase && not (is_some stored)) ≡ true
-    of (Some paid) phase is = absurd cc
-    of None Listening is = absurd cc
-    of None (Owing wish) is = refl
-    of None Over is = absurd cc
+    of : (owed : Option Wish) → wish_or_nothing owed ≡ Ok wish → owed ≡ Some wish
+    of None is = absurd cc
+    of (Some other) is = cc
 
--- a reply is no count
-no_count : (reply : IrcReply) (count : ℕ) → Ok reply ≡ Err count → ⊥
-no_count reply count is = absurd cc
+-- what a node with room makes of a wish: it has what the calls have, and its reply is the one that they are told
+record IsWished (state : CentreState) (ports : List (Option Call)) (wish : Wish) : Type 0 where
+  reply : IrcReply
+  told : paid_by reply ≡ Some (reply_for (calls_with state.log_ons state.items ports) wish)
+  replied : (asked_of state (request_for wish)).0 ≡ Ok reply
+  known : (asked_of state (request_for wish)).1 ≡ record state {
+    items = items_with (calls_with state.log_ons state.items ports) wish;
+    log_ons = log_ons_with (calls_with state.log_ons state.items ports) wish;
+  }
 
--- a serial is one serial, and a count is one count
-one_serial : (one other : ℕ) (result : Result IrcReply ℕ) → result ≡ Ok (replies.Serial one) → result ≡ Ok (replies.Serial other)
-    → one ≡ other
-one_serial one other result is also = cc
+wished : (state : CentreState) (ports : List (Option Call)) (wish : Wish) → leb state.limits.records (state_count state) ≡ false
+    → IsWished state ports wish
+wished state ports (wishes.LogOn account) room =
+    record { reply = replies.Serial state.log_ons; told = refl; replied = rw room refl; known = rw room refl }
+wished state ports (wishes.Charge line) room =
+    record { reply = replies.Kept (length state.items); told = refl; replied = rw room refl; known = rw room refl }
+
+-- a full node turns any wish away
+unwished : (state : CentreState) (wish : Wish) → leb state.limits.records (state_count state) ≡ true
+    → asked_of state (request_for wish) ≡ (Err (state_count state), state)
+unwished state (wishes.LogOn account) full = rw full refl
+unwished state (wishes.Charge line) full = rw full refl
+
+-- a reply is one reply and no count, and a count is one count
+one_reply : (one other : IrcReply) (result : Result IrcReply ℕ) → result ≡ Ok one → result ≡ Ok other → one ≡ other
+one_reply one other result is also = cc
 
 one_count : (one other : ℕ) (result : Result IrcReply ℕ) → result ≡ Err one → result ≡ Err other → one ≡ other
 one_count one other result is also = cc
 
+no_count : (reply : IrcReply) (count : ℕ) (result : Result IrcReply ℕ) → result ≡ Ok reply → result ≡ Err count → ⊥
+no_count reply count result is also = let never : Ok reply ≡ Err count = sym is ∙ also in absurd cc
+
 -- The node was asked for the wish of the call at a port, and the ports were then changed.
-module _ (old asked : Held) (port : ℕ) (account : ℕ) (result : Result IrcReply ℕ) (ports : List (Option Call)) (outcome : Outcome)
-    (wish : wish_at (call_among old.ports port) ≡ Ok (wishes.LogOn account))
-    (was : Asked old asked (request_for (wishes.LogOn account)) result) where
+module _ (old asked : Held) (port : ℕ) (wish : Wish) (result : Result IrcReply ℕ) (ports : List (Option Call)) (outcome : Outcome)
+    (owed : wish_at (call_among old.ports port) ≡ Ok wish) (was : Asked old asked (request_for wish) result) where
   abbrev Done : Type 0
   Done = Stores old (record asked { ports = ports }) port outcome
 
-  abbrev owing : Owes (call_among old.ports port)
-  owing = owes (call_among old.ports port) (wishes.LogOn account) wish
+  abbrev owing : Owes (call_among old.ports port) wish
+  owing = owes (call_among old.ports port) wish owed
 
-  -- its serial is noted
-  note_log_on : (serial : ℕ) → result ≡ Ok (replies.Serial serial)
+  -- the call is at the port still
+  there : call_among asked.ports port ≡ Some owing.call
+  there = ap (λ (l : List (Option Call)). call_among l port) was.ports ∙ owing.is
+
+  abbrev is_full : Bool
+  is_full = leb old.node.state.limits.records (state_count old.node.state)
+
+  -- the reply is noted
+  pub noted : (reply : IrcReply) (paid : Paid) → result ≡ Ok reply → paid_by reply ≡ Some paid
       → ((call : Call) → call_among asked.ports port ≡ Some call
-      → (ports ≡ set asked.ports port (Some (record call { stored = Some (Serial serial) }))) × (outcome ≡ outcomes.Stored))
+      → (ports ≡ set asked.ports port (Some (record call { stored = Some paid }))) × (outcome ≡ outcomes.Stored))
       → Done
-  note_log_on serial reply notes = by (leb old.node.state.limits.records (state_count old.node.state)) refl
+  noted reply paid is told notes = by is_full refl
     where
-      by : (full : Bool) → leb old.node.state.limits.records (state_count old.node.state) ≡ full → Done
-      by true how = absurd (no_count (replies.Serial serial) (state_count old.node.state) (sym reply ∙ rw how at was.reply))
+      by : (full : Bool) → is_full ≡ full → Done
+      by true how =
+          absurd (no_count reply (state_count old.node.state) result is
+          (was.reply ∙ ap (λ (done : Result IrcReply ℕ × CentreState). done.0) (unwished old.node.state wish how)))
       by false how =
-          let serial_is : serial ≡ old.node.state.log_ons = one_serial serial old.node.state.log_ons result reply (rw how at was.reply) in
-          let note = notes owing.call (ap (λ (l : List (Option Call)). call_among l port) was.ports ∙ owing.is) in
+          let done = wished old.node.state old.ports wish how in
+          let reply_is : reply ≡ done.reply = one_reply reply done.reply result is (was.reply ∙ done.replied) in
+          let paid_is : Some paid ≡ Some (reply_for (calls_of old) wish) = sym told ∙ ap paid_by reply_is ∙ done.told in
+          let note = notes owing.call there in
           rw (owing.is, owing.owes, how) (record {
-            state = rw how at was.state;
+            state = was.state ∙ done.known;
             on_disk = λ is. was.on_disk;
-            ports = rw (was.ports, serial_is) at note.0;
+            ports = note.0 ∙ ap (λ (l : List (Option Call)). set l port (Some (record owing.call { stored = Some paid }))) was.ports
+                ∙ ap (λ (stored : Option Paid). set old.ports port (Some (record owing.call { stored = stored }))) paid_is;
             answer = note.1;
           })
 
+  -- each reply to a wish is one that the call is told
+  pub told_of_each : (reply : IrcReply) → result ≡ Ok reply → paid_by reply ≡ None → ⊥
+  told_of_each reply is untold = by is_full refl
+    where
+      by : (full : Bool) → is_full ≡ full → ⊥
+      by true how =
+          no_count reply (state_count old.node.state) result is
+          (was.reply ∙ ap (λ (done : Result IrcReply ℕ × CentreState). done.0) (unwished old.node.state wish how))
+      by false how =
+          let done = wished old.node.state old.ports wish how in
+          let reply_is : reply ≡ done.reply = one_reply reply done.reply result is (was.reply ∙ done.replied) in
+          let told : None ≡ Some (reply_for (calls_of old) wish) = sym untold ∙ ap paid_by reply_is ∙ done.told in absurd cc
+
   -- the caller is turned away
-  turn_log_on_away : (count : ℕ) → result ≡ Err count
+  pub turned_away : (count : ℕ) → result ≡ Err count
       → ((call : Call) → call_among asked.ports port ≡ Some call
       → (ports ≡ set asked.ports port None) × (outcome ≡ away_answer count (full_turn call.seat call.seat.phase).1))
       → Done
-  turn_log_on_away count reply ends = by (leb old.node.state.limits.records (state_count old.node.state)) refl
+  turned_away count is ends = by is_full refl
     where
-      by : (full : Bool) → leb old.node.state.limits.records (state_count old.node.state) ≡ full → Done
-      by false how = absurd (no_count (replies.Serial old.node.state.log_ons) count (sym (rw how at was.reply) ∙ reply))
+      by : (full : Bool) → is_full ≡ full → Done
+      by false how =
+          let done = wished old.node.state old.ports wish how in absurd (no_count done.reply count result (was.reply ∙ done.replied) is)
       by true how =
+          let done = unwished old.node.state wish how in
           let count_is : count ≡ state_count old.node.state =
-          one_count count (state_count old.node.state) result reply (rw how at was.reply) in
-          let end = ends owing.call (ap (λ (l : List (Option Call)). call_among l port) was.ports ∙ owing.is) in
+          one_count count (state_count old.node.state) result is
+          (was.reply ∙ ap (λ (d : Result IrcReply ℕ × CentreState). d.0) done) in
+          let end = ends owing.call there in
           rw (owing.is, owing.owes, how) (record {
-            state = rw how at was.state;
+            state = was.state ∙ ap (λ (d : Result IrcReply ℕ × CentreState). d.1) done;
             on_disk = λ is. was.on_disk;
             ports = rw was.ports at end.0;
             answer = rw count_is at end.1;
           })
 
--- the same of any wish
-pub noted : (old asked : Held) (port : ℕ) (wish : Wish) (result : Result IrcReply ℕ) (ports : List (Option Call)) (outcome : Outcome)
-    → wish_at (call_among old.ports port) ≡ Ok wish → Asked old asked (request_for wish) result
-    → (serial : ℕ) → result ≡ Ok (replies.Serial serial)
-    → ((call : Call) → call_among asked.ports port ≡ Some call
-    → (ports ≡ set asked.ports port (Some (record call { stored = Some (Serial serial) }))) × (outcome ≡ outcomes.Stored))
-    → Stores old (record asked { ports = ports }) port outcome
-noted old asked port (wishes.LogOn account) result ports outcome wish was = note_log_on old asked port account result ports outcome wish was
-
-pub turned_away : (old asked : Held) (port : ℕ) (wish : Wish) (result : Result IrcReply ℕ) (ports : List (Option Call)) (outcome : Outcome)
-    → wish_at (call_among old.ports port) ≡ Ok wish → Asked old asked (request_for wish) result
-    → (count : ℕ) → result ≡ Err count
-    → ((call : Call) → call_among asked.ports port ≡ Some call
-    → (ports ≡ set asked.ports port None) × (outcome ≡ away_answer count (full_turn call.seat call.seat.phase).1))
-    → Stores old (record asked { ports = ports }) port outcome
-turned_away old asked port (wishes.LogOn account) result ports outcome wish was =
-    turn_log_on_away old asked port account result ports outcome wish was
-
 -- ---- a turn at a port
-
--- a call that does not wait has nothing stored
-pub none_stored : (owing : Bool) (stored : Option Paid) → (owing || is_some stored) ≡ false → stored ≡ None
-none_stored true stored is = absurd cc
-none_stored false (Some paid) is = absurd cc
-none_stored false None is = refl
 
 module _ (old new : List (Option Call)) (outcome : Outcome) (port : ℕ) (here : Call) (step : Step)
     (answers : (before : List (Option Call)) (seat : CallState) → set old port (Some here) ≡ set before port (Some (call_of seat))
@@ -157,11 +174,11 @@ module _ (old new : List (Option Call)) (outcome : Outcome) (port : ℕ) (here :
 
   module _ (call : Call) (at : call_among old port ≡ Some call) where
     -- a key's
-    pub presses_at : (key : ℕ) (view : View) (entry : Option Entry) → is_waiting call ≡ false
-        → here ≡ record call { seat = (key_turn call.seat key view entry).0 } → step ≡ (key_turn call.seat key view entry).1
-        → IsDone old new outcome (λ calls. press_at calls port key view entry (call_in calls port))
-    presses_at key view entry free here_is step_is =
-        let turn = key_turn call.seat key view entry in
+    pub presses_at : (key : ℕ) (view : View) (moment : ℕ) (entry : Option Entry) → is_waiting call ≡ false
+        → here ≡ record call { seat = (key_turn call.seat key view moment entry).0 } → step ≡ (key_turn call.seat key view moment entry).1
+        → IsDone old new outcome (λ calls. press_at calls port key view moment entry (call_in calls port))
+    presses_at key view moment entry free here_is step_is =
+        let turn = key_turn call.seat key view moment entry in
         let none = none_stored (is_owing call.seat.phase) call.stored free in
         let done = turned turn (here_is ∙ (λ i. record { seat = turn.0; stored = none i })) step_is in
         rw (at, free) done

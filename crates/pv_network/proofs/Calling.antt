@@ -1,21 +1,23 @@
 -- What a centre does with its calls is done in each world that the network stands for.
-use Rattle.std.proofs.Common.{◌≡◌, ℕ, ◌<◌, leb, List, length, get_or, set, Option, ap, subst, refl, ◌∙◌}
+use Rattle.std.proofs.Common.{◌≡◌, ℕ, ◌<◌, leb, List, length, get_or, set, Option, ap, subst, ◌∙◌}
 use Rattle.pv_outside.specs.declared.limits.Limits.{Limits}
 use Rattle.pv_edits.specs.declared.record.Record.{Record}
 use Rattle.pv_edits.specs.Sight.{View, sight_of}
 use Rattle.pv_irc.specs.History.{CentreState, state_count}
 use Rattle.pv_nodes.specs.Below.{records_below}
 use Rattle.pv_session.specs.declared.entry.Entry.{Entry}
+use Rattle.pv_network.specs.declared.outcome.BillLine.{BillLine}
 use Rattle.pv_network.specs.declared.outcome.Outcome.{Outcome}
-use Rattle.pv_network.specs.Calling.{calls_at, call_at, at_calls, step_of_dial, step_of_hang, step_of_press, step_of_store, step_of_show}
+use Rattle.pv_network.specs.Calling.{calls_at, call_at, with_calls, step_of_dial, step_of_hang, step_of_press, step_of_store, step_of_show}
 use Rattle.pv_network.specs.Calls.{Calls, caller_account, call_in, dial_at, hang_at, press_at, store_at, show_at, IsEntryOf}
+use Rattle.pv_network.specs.Charging.{IsChargedWorld, SeatLaws}
 use Rattle.pv_network.specs.Centre.{Held, CentreStands, Comes, Pressed, calls_of, record_count}
-use Rattle.pv_network.specs.Crashing.{crash_at, step_of_centre_crash}
-use Rattle.pv_network.specs.Sound.{IsSoundCalls}
+use Rattle.pv_network.specs.Crashing.{crash_at, step_of_lost_calls}
+use Rattle.pv_network.specs.Sound.{IsSound}
 use Rattle.pv_network.specs.Standing.{State, StandsFor}
-use Rattle.pv_network.specs.World.{World, centre_at, page_base}
-use Rattle.pv_network.proofs.SoundCalls.{dial_sound, hang_sound, press_sound, store_sound, show_sound}
-use Rattle.pv_network.proofs.Soundness.{sound_with_calls, without_calls_sound}
+use Rattle.pv_network.specs.World.{World, StoppedCall, centre_at, page_base}
+use Rattle.pv_network.proofs.Charged.{charged_dial, charged_hang, charged_press, charged_store, charged_show, charged_lost_calls}
+use Rattle.pv_network.proofs.Soundness.{sound_dial, sound_hang, sound_press, sound_store, sound_show, sound_lost_calls}
 use Rattle.pv_network.proofs.Standing.{calls_are, held_there, limits_there, centre_stands, centre_replaced}
 
 module _ (s : State) (w : World) (stands : StandsFor s w) (c : ℕ) (here : Held) (there : c < length s.centres)
@@ -33,46 +35,45 @@ module _ (s : State) (w : World) (stands : StandsFor s w) (c : ℕ) (here : Held
     abbrev after : State
     after = record s { centres = set s.centres c new }
 
-    -- it stands for what is done with the world's calls
-    abbrev Does : Calls × Outcome → Type 0
-    Does done = StandsFor after (at_calls w c done).0 × (outcome ≡ (at_calls w c done).1)
-
     -- what is done with the centre's calls is done with the world's
-    does : (step : Calls → Calls × Outcome) → Comes here new outcome (step (calls_of here)) → IsSoundCalls (step (calls_at w c)).0
-        → Does (step (calls_at w c))
-    does step comes sound =
+    does : (step : Calls → Calls × Outcome) (shown : List BillLine) (stopped : List StoppedCall)
+        → Comes here new outcome (step (calls_of here))
+        → IsSound (record (with_calls w c (step (calls_at w c)).0) { shown = shown; stopped = stopped })
+        → IsChargedWorld (record (with_calls w c (step (calls_at w c)).0) { shown = shown; stopped = stopped })
+        → StandsFor after (record (with_calls w c (step (calls_at w c)).0) { shown = shown; stopped = stopped })
+        × (outcome ≡ (step (calls_at w c)).1)
+    does step shown stopped comes sound charged =
         let same : step (calls_of here) ≡ step (calls_at w c) = ap step calls_there in (
-          centre_replaced s w stands c new (record (centre_at w c) { calls = (step (calls_at w c)).0 })
+          centre_replaced s w stands c new (record (centre_at w c) { calls = (step (calls_at w c)).0 }) shown stopped
               (record {
                 within = stood.within;
-                state = comes.state ∙ (λ i. record (stood.state i) { log_ons = (same i).0.log_ons });
+                state = comes.state ∙ (λ i. record (stood.state i) { items = (same i).0.items; log_ons = (same i).0.log_ons });
                 on_disk = comes.on_disk stood.on_disk;
                 ports = comes.ports ∙ ap (λ (done : Calls × Outcome). done.0.ports) same;
-              }) (sound_with_calls w c stands.sound _ sound),
+              }) sound charged,
           comes.answer ∙ ap (λ (done : Calls × Outcome). done.1) same,
         )
 
-    pub dials : Comes here new outcome (dial_at (calls_of here) port (call_in (calls_of here) port))
+    pub dials : SeatLaws → Comes here new outcome (dial_at (calls_of here) port (call_in (calls_of here) port))
         → StandsFor after (step_of_dial w c port).0 × (outcome ≡ (step_of_dial w c port).1)
-    dials comes = does (λ calls. dial_at calls port (call_in calls port)) comes
-        (dial_sound (calls_at w c) port (stands.sound.calls c) (call_at w c port))
+    dials laws comes = does (λ calls. dial_at calls port (call_in calls port)) w.shown w.stopped comes
+        (sound_dial w c port stands.sound) (charged_dial w c stands.charged port stands.sound laws)
 
     pub hangs : Comes here new outcome (hang_at (calls_of here) port (call_in (calls_of here) port))
         → StandsFor after (step_of_hang w c port).0 × (outcome ≡ (step_of_hang w c port).1)
-    hangs comes = does (λ calls. hang_at calls port (call_in calls port)) comes
-        (hang_sound (calls_at w c) port (stands.sound.calls c) (call_at w c port))
+    hangs comes = does (λ calls. hang_at calls port (call_in calls port)) w.shown (step_of_hang w c port).0.stopped comes
+        (sound_hang w c port stands.sound) (charged_hang w c stands.charged port stands.sound)
 
     pub crashes : Comes here new outcome (crash_at (state_count here.node.state) (calls_of here))
-        → StandsFor after (step_of_centre_crash w c).0 × (outcome ≡ (step_of_centre_crash w c).1)
-    crashes comes =
-        does (crash_at (record_count (centre_at w c)))
+        → StandsFor after (step_of_lost_calls w c).0 × (outcome ≡ (step_of_lost_calls w c).1)
+    crashes comes = does (crash_at (record_count (centre_at w c))) w.shown (step_of_lost_calls w c).0.stopped
         (subst (λ (n : ℕ). Comes here new outcome (crash_at n (calls_of here))) (held_there w.update c here (centre_at w c) stood) comes)
-        (without_calls_sound (calls_at w c))
+        (sound_lost_calls w c stands.sound) (charged_lost_calls w c stands.charged stands.sound)
 
-    pub shows : Comes here new outcome (show_at (calls_of here) port (call_in (calls_of here) port))
+    pub shows : SeatLaws → Comes here new outcome (show_at (calls_of here) port (call_in (calls_of here) port))
         → StandsFor after (step_of_show w c port).0 × (outcome ≡ (step_of_show w c port).1)
-    shows comes = does (λ calls. show_at calls port (call_in calls port)) comes
-        (show_sound (calls_at w c) port (stands.sound.calls c) (call_at w c port) refl)
+    shows laws comes = does (λ calls. show_at calls port (call_in calls port)) (step_of_show w c port).0.shown w.stopped comes
+        (sound_show w c port stands.sound) (charged_show w c stands.charged port stands.sound laws)
 
     -- it is full exactly when the world's is
     pub stores : Comes here new outcome
@@ -84,27 +85,32 @@ module _ (s : State) (w : World) (stands : StandsFor s w) (c : ℕ) (here : Held
         let is_full = leb w.update.limits.records count in
         let step : Limits → ℕ → Calls × Outcome =
         λ limits n. store_at (leb limits.records n) n (calls_of here) port (call_in (calls_of here) port) in
-        does (λ calls. store_at is_full count calls port (call_in calls port))
+        does (λ calls. store_at is_full count calls port (call_in calls port)) w.shown w.stopped
         (subst (λ (limits : Limits). Comes here new outcome (step limits count)) (limits_there w.update c here (centre_at w c) stood)
         (subst (λ (n : ℕ). Comes here new outcome (step here.node.state.limits n)) (held_there w.update c here (centre_at w c) stood)
         comes))
-        (store_sound (calls_at w c) port (stands.sound.calls c) is_full count (call_at w c port))
+        (sound_store w c port stands.sound) (charged_store w c stands.charged port stands.sound)
 
     -- What came down shows a caller what the list shows him. So he is shown what the world's centre shows him.
-    pub presses : ((records : List Record) (centre : ℕ) (caller : Option ℕ)
+    pub presses : SeatLaws → ((records : List Record) (centre : ℕ) (caller : Option ℕ)
         → sight_of (records_below records) centre caller ≡ sight_of records centre caller)
-        → (key : ℕ) → Pressed here new port key outcome
+        → (key moment : ℕ) → moment ≡ w.moment → Pressed here new port key moment outcome
         → (entry : Option Entry) × IsEntryOf (call_at w c port) key entry
         × StandsFor after (step_of_press w c port key entry).0 × (outcome ≡ (step_of_press w c port key entry).1)
-    presses shown key pressed =
+    presses laws shown key moment moment_is pressed =
         let entry = pressed.entry in
         let caller = caller_account (call_in (calls_of here) port) in
         let view : sight_of here.node.state.edits here.node.state.centre caller ≡ sight_of (page_base w c) c caller =
         ap (λ (state : CentreState). sight_of state.edits state.centre caller) stood.state ∙ shown (page_base w c) c caller in
+        let says : IsEntryOf (call_at w c port) key entry =
+        subst (λ (calls : Calls). IsEntryOf (call_in calls port) key entry) calls_there pressed.says in
         let done =
         does
-        (λ calls. press_at calls port key (sight_of (page_base w c) c (caller_account (call_in calls port))) entry (call_in calls port))
-        (subst (λ (seen : View). Comes here new outcome (press_at (calls_of here) port key seen entry (call_in (calls_of here) port))) view
-        pressed.comes)
-        (press_sound (calls_at w c) port (stands.sound.calls c) key _ entry (call_at w c port) refl) in
-        (entry, subst (λ (calls : Calls). IsEntryOf (call_in calls port) key entry) calls_there pressed.says, done.0, done.1)
+        (λ calls. press_at calls port key (sight_of (page_base w c) c (caller_account (call_in calls port))) w.moment entry (call_in calls port))
+        w.shown w.stopped
+        (subst (λ (n : ℕ). Comes here new outcome (press_at (calls_of here) port key
+        (sight_of (page_base w c) c caller) n entry (call_in (calls_of here) port))) moment_is
+        (subst (λ (seen : View). Comes here new outcome (press_at (calls_of here) port key seen moment entry (call_in (calls_of here) port)))
+        view pressed.comes))
+        (sound_press w c port stands.sound key entry) (charged_press w c stands.charged port stands.sound laws key entry says) in
+        (entry, says, done.0, done.1)

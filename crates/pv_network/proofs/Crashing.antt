@@ -7,6 +7,7 @@ use Rattle.pv_editor.specs.Say.{new_seat}
 use Rattle.pv_editor.specs.declared.seat.EditorSeat.{EditorSeat}
 use Rattle.pv_network.specs.declared.event.TheConstants.{EDITORS}
 use Rattle.pv_network.specs.declared.outcome.Outcome.TheVariants.{Crashed}
+use Rattle.pv_network.specs.declared.way.Way.TheVariants as ways
 use Rattle.pv_network.specs.Crashing.{step_of_update_crash}
 use Rattle.pv_network.specs.Link.{Link, with_new_end}
 use Rattle.pv_network.specs.Standing.{State, StandsFor}
@@ -15,7 +16,7 @@ use Rattle.pv_network.proofs.Soundness.{sound_update_crash}
 
 -- the node knows what it knew and has it on its disk, and the seats and the ends are new
 pub update_crashes : (s : State) (w : World) → StandsFor s w → (node : OnDisk EditList) (seats : List EditorSeat) (links : List Link) (count : ℕ)
-    → node.state ≡ s.update → UpdateIsOnDisk node → seats ≡ replicate EDITORS new_seat → links ≡ map with_new_end s.links
+    → node.state ≡ s.update → UpdateIsOnDisk node → seats ≡ replicate EDITORS new_seat → links ≡ map (with_new_end ways.Down) s.links
     → count ≡ length node.state.records
     → StandsFor (record s { update = node.state; disk = node.disk; seats = seats; links = links }) (step_of_update_crash w).0
     × (Crashed count ≡ (step_of_update_crash w).1)
@@ -23,11 +24,13 @@ update_crashes s w stands node seats links count same on_disk seats_are links_ar
     let update = same ∙ stands.update in (
       record {
         sound = sound_update_crash w stands.sound;
+        charged = stands.charged;
         update = update;
         on_disk = on_disk;
+        moment = stands.moment;
         seats = seats_are;
         centres = stands.centres;
-        links = links_are ∙ ap (map with_new_end) stands.links;
+        links = links_are ∙ ap (map (with_new_end ways.Down)) stands.links;
       },
       ap Crashed (counted ∙ ap (λ (u : EditList). length u.records) update),
     )

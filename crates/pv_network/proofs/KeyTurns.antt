@@ -12,40 +12,40 @@ use Rattle.pv_session.specs.State.{CallState}
 use Rattle.pv_session.specs.Turns.{Goes, Listens, IsTurnIn, IsTurn, is_spent, byte_turn}
 use Rattle.pv_network.specs.Call.{IsEntryUnless, IsEntryIn, IsEntryAt, key_turn, key_turn_in}
 
-module _ (seat after : CallState) (byte : ℕ) (view : View) (step : Step) where
+module _ (seat after : CallState) (byte : ℕ) (view : View) (moment : ℕ) (step : Step) where
   -- the turn of a seat that listens
   abbrev listening : Bool → Option Entry → CallState × Step
-  listening spent entry = cond spent (ending_turn seat Spent CallEnded) (byte_turn seat byte view entry)
+  listening spent entry = cond spent (ending_turn seat Spent CallEnded) (byte_turn seat byte view moment entry)
 
-  listens_by : (spent : Bool) → Listens spent seat byte view after step
+  listens_by : (spent : Bool) → Listens spent seat byte view moment after step
       → (entry : Option Entry) × IsEntryUnless spent seat byte entry × Goes (listening spent entry) after step
   listens_by true goes = (None, tt, goes)
   listens_by false hears = (hears.entry, hears.says, hears.goes)
 
-  turns_by : (phase : Phase) → IsTurnIn phase seat byte view after step
-      → (entry : Option Entry) × IsEntryIn phase seat byte entry × Goes (key_turn_in phase seat byte view entry) after step
+  turns_by : (phase : Phase) → IsTurnIn phase seat byte view moment after step
+      → (entry : Option Entry) × IsEntryIn phase seat byte entry × Goes (key_turn_in phase seat byte view moment entry) after step
   turns_by Listening turns = listens_by (is_spent seat) turns
   turns_by (Owing wish) goes = (None, tt, goes)
   turns_by Over goes = (None, tt, goes)
 
   -- a turn is that of some entry
-  pub turn_by_entry : IsTurn seat byte view after step
-      → (entry : Option Entry) × IsEntryAt seat byte entry × Goes (key_turn seat byte view entry) after step
+  pub turn_by_entry : IsTurn seat byte view moment after step
+      → (entry : Option Entry) × IsEntryAt seat byte entry × Goes (key_turn seat byte view moment entry) after step
   turn_by_entry turns = turns_by seat.phase turns
 
 -- the turn of an entry that the byte makes is one of the seat
-pub entry_turns : (seat : CallState) (byte : ℕ) (view : View) (entry : Option Entry) → IsEntryAt seat byte entry
-    → IsTurn seat byte view (key_turn seat byte view entry).0 (key_turn seat byte view entry).1
-entry_turns seat byte view entry says = by seat.phase says
+pub entry_turns : (seat : CallState) (byte : ℕ) (view : View) (moment : ℕ) (entry : Option Entry) → IsEntryAt seat byte entry
+    → IsTurn seat byte view moment (key_turn seat byte view moment entry).0 (key_turn seat byte view moment entry).1
+entry_turns seat byte view moment entry says = by seat.phase says
   where
     listens : (spent : Bool) → IsEntryUnless spent seat byte entry
-        → Listens spent seat byte view (cond spent (ending_turn seat Spent CallEnded) (byte_turn seat byte view entry)).0
-        (cond spent (ending_turn seat Spent CallEnded) (byte_turn seat byte view entry)).1
+        → Listens spent seat byte view moment (cond spent (ending_turn seat Spent CallEnded) (byte_turn seat byte view moment entry)).0
+        (cond spent (ending_turn seat Spent CallEnded) (byte_turn seat byte view moment entry)).1
     listens true says = record { after_is = refl; step_is = refl }
     listens false says = record { entry = entry; says = says; goes = record { after_is = refl; step_is = refl } }
 
     by : (phase : Phase) → IsEntryIn phase seat byte entry
-        → IsTurnIn phase seat byte view (key_turn_in phase seat byte view entry).0 (key_turn_in phase seat byte view entry).1
+        → IsTurnIn phase seat byte view moment (key_turn_in phase seat byte view moment entry).0 (key_turn_in phase seat byte view moment entry).1
     by Listening says = listens (is_spent seat) says
     by (Owing wish) says = record { after_is = refl; step_is = refl }
     by Over says = record { after_is = refl; step_is = refl }

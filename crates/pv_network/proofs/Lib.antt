@@ -3,9 +3,14 @@ pub mod AtPorts
 pub mod Calling
 pub mod Carried
 pub mod Carrying
+pub mod ChargeLines
+pub mod Charged
+pub mod Charging
 pub mod Counts
 pub mod Crashing
 pub mod Facts
+pub mod Finding
+pub mod Items
 pub mod KeptSerials
 pub mod KeyTurns
 pub mod Keying
@@ -17,5 +22,6 @@ pub mod Screens
 pub mod SoundCalls
 pub mod Soundness
 pub mod Standing
+pub mod TakingUp
 pub mod Untouched
 pub mod Verdicts

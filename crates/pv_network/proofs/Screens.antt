@@ -13,7 +13,8 @@ use Rattle.pv_session.specs.declared.step.Step.{Step}
 use Rattle.pv_session.specs.declared.step.Step.TheVariants as steps
 use Rattle.pv_session.specs.declared.message.Message.TheVariants.{KeyAccount}
 use Rattle.pv_session.specs.Messages.{screen_of_blank}
-use Rattle.pv_session.specs.State.{CallState, is_owing}
+use Rattle.pv_session.specs.declared.step.Wish.{Wish}
+use Rattle.pv_session.specs.State.{CallState, wish_in}
 use Rattle.pv_session.specs.Turns.{full_turn, storing_turn}
 use Rattle.pv_network.specs.declared.event.Event.{Event}
 use Rattle.pv_network.specs.declared.event.Event.TheVariants as events
@@ -22,9 +23,9 @@ use Rattle.pv_network.specs.declared.event.NodeName.TheVariants as nodes
 use Rattle.pv_network.specs.declared.outcome.Outcome.{Outcome}
 use Rattle.pv_network.specs.declared.outcome.Outcome.TheVariants as outcomes
 use Rattle.pv_network.specs.declared.outcome.Turn.{Turn}
-use Rattle.pv_network.specs.Call.{Call, first_call, is_waiting, is_to_store, key_turn}
+use Rattle.pv_network.specs.Call.{Call, first_call, is_waiting, wish_to_store, key_turn}
 use Rattle.pv_network.specs.Calling.{calls_at, call_at, view_at, with_calls, step_of_dial, step_of_hang, step_of_press, step_of_store, step_of_show}
-use Rattle.pv_network.specs.Calls.{Calls, call_in, with_call, step_answer, call_after, turn_at, away_answer, with_log_on, dial_at, hang_at, press_at, storing_at, store_at, showing_at, show_at, IsEntryOf, IsEntryUnlessWaiting}
+use Rattle.pv_network.specs.Calls.{call_in, with_call, step_answer, call_after, turn_at, away_answer, with_wish, dial_at, hang_at, press_at, storing_at, store_at, showing_at, show_at, IsEntryOf, IsEntryUnlessWaiting}
 use Rattle.pv_network.specs.Centre.{Centre, record_count, new_centre}
 use Rattle.pv_network.specs.Crashing.{step_of_centre_crash, step_of_crash}
 use Rattle.pv_network.specs.Keying.{KeyedByte, first_entry, is_owes, is_storing, step_of_payment, step_of_key, screens_in, is_over, keys_from, UnlessOver, TakesAll, turns_answer, keys_refusal, step_of_taken_keys, step_of_keys, TakesAllAt}
@@ -33,11 +34,12 @@ use Rattle.pv_edits.specs.declared.room.TheConstants.{OPERATOR}
 use Rattle.pv_edits.specs.declared.wish.EditWish.TheVariants.{Put}
 use Rattle.pv_udc.specs.Judgement.{next_number}
 use Rattle.pv_network.specs.Step.{Choice, IsChoice, happens, seeded_frame}
-use Rattle.pv_network.specs.Traffic.{packet_room}
+use Rattle.pv_network.specs.Traffic.{no_load, packet_room}
+use Rattle.pv_network.specs.declared.way.Way.TheVariants as ways
 use Rattle.pv_network.specs.World.{World, centre_at}
 use Rattle.pv_network.proofs.KeyTurns.{entry_turns}
-use Rattle.pv_network.proofs.SoundCalls.{first_holds}
-use Rattle.pv_network.proofs.Untouched.{request_same, line_same, send_same, deliver_same, back_same, rounds_same, call_elsewhere, calls_elsewhere, calls_here, none_here, call_here}
+use Rattle.pv_network.proofs.SoundCalls.{to_store}
+use Rattle.pv_network.proofs.Untouched.{Books, books_at, request_same, line_same, sending_same, arriving_same, rounds_same, call_elsewhere, calls_elsewhere, calls_here, none_here, call_here}
 
 -- ---- stretches of a call
 
@@ -147,17 +149,17 @@ turn_goes seat event after (steps.Ended why screen) happened = record {
 }
 
 -- a full centre ends the call
-full_goes : (seat : CallState) (phase : Phase) (count : ℕ) → seat.phase ≡ phase → is_owing phase ≡ true
+full_goes : (seat : CallState) (phase : Phase) (count : ℕ) (wish : Wish) → seat.phase ≡ phase → wish_in phase ≡ Some wish
     → Goes seat (Refused ∷ []) (screens_in (away_answer count (full_turn seat phase).1)) None
-full_goes seat Listening count is owing = absurd cc
-full_goes seat (Owing wish) count is owing = record {
-  steps = (full_turn seat (Owing wish)).1 ∷ [];
-  after = (full_turn seat (Owing wish)).0;
-  are = ((full_turn seat (Owing wish)).0, rw is (record { after_is = refl; step_is = refl }), refl);
+full_goes seat Listening count wish is owes = absurd cc
+full_goes seat (Owing own) count wish is owes = record {
+  steps = (full_turn seat (Owing own)).1 ∷ [];
+  after = (full_turn seat (Owing own)).0;
+  are = ((full_turn seat (Owing own)).0, rw is (record { after_is = refl; step_is = refl }), refl);
   shown = refl;
   left = tt;
 }
-full_goes seat Over count is owing = absurd cc
+full_goes seat Over count wish is owes = absurd cc
 
 -- what says that something is owed, or that it was stored, shows no screen
 owes_nothing_shown : (outcome : Outcome) → is_owes outcome ≡ true → screens_in outcome ≡ []
@@ -177,6 +179,7 @@ owes_nothing_shown outcomes.Idle is = absurd cc
 owes_nothing_shown outcomes.PacketsFull is = absurd cc
 owes_nothing_shown outcomes.NoPacket is = absurd cc
 owes_nothing_shown (outcomes.SentRecord index number) is = absurd cc
+owes_nothing_shown (outcomes.SentItem index number) is = absurd cc
 owes_nothing_shown (outcomes.Taken number ack) is = absurd cc
 owes_nothing_shown (outcomes.Old number ack) is = absurd cc
 owes_nothing_shown (outcomes.Early number ack) is = absurd cc
@@ -184,9 +187,11 @@ owes_nothing_shown (outcomes.Heard number) is = absurd cc
 owes_nothing_shown (outcomes.Full count) is = absurd cc
 owes_nothing_shown (outcomes.Carried records items) is = absurd cc
 owes_nothing_shown (outcomes.Crashed count) is = absurd cc
+owes_nothing_shown (outcomes.Clock moment) is = absurd cc
 owes_nothing_shown outcomes.NotHeld is = absurd cc
 owes_nothing_shown (outcomes.Applied count) is = absurd cc
 owes_nothing_shown (outcomes.Records count) is = absurd cc
+owes_nothing_shown (outcomes.Bill lines pence) is = absurd cc
 
 stored_nothing_shown : (outcome : Outcome) → is_storing outcome ≡ true → screens_in outcome ≡ []
 stored_nothing_shown (outcomes.Reply text) is = absurd cc
@@ -205,6 +210,7 @@ stored_nothing_shown outcomes.Idle is = absurd cc
 stored_nothing_shown outcomes.PacketsFull is = absurd cc
 stored_nothing_shown outcomes.NoPacket is = absurd cc
 stored_nothing_shown (outcomes.SentRecord index number) is = absurd cc
+stored_nothing_shown (outcomes.SentItem index number) is = absurd cc
 stored_nothing_shown (outcomes.Taken number ack) is = absurd cc
 stored_nothing_shown (outcomes.Old number ack) is = absurd cc
 stored_nothing_shown (outcomes.Early number ack) is = absurd cc
@@ -212,9 +218,11 @@ stored_nothing_shown (outcomes.Heard number) is = absurd cc
 stored_nothing_shown (outcomes.Full count) is = absurd cc
 stored_nothing_shown (outcomes.Carried records items) is = absurd cc
 stored_nothing_shown (outcomes.Crashed count) is = absurd cc
+stored_nothing_shown (outcomes.Clock moment) is = absurd cc
 stored_nothing_shown outcomes.NotHeld is = absurd cc
 stored_nothing_shown (outcomes.Applied count) is = absurd cc
 stored_nothing_shown (outcomes.Records count) is = absurd cc
+stored_nothing_shown (outcomes.Bill lines pence) is = absurd cc
 
 -- ---- at a port
 
@@ -233,48 +241,49 @@ module _ (w : World) (c p : ℕ) where
   next_is call is next = calls_here w c p call is (with_call (calls_at w c) p next) ∙ call_here w c p call is next
 
   press_stretch : (key : ℕ) (entry : Option Entry) (call : Option Call) → call_at w c p ≡ call → IsEntryOf call key entry
-      → Stretch call (press_events (view_at w c p) key call) (screens_in (press_at (calls_at w c) p key (view_at w c p) entry call).1)
-      (call_at (with_calls w c (press_at (calls_at w c) p key (view_at w c p) entry call).0) c p)
+      → Stretch call (press_events (view_at w c p) w.moment key call)
+      (screens_in (press_at (calls_at w c) p key (view_at w c p) w.moment entry call).1)
+      (call_at (with_calls w c (press_at (calls_at w c) p key (view_at w c p) w.moment entry call).0) c p)
   press_stretch key entry None is says = nothing_done None is
   press_stretch key entry (Some call) is says = by (is_waiting call) says
     where
       by : (waiting : Bool) → IsEntryUnlessWaiting waiting call key entry
-          → Stretch (Some call) (cond waiting [] (Keyed key (view_at w c p) ∷ []))
+          → Stretch (Some call) (cond waiting [] (Keyed key (view_at w c p) w.moment ∷ []))
           (screens_in (cond waiting (calls_at w c, outcomes.Owing)
-          (turn_at (calls_at w c) p (key_turn call.seat key (view_at w c p) entry))).1)
+          (turn_at (calls_at w c) p (key_turn call.seat key (view_at w c p) w.moment entry))).1)
           (call_at (with_calls w c (cond waiting (calls_at w c, outcomes.Owing)
-          (turn_at (calls_at w c) p (key_turn call.seat key (view_at w c p) entry))).0) c p)
+          (turn_at (calls_at w c) p (key_turn call.seat key (view_at w c p) w.moment entry))).0) c p)
       by true waits = nothing_done (Some call) is
       by false said =
-          let turn = key_turn call.seat key (view_at w c p) entry in
-          subst (λ (next : Option Call). Goes call.seat (Keyed key (view_at w c p) ∷ []) (screens_in (step_answer turn.1)) next)
+          let turn = key_turn call.seat key (view_at w c p) w.moment entry in
+          subst (λ (next : Option Call). Goes call.seat (Keyed key (view_at w c p) w.moment ∷ []) (screens_in (step_answer turn.1)) next)
           (sym (next_is call is (call_after turn.0 turn.1)))
-          (turn_goes call.seat (Keyed key (view_at w c p)) turn.0 turn.1 (entry_turns call.seat key (view_at w c p) entry said))
+          (turn_goes call.seat (Keyed key (view_at w c p) w.moment) turn.0 turn.1 (entry_turns call.seat key (view_at w c p) w.moment entry said))
 
   store_stretch : (is_full : Bool) (count : ℕ) (call : Option Call) → call_at w c p ≡ call
       → Stretch call (store_events is_full call) (screens_in (store_at is_full count (calls_at w c) p call).1)
       (call_at (with_calls w c (store_at is_full count (calls_at w c) p call).0) c p)
   store_stretch is_full count None is = nothing_done None is
-  store_stretch is_full count (Some call) is = by (is_to_store call) refl
+  store_stretch is_full count (Some call) is = by (wish_to_store call) refl
     where
-      full : (is_full : Bool) → is_owing call.seat.phase ≡ true
-          → Stretch (Some call) (cond is_full (Refused ∷ []) []) (screens_in (storing_at is_full count (calls_at w c) p call).1)
-          (call_at (with_calls w c (storing_at is_full count (calls_at w c) p call).0) c p)
-      full true owing =
+      full : (is_full : Bool) (wish : Wish) → wish_to_store call ≡ Some wish
+          → Stretch (Some call) (cond is_full (Refused ∷ []) []) (screens_in (storing_at is_full count (calls_at w c) p call (Some wish)).1)
+          (call_at (with_calls w c (storing_at is_full count (calls_at w c) p call (Some wish)).0) c p)
+      full true wish owes =
           subst (λ (next : Option Call). Goes call.seat (Refused ∷ [])
           (screens_in (away_answer count (full_turn call.seat call.seat.phase).1)) next)
-          (sym (next_is call is None)) (full_goes call.seat call.seat.phase count refl owing)
-      full false owing =
-          let there = calls_here w c p call is (with_log_on (calls_at w c) p call) ∙ call_here w c p call is _ in
+          (sym (next_is call is None)) (full_goes call.seat call.seat.phase count wish refl (to_store call wish owes).1)
+      full false wish owes =
+          let there = calls_here w c p call is (with_wish (calls_at w c) p call wish) ∙ call_here w c p call is _ in
           subst (λ (next : Option Call). Goes call.seat [] [] next) (sym there)
           (record { steps = []; after = call.seat; are = refl; shown = refl; left = refl })
 
-      by : (owing : Bool) → is_to_store call ≡ owing
-          → Stretch (Some call) (cond owing (cond is_full (Refused ∷ []) []) [])
-          (screens_in (cond owing (storing_at is_full count (calls_at w c) p call) (calls_at w c, outcomes.Nothing)).1)
-          (call_at (with_calls w c (cond owing (storing_at is_full count (calls_at w c) p call) (calls_at w c, outcomes.Nothing)).0) c p)
-      by true how = full is_full (first_holds (is_owing call.seat.phase) _ how)
-      by false how = nothing_done (Some call) is
+      by : (wish : Option Wish) → wish_to_store call ≡ wish
+          → Stretch (Some call) (cond (is_some wish) (cond is_full (Refused ∷ []) []) [])
+          (screens_in (storing_at is_full count (calls_at w c) p call wish).1)
+          (call_at (with_calls w c (storing_at is_full count (calls_at w c) p call wish).0) c p)
+      by None owes = nothing_done (Some call) is
+      by (Some wish) owes = full is_full wish owes
 
   show_stretch : (call : Option Call) → call_at w c p ≡ call
       → Stretch call (show_events call) (screens_in (show_at (calls_at w c) p call).1)
@@ -320,12 +329,12 @@ key_stretch : (w : World) (c p : ℕ) (key : KeyedByte) → IsEntryOf (call_at w
     → Stretch (call_at w c p) (key_events w c p key) (screens_in (step_of_key w c p key).1) (call_at (step_of_key w c p key).0 c p)
 key_stretch w c p key says = by (is_owes (step_of_press w c p key.byte key.entry).1) refl
   where
-    first : Stretch (call_at w c p) (press_events (view_at w c p) key.byte (call_at w c p))
+    first : Stretch (call_at w c p) (press_events (view_at w c p) w.moment key.byte (call_at w c p))
         (screens_in (step_of_press w c p key.byte key.entry).1) (call_at (step_of_press w c p key.byte key.entry).0 c p)
     first = press_stretch w c p key.byte key.entry (call_at w c p) refl says
 
     by : (owes : Bool) → is_owes (step_of_press w c p key.byte key.entry).1 ≡ owes
-        → Stretch (call_at w c p) (press_events (view_at w c p) key.byte (call_at w c p) ++ cond owes
+        → Stretch (call_at w c p) (press_events (view_at w c p) w.moment key.byte (call_at w c p) ++ cond owes
         (payment_events (step_of_press w c p key.byte key.entry).0 c p) [])
         (screens_in (cond owes (step_of_payment (step_of_press w c p key.byte key.entry).0 c p) (step_of_press w c p key.byte key.entry)).1)
         (call_at (cond owes (step_of_payment (step_of_press w c p key.byte key.entry).0 c p)
@@ -335,7 +344,7 @@ key_stretch w c p key says = by (is_owes (step_of_press w c p key.byte key.entry
         let both = stretch_on (call_at w c p) (call_at v c p) (call_at (step_of_payment v c p).0 c p) _ (payment_events v c p) _
         (screens_in (step_of_payment v c p).1) first
         (payment_stretch v c p) in
-        subst (λ (l : List Turn). Stretch (call_at w c p) (press_events (view_at w c p) key.byte (call_at w c p) ++ payment_events v c p)
+        subst (λ (l : List Turn). Stretch (call_at w c p) (press_events (view_at w c p) w.moment key.byte (call_at w c p) ++ payment_events v c p)
         (l ++ screens_in (step_of_payment v c p).1) (call_at (step_of_payment v c p).0 c p))
         (owes_nothing_shown (step_of_press w c p key.byte key.entry).1 is) both
     by false is = stretch_end (call_at w c p) _ _ _ first
@@ -437,31 +446,31 @@ module _ (w : World) (c p centre port : ℕ) (other : centre ≡ c → port ≡ 
   hang_elsewhere None = kept_calls
   hang_elsewhere (Some call) = changed_call None
 
-  press_elsewhere : (key : ℕ) (view : View) (entry : Option Entry) (call : Option Call)
-      → call_at (with_calls w centre (press_at (calls_at w centre) port key view entry call).0) c p ≡ call_at w c p
-  press_elsewhere key view entry None = kept_calls
-  press_elsewhere key view entry (Some call) = by (is_waiting call)
+  press_elsewhere : (key : ℕ) (view : View) (moment : ℕ) (entry : Option Entry) (call : Option Call)
+      → call_at (with_calls w centre (press_at (calls_at w centre) port key view moment entry call).0) c p ≡ call_at w c p
+  press_elsewhere key view moment entry None = kept_calls
+  press_elsewhere key view moment entry (Some call) = by (is_waiting call)
     where
       by : (waiting : Bool)
           → call_at (with_calls w centre (cond waiting (calls_at w centre, outcomes.Owing)
-          (turn_at (calls_at w centre) port (key_turn call.seat key view entry))).0) c p ≡ call_at w c p
+          (turn_at (calls_at w centre) port (key_turn call.seat key view moment entry))).0) c p ≡ call_at w c p
       by true = kept_calls
       by false = changed_call _
 
   store_elsewhere : (is_full : Bool) (count : ℕ) (call : Option Call)
       → call_at (with_calls w centre (store_at is_full count (calls_at w centre) port call).0) c p ≡ call_at w c p
   store_elsewhere is_full count None = kept_calls
-  store_elsewhere is_full count (Some call) = by (is_to_store call)
+  store_elsewhere is_full count (Some call) = by (wish_to_store call)
     where
-      full : (is_full : Bool) → call_at (with_calls w centre (storing_at is_full count (calls_at w centre) port call).0) c p ≡ call_at w c p
-      full true = changed_call None
-      full false = call_elsewhere w c p centre port _ (with_log_on (calls_at w centre) port call) other refl
+      full : (is_full : Bool) (wish : Wish)
+          → call_at (with_calls w centre (storing_at is_full count (calls_at w centre) port call (Some wish)).0) c p ≡ call_at w c p
+      full true wish = changed_call None
+      full false wish = call_elsewhere w c p centre port _ (with_wish (calls_at w centre) port call wish) other refl
 
-      by : (owing : Bool)
-          → call_at (with_calls w centre (cond owing (storing_at is_full count (calls_at w centre) port call)
-          (calls_at w centre, outcomes.Nothing)).0) c p ≡ call_at w c p
-      by true = full is_full
-      by false = kept_calls
+      by : (wish : Option Wish)
+          → call_at (with_calls w centre (storing_at is_full count (calls_at w centre) port call wish).0) c p ≡ call_at w c p
+      by None = kept_calls
+      by (Some wish) = full is_full wish
 
   show_elsewhere : (call : Option Call) → call_at (with_calls w centre (show_at (calls_at w centre) port call).0) c p ≡ call_at w c p
   show_elsewhere None = kept_calls
@@ -475,8 +484,8 @@ module _ (w : World) (c p centre port : ℕ) (other : centre ≡ c → port ≡ 
 -- at another port
 press_other : (w : World) (c p centre port key : ℕ) (entry : Option Entry) → (centre ≡ c → port ≡ p → ⊥)
     → call_at (step_of_press w centre port key entry).0 c p ≡ call_at w c p
-press_other w c p centre port key entry other = press_elsewhere w c p centre port other key (view_at w centre port) entry
-    (call_at w centre port)
+press_other w c p centre port key entry other = press_elsewhere w c p centre port other key (view_at w centre port) w.moment
+    entry (call_at w centre port)
 
 store_other : (w : World) (c p centre port : ℕ) → (centre ≡ c → port ≡ p → ⊥) → call_at (step_of_store w centre port).0 c p ≡ call_at w c p
 store_other w c p centre port other =
@@ -541,8 +550,8 @@ hang_stretch w c p (Some call) is =
     (record { steps = []; after = call.seat; are = refl; shown = refl; left = tt })
 
 -- an event at no port is no step of a seat
-no_step : (w : World) (c p : ℕ) (v : World) → calls_at v c ≡ calls_at w c → Stretch (call_at w c p) [] [] (call_at v c p)
-no_step w c p v same = unchanged (call_at w c p) _ (ap (λ (calls : Calls). call_in calls p) same)
+no_step : (w : World) (c p : ℕ) (v : World) → books_at v c ≡ books_at w c → Stretch (call_at w c p) [] [] (call_at v c p)
+no_step w c p v same = unchanged (call_at w c p) _ (ap (λ (books : Books). call_in books.calls p) same)
 
 -- neither is one that shows nothing and leaves the call or ends it
 no_turn : (w : World) (c p centre port : ℕ) (here : ℕ → ℕ → World × Outcome)
@@ -604,17 +613,22 @@ event_stretch w c p call (events.Hang centre port) choice is chosen =
     no_turn w c p centre port (λ n m. step_of_hang w n m) (λ one two. hang_stretch w c p (call_at w c p) refl)
     (λ other. hang_elsewhere w c p centre port other (call_at w centre port))
 event_stretch w c p call (events.Send centre) choice is chosen =
-    no_step w c p (happens w (events.Send centre) choice).0 (send_same c w centre)
+    no_step w c p (happens w (events.Send centre) choice).0 (sending_same c ways.Down w centre)
+event_stretch w c p call (events.Post centre) choice is chosen =
+    no_step w c p (happens w (events.Post centre) choice).0 (sending_same c ways.Up w centre)
 event_stretch w c p call (events.Deliver centre index) choice is chosen =
-    no_step w c p (happens w (events.Deliver centre index) choice).0 (deliver_same c w centre index)
+    no_step w c p (happens w (events.Deliver centre index) choice).0 (arriving_same c ways.Down w centre index)
 event_stretch w c p call (events.Back centre index) choice is chosen =
-    no_step w c p (happens w (events.Back centre index) choice).0 (back_same c w centre index)
+    no_step w c p (happens w (events.Back centre index) choice).0 (arriving_same c ways.Up w centre index)
 event_stretch w c p call (events.Carry centre) choice is chosen =
-    no_step w c p (happens w (events.Carry centre) choice).0 (rounds_same c (packet_room w.links + 1) centre w 0)
+    no_step w c p (happens w (events.Carry centre) choice).0 (rounds_same c (packet_room w.links + 1) centre w ways.Down no_load)
 event_stretch w c p call (events.Crash node) choice is chosen = crash_stretch w c p call node is
+event_stretch w c p call (events.Clock moment) choice is chosen = stays (call_at w c p)
 event_stretch w c p call (events.View centre name) choice is chosen = stays (call_at w c p)
 event_stretch w c p call (events.At centre) choice is chosen = stays (call_at w c p)
 event_stretch w c p call events.List choice is chosen = stays (call_at w c p)
+event_stretch w c p call (events.Bill account) choice is chosen = stays (call_at w c p)
+event_stretch w c p call (events.Lines centre) choice is chosen = stays (call_at w c p)
 
 -- ---- all events
 

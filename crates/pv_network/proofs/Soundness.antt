@@ -1,6 +1,6 @@
 -- What an event makes of a sound world is sound.
-use Rattle.std.proofs.Common.{◌≡◌, ℕ, zero, suc, ◌+◌, ◌<◌, ◌≤◌, Bool, true, false, cond, ◌&&◌, leb, ltb, List, [], ◌∷◌, ◌++◌, length, get_or, Option, Some, None, take, refl, sym, ap, subst, ◌∙◌, arith, inl, inr}
-use Rattle.std.specs.Prelude.{slice_get, replicate}
+use Rattle.std.proofs.Common.{◌≡◌, ℕ, zero, suc, ◌+◌, ◌<◌, ◌≤◌, Bool, true, false, cond, ◌&&◌, leb, ltb, List, [], ◌∷◌, ◌++◌, append-nil, length, get_or, Option, Some, None, take, refl, sym, ap, subst, ◌∙◌, arith, inl, inr}
+use Rattle.std.specs.Prelude.{All, option_map, slice_get, replicate}
 use Rattle.std.specs.List.{count_by}
 use Rattle.std.specs.Option.{option_map_or}
 use Rattle.std.proofs.lemmas.Bool.{leb-false}
@@ -16,14 +16,17 @@ use Rattle.pv_edits.specs.declared.record.Record.{Record}
 use Rattle.pv_edits.specs.declared.wish.EditWish.{EditWish}
 use Rattle.pv_edits.specs.declared.wish.EditWish.TheVariants.{Put}
 use Rattle.pv_edits.specs.declared.room.TheConstants.{OPERATOR}
-use Rattle.pv_edits.specs.Edits.{is_edit_of, number_in}
+use Rattle.pv_edits.specs.declared.down.DownRecord.{DownRecord}
+use Rattle.pv_edits.specs.Edits.{is_edit_of, number_in, taken_of}
 use Rattle.pv_fields.specs.Reading.{◌>>=◌}
 use Rattle.pv_node.specs.declared.decision.Decision.{Decision}
 use Rattle.pv_node.specs.declared.decision.Decision.TheVariants.{Answer, Store}
 use Rattle.pv_udc.specs.Judgement.{next_number, judge}
 use Rattle.pv_udc.specs.declared.reply.UdcReply.{UdcReply}
 use Rattle.pv_udc.specs.declared.reply.UdcReply.TheVariants as replies
-use Rattle.pv_udc.specs.declared.request.UdcRequest.TheVariants.{Edit}
+use Rattle.pv_post.specs.declared.item.Item.{Item}
+use Rattle.pv_udc.specs.Requests.{record_of}
+use Rattle.pv_udc.specs.declared.request.UdcRequest.TheVariants.{Edit, TakeUp}
 use Rattle.pv_udc.proofs.CallerLemmas.{has_room-judged, next-judged, is_his, IsAnswered, is_answered, last_edit-there, last_edit-his, last_edit-others}
 use Rattle.pv_editor.specs.Say.{new_seat}
 use Rattle.pv_editor.specs.declared.line.EditLine.{EditLine}
@@ -31,36 +34,43 @@ use Rattle.pv_editor.specs.declared.seat.EditorSeat.{EditorSeat}
 use Rattle.pv_editor.specs.declared.step.EditStep.{EditStep}
 use Rattle.pv_editor.specs.declared.step.EditStep.TheVariants as steps
 use Rattle.pv_editor.specs.declared.replies.UdcReplyView.TheVariants.{Stored, Refused}
-use Rattle.pv_network.specs.Centre as arrivals
+use Rattle.pv_network.specs.declared.arrival.Arrival.{Arrival}
+use Rattle.pv_network.specs.declared.arrival.Arrival.TheVariants as arrivals
+use Rattle.pv_network.specs.declared.load.Load.{Load}
+use Rattle.pv_network.specs.declared.way.Way.{Way}
+use Rattle.pv_network.specs.declared.way.Way.TheVariants as ways
 use Rattle.pv_network.specs.declared.event.Event.{Event}
 use Rattle.pv_network.specs.declared.event.Event.TheVariants as events
 use Rattle.pv_network.specs.declared.event.NodeName.{NodeName}
 use Rattle.pv_network.specs.declared.event.NodeName.TheVariants as nodes
+use Rattle.pv_network.specs.declared.outcome.BillLine.{BillLine}
 use Rattle.pv_network.specs.declared.outcome.Outcome.{Outcome}
 use Rattle.pv_network.specs.declared.outcome.Turn.{Turn}
 use Rattle.pv_packet.specs.declared.packet.Packet.{Packet}
 use Rattle.pv_packet.specs.declared.packet.Packet.TheVariants.{Down, Up, DownHeard, UpHeard}
-use Rattle.pv_link.specs.Sending.{SendingEnd, number_to_give, number_in_turn, end_after, end_that_heard}
+use Rattle.pv_link.specs.Sending.{SendingEnd, new_end, number_in_turn, end_after, end_that_heard}
 use Rattle.pv_network.specs.declared.round.Round.{Round}
 use Rattle.pv_network.specs.declared.round.Round.TheVariants as rounds
 use Rattle.pv_network.specs.declared.verdict.TheConstants.{FULL}
 use Rattle.pv_network.specs.declared.event.TheConstants.{PORTS}
 use Rattle.pv_network.specs.Call.{Call, serial_of}
 use Rattle.pv_session.specs.declared.entry.Entry.{Entry}
-use Rattle.pv_network.specs.Calling.{calls_at, call_at, view_at, with_calls, step_of_press, step_of_store, step_of_show}
+use Rattle.pv_network.specs.Calling.{calls_at, call_at, view_at, with_calls, step_of_dial, step_of_hang, step_of_press, step_of_store, step_of_show}
 use Rattle.pv_network.specs.Keying.{KeyedByte, first_entry, is_owes, is_storing, step_of_payment, step_of_key, screens_in, is_over, keys_from, keys_refusal, step_of_taken_keys}
 use Rattle.pv_network.specs.Calls.{Calls, no_calls}
-use Rattle.pv_network.specs.Centre.{Arrival, Centre, new_centre, record_count, arrival_of}
-use Rattle.pv_network.specs.Crashing.{without_calls, step_of_update_crash, step_of_centre_crash, step_of_crash}
-use Rattle.pv_network.specs.Link.{Link, new_link, with_new_end, is_packets_full, packet_of, with_packet, delivery_of, with_acknowledgement, heard_count, heard_link}
-use Rattle.pv_network.specs.OneList.{IsNextOfEditor, HasNumbersInOrder, StandsAt, HasOnePlaceEach, MatchesReceipt}
+use Rattle.pv_network.specs.Centre.{Centre, new_centre, arrival_of}
+use Rattle.pv_network.specs.Crashing.{without_calls, step_of_update_crash, step_of_lost_calls, step_of_centre_crash, step_of_crash}
+use Rattle.pv_network.specs.Link.{Link, new_link, is_packets_full, back_way, ack_packet, packets_on, end_on, with_packet, with_end, with_sent, with_new_end}
+use Rattle.pv_network.specs.OneList.{IsNextOfEditor, HasNumbersInOrder, StandsAt, HasOnePlaceEach, MatchesReceipt, taken_items}
 use Rattle.pv_network.specs.Run.{EachFollows, MayFollow}
-use Rattle.pv_network.specs.Sound.{IsGenuine, Acknowledges, serial_in, IsSoundLink, IsSoundCalls, IsSound}
+use Rattle.pv_network.specs.Sound.{IsGenuine, GoesAlong, serial_in, IsSoundLink, IsSoundCalls, IsSound}
 use Rattle.pv_network.specs.Step.{Choice, with_verdict, step_of_request, seeded_frame, step_of_line, step_of_said, step_of_edit, happens, after}
-use Rattle.pv_network.specs.Traffic.{packet_room, with_ack_back, round_of_send, round_of_number, step_of_round, after_round, carry_rounds, step_of_packing, step_of_number, step_of_send, step_of_acknowledging, with_next_at, step_of_arrival, step_of_packet, step_of_deliver, step_of_heard, step_of_back}
+use Rattle.pv_network.specs.Traffic.{front_of, received_count, receiver_count, record_packet, packet_for, next_number_on, step_of_packing, step_of_number, step_of_sending, step_of_acknowledging, arrival_on, world_after, step_of_answer, with_next_at, with_item_of, step_of_hearing, step_of_packet, step_of_found, step_of_arriving, with_ack_back, round_of_send, step_of_round, no_load, with_one, way_on, after_round, rounds_on, carry_rounds, packet_room}
 use Rattle.pv_network.specs.Verdict.{editor_reply, verdict_by}
-use Rattle.pv_network.specs.World.{World, Receipt, start, with_seat, centre_at, link_at, with_centre, with_link, with_edit, with_receipt}
+use Rattle.pv_network.specs.World.{World, Receipt, StoppedCall, start, with_seat, centre_at, link_at, with_centre, with_link, with_edit, with_receipt}
 use Rattle.pv_network.proofs.Counts.{count_by-grows, frame_count-none, frames_within}
+use Rattle.pv_network.proofs.Items.{KeepsItems, same_items, dial_items, hang_items, press_items, store_items, show_items}
+use Rattle.pv_network.proofs.TakingUp.{one_if, taken_more, TakesNext, taken_push, edit_takes_none, item_takes_next, taken_of_more, judges_next}
 use Rattle.pv_network.proofs.SoundCalls.{dial_sound, hang_sound, press_sound, store_sound, show_sound}
 use Rattle.pv_network.proofs.Lists.{set_at, all_get, get_prefix, get_push, get_last}
 
@@ -74,39 +84,74 @@ choice P false x y here there = there refl
 -- a centre that nothing has reached has a sound link beside any list
 sound_new : (edits : List Record) (c : ℕ) → IsSoundLink edits c new_centre new_link
 sound_new edits c = record {
-  packets = λ k d none. absurd (omega (arith, none));
-  acknowledged = λ k d none. absurd
-      (omega (arith, none));
-  heard = omega arith;
+  down = λ k d none. absurd (omega (arith, none));
+  up = λ k d none. absurd (omega (arith, none));
+  sending = omega arith;
+  posting = omega arith;
 }
 
+-- The list has become longer, or the centre has applied more of it or keeps more items.
+module _ (edits more longer : List Record) (grown : longer ≡ edits ++ more) (c : ℕ) (old new : Centre)
+    (applied : old.applied ≤ new.applied) (items : List Item) (kept : new.calls.items ≡ old.calls.items ++ items) where
+  -- no fewer items were taken up
+  no_fewer : taken_of edits c ≤ taken_of longer c
+  no_fewer = omega (arith, taken_more edits more c, ap (λ (l : List Record). taken_of l c) grown)
+
+  -- a genuine packet is genuine still
+  genuine_more : (packet : Packet) → IsGenuine edits c old packet → IsGenuine longer c new packet
+  genuine_more (Down from number rec) is = (
+    is.0,
+    record {
+      edit = is.1.edit;
+      there = ap (λ (l : List Record). slice_get l number) grown ∙ get_prefix edits more number is.1.edit is.1.there;
+      same = is.1.same;
+    },
+  )
+  genuine_more (Up from number item) is =
+      (is.0, ap (λ (l : List Item). slice_get l number) kept ∙ get_prefix old.calls.items items number item is.1)
+  genuine_more (DownHeard from number) is = (is.0, omega (arith, is.1, applied))
+  genuine_more (UpHeard from number) is = (is.0, omega (arith, is.1, no_fewer))
+
+  goes_more : (way : Way) (packet : Packet) → GoesAlong edits c old way packet → GoesAlong longer c new way packet
+  goes_more way packet goes = record { way_is = goes.way_is; genuine = genuine_more packet goes.genuine }
+
+  -- a sound link is sound still
+  pub link_more : (link : Link) → IsSoundLink edits c old link → IsSoundLink longer c new link
+  link_more link sound = record {
+    down = λ k d within. goes_more ways.Down _ (sound.down k d within);
+    up = λ k d within. goes_more ways.Up _ (sound.up k d within);
+    sending = omega (arith, sound.sending, applied);
+    posting = omega (arith, sound.posting, no_fewer);
+  }
+
 module _ (w : World) (c : ℕ) (sound : IsSound w) where
-  -- another centre in the place of one, which has applied a prefix and has a sound link
-  sound_with_centre : (centre : Centre) → centre.applied ≤ length w.update.records → IsSoundLink w.update.records c centre (link_at w c)
-      → IsSoundCalls centre.calls → IsSound (with_centre w c centre)
-  sound_with_centre centre within here calls = record {
+  -- a centre that has applied no less in the place of one, and that keeps its items
+  sound_with_centre : (centre : Centre) → (centre_at w c).applied ≤ centre.applied → centre.applied ≤ length w.update.records
+      → KeepsItems (calls_at w c) centre.calls → IsSoundCalls centre.calls → IsSound (with_centre w c centre)
+  sound_with_centre centre more within kept calls = record {
     law = record {
       run = sound.law.run;
       one_place = sound.law.one_place;
       numbered = sound.law.numbered;
       kept = sound.law.kept;
       prefixes = set_at (λ k centre. centre.applied ≤ length w.update.records) w.centres c centre new_centre sound.law.prefixes within;
+      taken = set_at (λ k centre. taken_items w.update.records k ≡ take (taken_of w.update.records k) centre.calls.items) w.centres c centre
+          new_centre sound.law.taken
+          (taken_of_more w.update.records c (calls_at w c).items kept.0 centre.calls.items (sound.law.taken c) kept.1);
     };
     next = sound.next;
     records = sound.records;
     frames = sound.frames;
-    links = set_at (λ k centre. IsSoundLink w.update.records k centre (link_at w k)) w.centres c centre new_centre sound.links here;
+    links = set_at (λ k centre. IsSoundLink w.update.records k centre (link_at w k)) w.centres c centre new_centre sound.links
+        (link_more w.update.records [] w.update.records (sym (append-nil w.update.records)) c (centre_at w c) centre more kept.0 kept.1
+        (link_at w c) (sound.links c));
     calls = set_at (λ k centre. IsSoundCalls centre.calls) w.centres c centre new_centre sound.calls calls;
   }
 
-  -- other sound calls at a centre
-  pub sound_with_calls : (calls : Calls) → IsSoundCalls calls → IsSound (with_calls w c calls)
-  sound_with_calls calls here =
-      sound_with_centre (record (centre_at w c) { calls = calls }) (sound.law.prefixes c) (record {
-        packets = (sound.links c).packets;
-        acknowledged = (sound.links c).acknowledged;
-        heard = (sound.links c).heard;
-      }) here
+  -- other sound calls at a centre, which keep its items
+  pub sound_with_calls : (calls : Calls) → KeepsItems (calls_at w c) calls → IsSoundCalls calls → IsSound (with_calls w c calls)
+  sound_with_calls calls kept here =
+      sound_with_centre (record (centre_at w c) { calls = calls }) (omega arith) (sound.law.prefixes c) kept here
 
   -- another sound link in the place of one
   sound_with_link : (link : Link) → IsSoundLink w.update.records c (centre_at w c) link → IsSound (with_link w c link)
@@ -128,23 +173,6 @@ kept_longer edits more receipt kept = record {
   there = get_prefix edits more receipt.place kept.edit kept.there;
   by = kept.by;
   numbered = kept.numbered;
-}
-
--- a packet that carries a record of a list carries one of a longer list
-genuine_longer : (edits more : List Record) (c : ℕ) (packet : Packet) → IsGenuine edits c packet → IsGenuine (edits ++ more) c packet
-genuine_longer edits more c (Down centre number rec) is =
-    (is.0, record { edit = is.1.edit; there = get_prefix edits more number is.1.edit is.1.there; same = is.1.same })
-genuine_longer edits more c (Up centre number item) never = absurd never
-genuine_longer edits more c (DownHeard centre number) never = absurd never
-genuine_longer edits more c (UpHeard centre number) never = absurd never
-
--- a link stays sound as the list grows
-link_longer : (edits more : List Record) (c : ℕ) (centre : Centre) (link : Link) → IsSoundLink edits c centre link
-    → IsSoundLink (edits ++ more) c centre link
-link_longer edits more c centre link sound = record {
-  packets = λ k d within. genuine_longer edits more c _ (sound.packets k d within);
-  acknowledged = sound.acknowledged;
-  heard = sound.heard;
 }
 
 -- each record still follows those before it in a list with one more that follows them all
@@ -184,10 +212,6 @@ one_place edits numbered editor number one other here there =
         let more = count_by-grows (is_edit_of editor) edits a b s.edit s.there s.by less in
         omega (arith, counted a s, counted b t, more)
 
--- one if the test holds
-abbrev one_if : Bool → ℕ
-one_if test = cond test 1 0
-
 module _ (limits : Limits) (edits : List Record) (edit : Record) (follows : MayFollow limits edits edit)
     (sound : (e : ℕ) → next_number edits e ≡ count_by (is_edit_of e) edits + 1) where
   -- the edit has its editor's next number
@@ -214,9 +238,10 @@ module _ (limits : Limits) (edits : List Record) (edit : Record) (follows : MayF
           let last = ap (λ (l : Option (ℕ × ℕ)). option_map_or (λ (p : ℕ × ℕ). p.0) l 0 + 1) (last_edit-others edits edit e his) in
           omega (arith, last, more, ap one_if his, sound e)
 
--- a sound world stays sound with a record that may follow
-sound_stored : (w : World) (edit : Record) → IsSound w → MayFollow w.update.limits w.update.records edit → IsSound (with_edit w (Some edit))
-sound_stored w edit sound follows =
+-- a sound world stays sound with a record that may follow, and that takes up no item of a centre or its next one
+sound_stored : (w : World) (edit : Record) → IsSound w → MayFollow w.update.limits w.update.records edit
+    → ((c : ℕ) → TakesNext w.update.records c (calls_at w c).items edit) → IsSound (with_edit w (Some edit))
+sound_stored w edit sound follows next =
     let edits = w.update.records in
     let limits = w.update.limits in
     let longer = edits ++ edit ∷ [] in
@@ -230,11 +255,13 @@ sound_stored w edit sound follows =
         numbered = numbered;
         kept = λ k d within. kept_longer edits (edit ∷ []) _ (sound.law.kept k d within);
         prefixes = λ c. omega (arith, sound.law.prefixes c, length-append edits (edit ∷ []));
+        taken = λ c. taken_push edits c (calls_at w c).items (sound.law.taken c) edit (next c);
       };
       next = next_push limits edits edit follows sound.next;
       records = omega (arith, follows.record_room, length-append edits (edit ∷ []));
       frames = frames_within limits edits edit sound.frames room;
-      links = λ c. link_longer edits (edit ∷ []) c (centre_at w c) (link_at w c) (sound.links c);
+      links = λ c. link_more edits (edit ∷ []) longer refl c (centre_at w c) (centre_at w c) (omega arith) []
+          (sym (append-nil (calls_at w c).items)) (link_at w c) (sound.links c);
       calls = sound.calls;
     }
 
@@ -248,6 +275,7 @@ sound_receipt w editor q place sound stands = record {
     numbered = sound.law.numbered;
     kept = All-push (MatchesReceipt w.update.records) w.receipts _ sound.law.kept stands;
     prefixes = sound.law.prefixes;
+    taken = sound.law.taken;
   };
   next = sound.next;
   records = sound.records;
@@ -287,7 +315,8 @@ module _ (w : World) (editor q : ℕ) (wish : EditWish) (sound : IsSound w) wher
           let stands : StandsAt (edits ++ edit ∷ []) editor q (length edits) =
           record { edit = edit; there = get_last edits edit; by = his.his; numbered = his.numbered } in
           subst (λ (r : UdcReply). IsSound (with_receipt (with_edit w (Some edit)) editor q (editor_reply r))) (sym his.reply_is)
-          (sound_receipt (with_edit w (Some edit)) editor q (length edits) (sound_stored w edit sound follows) stands)
+          (sound_receipt (with_edit w (Some edit)) editor q (length edits) (sound_stored w edit sound follows
+          (λ c. edit_takes_none edits c (calls_at w c).items editor edit his.his)) stands)
 
       by : (decision : Decision Record UdcReply) → judge w.update.limits w.update.records (Edit editor q wish) ≡ decision
           → IsSound (with_verdict w editor q (verdict_by w.update decision))
@@ -321,7 +350,7 @@ sound_edit w port said sound = by (step_of_line w port said).1
     by (steps.Responses editor from) = next
     by steps.Close = sound_seat (step_of_line w port said).0 port new_seat next
 
--- ---- send
+-- ---- a link
 
 -- an end that gives a number has heard no more
 heard_after : (end : SendingEnd) (front : ℕ) → (end_after end front).acknowledged ≡ end.acknowledged
@@ -330,97 +359,6 @@ heard_after end front = by (ltb end.acknowledged front)
     by : (test : Bool) → (cond test (record end { next = number_in_turn end front + 1 }) end).acknowledged ≡ end.acknowledged
     by true = refl
     by false = refl
-
--- a sound world stays sound with a packet that carries the list's record of its number
-pub sound_packet : (w : World) (c number : ℕ) (edit : Record) → IsSound w → slice_get w.update.records number ≡ Some edit
-    → IsSound (with_link w c (with_packet (link_at w c) (length w.update.records) (packet_of c number edit)))
-sound_packet w c number edit sound is =
-    let here = sound.links c in
-    sound_with_link w c sound _ (record {
-      packets = All-push (IsGenuine w.update.records c) (link_at w c).down (packet_of c number edit) here.packets
-          (refl, record { edit = edit; there = is; same = refl });
-      acknowledged = here.acknowledged;
-      heard = omega (arith, here.heard, heard_after (link_at w c).sending (length w.update.records));
-    })
-
--- a sound world stays sound if the next record is packed, or there is none to pack
-sound_send : (w : World) (c : ℕ) → IsSound w → IsSound (step_of_send w c).0
-sound_send w c sound = choice IsSound (is_packets_full w.links) _ _ (λ _. sound)
-    (λ _. numbered (number_to_give (link_at w c).sending (length w.update.records)))
-  where
-    pack : (number : ℕ) (found : Option Record) → slice_get w.update.records number ≡ found → IsSound (step_of_packing w c number found).0
-    pack number None is = sound
-    pack number (Some edit) is = sound_packet w c number edit sound is
-
-    numbered : (number : Option ℕ) → IsSound (step_of_number w c number).0
-    numbered None = sound
-    numbered (Some number) = pack number (slice_get w.update.records number) refl
-
--- ---- deliver
-
--- a sound world stays sound with a centre's count on its link
-pub sound_count : (w : World) (c : ℕ) → IsSound w → IsSound (with_link w c (with_acknowledgement (link_at w c) c (centre_at w c).applied))
-sound_count w c sound =
-    let here = sound.links c in
-    sound_with_link w c sound _ (record {
-      packets = here.packets;
-      acknowledged = All-push (Acknowledges c (centre_at w c).applied) (link_at w c).up (DownHeard c (centre_at w c).applied)
-          here.acknowledged (refl, omega arith);
-      heard = here.heard;
-    })
-
--- a sound world stays sound if a centre acknowledges what it has applied
-sound_acknowledged : (w : World) (c : ℕ) → IsSound w → IsSound (step_of_acknowledging w c).0
-sound_acknowledged w c sound = choice IsSound (is_packets_full w.links) _ _ (λ _. sound) (λ _. sound_count w c sound)
-
--- a packet that acknowledges no more than was applied acknowledges no more than that and one
-acknowledges_more : (c applied : ℕ) (packet : Packet) → Acknowledges c applied packet → Acknowledges c (applied + 1) packet
-acknowledges_more c applied (Down centre number rec) never = absurd never
-acknowledges_more c applied (Up centre number item) never = absurd never
-acknowledges_more c applied (DownHeard centre number) is = (is.0, omega (arith, is.1))
-acknowledges_more c applied (UpHeard centre number) never = absurd never
-
--- the record that comes next is one of the list's
-pub sound_applied : (w : World) (c number : ℕ) (edit : Record) → IsSound w → slice_get w.update.records number ≡ Some edit
-    → number ≡ (centre_at w c).applied → IsSound (with_next_at w c)
-sound_applied w c number edit sound is next =
-    let here = sound.links c in
-    sound_with_centre w c sound _ (omega (arith, slice_get_within w.update.records number edit is, next)) (record {
-      packets = here.packets;
-      acknowledged = λ k d within. acknowledges_more c (centre_at w c).applied _ (here.acknowledged k d within);
-      heard = omega (arith, here.heard);
-    }) (sound.calls c)
-
--- what is taken is the next one
-pub taken_is_next : (applied count limit number : ℕ) → arrival_of applied count limit number ≡ arrivals.Taken → number ≡ applied
-taken_is_next applied count limit number is = grind (arith, nat_tests)
-
--- a sound world stays sound whatever packet arrives
-pub sound_deliver : (w : World) (c index : ℕ) → IsSound w → IsSound (step_of_deliver w c index).0
-sound_deliver w c index sound = arrives (slice_get (link_at w c).down index) refl
-  where
-    by : (number : ℕ) (edit : Record) (arrival : Arrival) → slice_get w.update.records number ≡ Some edit
-        → arrival_of (centre_at w c).applied (record_count (centre_at w c)) w.update.limits.records number ≡ arrival
-        → IsSound (step_of_arrival w c number arrival).0
-    by number edit arrivals.Taken is how = sound_acknowledged (with_next_at w c) c
-        (sound_applied w c number edit sound is (taken_is_next (centre_at w c).applied
-        (record_count (centre_at w c)) w.update.limits.records number how))
-    by number edit arrivals.Old is how = sound_acknowledged w c sound
-    by number edit arrivals.Early is how = sound_acknowledged w c sound
-    by number edit arrivals.Full is how = sound
-
-    brings : (packet : Packet) → IsGenuine w.update.records c packet → IsSound (step_of_packet w c (delivery_of packet)).0
-    brings (Down centre number rec) is = by number is.1.edit _ is.1.there refl
-    brings (Up centre number item) is = sound
-    brings (DownHeard centre number) is = sound
-    brings (UpHeard centre number) is = sound
-
-    arrives : (found : Option Packet) → slice_get (link_at w c).down index ≡ found → IsSound (step_of_packet w c (found >>= delivery_of)).0
-    arrives None is = sound
-    arrives (Some packet) is = brings packet (all_get (IsGenuine w.update.records c) (link_at w c).down index packet
-        (sound.links c).packets is)
-
--- ---- back
 
 -- what an end heard of is no more than this if both were
 heard_within : (end : SendingEnd) (front count most : ℕ) → end.acknowledged ≤ most → count ≤ most
@@ -431,93 +369,291 @@ heard_within end front count most old new = by (ltb end.acknowledged count && le
     by true = new
     by false = old
 
--- a sound world stays sound if an end hears an acknowledgement that was made
-pub sound_heard : (w : World) (c index count : ℕ) → IsSound w → (slice_get (link_at w c).up index >>= heard_count) ≡ Some count
-    → IsSound (with_link w c (heard_link (link_at w c) (length w.update.records) count))
-sound_heard w c index count sound is =
-    let here = sound.links c in
-    let applied = (centre_at w c).applied in
-    sound_with_link w c sound _ (record {
-      packets = here.packets;
-      acknowledged = here.acknowledged;
-      heard = heard_within (link_at w c).sending (length w.update.records) count applied here.heard
-          (counted (slice_get (link_at w c).up index) refl is);
-    })
-  where
-    names : (packet : Packet) → Acknowledges c (centre_at w c).applied packet → heard_count packet ≡ Some count
-        → count ≤ (centre_at w c).applied
-    names (Down centre number rec) never is = absurd never
-    names (Up centre number item) never is = absurd never
-    names (DownHeard centre number) is same = let one : number ≡ count = cc in omega (arith, one, is.1)
-    names (UpHeard centre number) never is = absurd never
+module _ (edits : List Record) (c : ℕ) (centre : Centre) where
+  -- what was received of a way
+  abbrev most : Way → ℕ
+  most ways.Down = centre.applied
+  most ways.Up = taken_of edits c
 
-    counted : (found : Option Packet) → slice_get (link_at w c).up index ≡ found → (found >>= heard_count) ≡ Some count
-        → count ≤ (centre_at w c).applied
-    counted None at same = absurd cc
-    counted (Some packet) at same = names packet (all_get (Acknowledges c (centre_at w c).applied) (link_at w c).up index packet
-        (sound.links c).acknowledged at) same
+  -- a link is sound with one more genuine packet
+  link_with_packet : (way : Way) (packet : Packet) (link : Link) → GoesAlong edits c centre way packet → IsSoundLink edits c centre link
+      → IsSoundLink edits c centre (with_packet way link packet)
+  link_with_packet ways.Down packet link goes sound = record {
+    down = All-push (GoesAlong edits c centre ways.Down) link.down packet sound.down goes;
+    up = sound.up;
+    sending = sound.sending;
+    posting = sound.posting;
+  }
+  link_with_packet ways.Up packet link goes sound = record {
+    down = sound.down;
+    up = All-push (GoesAlong edits c centre ways.Up) link.up packet sound.up goes;
+    sending = sound.sending;
+    posting = sound.posting;
+  }
 
--- a sound world stays sound whatever acknowledgement arrives
-sound_back : (w : World) (c index : ℕ) → IsSound w → IsSound (step_of_back w c index).0
-sound_back w c index sound = arrives (slice_get (link_at w c).up index >>= heard_count) refl
-  where
-    arrives : (found : Option ℕ) → (slice_get (link_at w c).up index >>= heard_count) ≡ found → IsSound (step_of_heard w c found).0
-    arrives None is = sound
-    arrives (Some count) is = sound_heard w c index count sound is
+  -- and with another end that heard of no more than was received
+  pub link_with_end : (way : Way) (end : SendingEnd) (link : Link) → end.acknowledged ≤ most way → IsSoundLink edits c centre link
+      → IsSoundLink edits c centre (with_end way link end)
+  link_with_end ways.Down end link heard sound =
+      record { down = sound.down; up = sound.up; sending = heard; posting = sound.posting }
+  link_with_end ways.Up end link heard sound =
+      record { down = sound.down; up = sound.up; sending = sound.sending; posting = heard }
+
+  -- its own end heard of no more
+  end_within : (way : Way) (link : Link) → IsSoundLink edits c centre link → (end_on way link).acknowledged ≤ most way
+  end_within ways.Down link sound = sound.sending
+  end_within ways.Up link sound = sound.posting
+
+  -- what went a way is genuine
+  went : (way : Way) (link : Link) → IsSoundLink edits c centre link → All (GoesAlong edits c centre way) (packets_on way link)
+  went ways.Down link sound = sound.down
+  went ways.Up link sound = sound.up
+
+-- ---- send, post
+
+module _ (w : World) (c : ℕ) (sound : IsSound w) where
+  -- what was received of a way in the world
+  most_received : (way : Way) → most w.update.records c (centre_at w c) way ≡ received_count way w c
+  most_received ways.Down = refl
+  most_received ways.Up = refl
+
+  -- what is packed is genuine
+  packed_genuine : (way : Way) (number : ℕ) (packet : Packet) → packet_for way w c number ≡ Some packet
+      → GoesAlong w.update.records c (centre_at w c) way packet
+  packed_genuine ways.Down number packet is = by (slice_get w.update.records number) refl is
+    where
+      by : (found : Option Record) → slice_get w.update.records number ≡ found → option_map (record_packet c number) found ≡ Some packet
+          → GoesAlong w.update.records c (centre_at w c) ways.Down packet
+      by None there none = absurd cc
+      by (Some edit) there same =
+          let packed : record_packet c number edit ≡ packet = cc in
+          subst (GoesAlong w.update.records c (centre_at w c) ways.Down) packed
+          (record { way_is = refl; genuine = (refl, record { edit = edit; there = there; same = refl }) })
+  packed_genuine ways.Up number packet is = by (slice_get (calls_at w c).items number) refl is
+    where
+      by : (found : Option Item) → slice_get (calls_at w c).items number ≡ found → option_map (Up c number) found ≡ Some packet
+          → GoesAlong w.update.records c (centre_at w c) ways.Up packet
+      by None there none = absurd cc
+      by (Some item) there same =
+          let packed : Up c number item ≡ packet = cc in
+          subst (GoesAlong w.update.records c (centre_at w c) ways.Up) packed (record { way_is = refl; genuine = (refl, there) })
+
+  -- a sound world stays sound with that packet on its way
+  pub sound_packed : (way : Way) (number : ℕ) (packet : Packet) → packet_for way w c number ≡ Some packet
+      → IsSound (with_link w c (with_sent way (link_at w c) (front_of way w c) packet))
+  sound_packed way number packet is =
+      let edits = w.update.records in
+      let centre = centre_at w c in
+      let link = with_packet way (link_at w c) packet in
+      let here = link_with_packet edits c centre way packet (link_at w c) (packed_genuine way number packet is) (sound.links c) in
+      sound_with_link w c sound _
+      (link_with_end edits c centre way _ link
+      (omega (arith, end_within edits c centre way link here, heard_after (end_on way link) (front_of way w c))) here)
+
+  -- a sound world stays sound if the next packet is sent, or there is none
+  pub sound_sending : (way : Way) → IsSound (step_of_sending way w c).0
+  sound_sending way = choice IsSound (is_packets_full w.links) _ _ (λ _. sound) (λ _. numbered (next_number_on way w c))
+    where
+      pack : (number : ℕ) (found : Option Packet) → packet_for way w c number ≡ found
+          → IsSound (step_of_packing way w c number found).0
+      pack number None is = sound
+      pack number (Some packet) is = sound_packed way number packet is
+
+      numbered : (number : Option ℕ) → IsSound (step_of_number way w c number).0
+      numbered None = sound
+      numbered (Some number) = pack number (packet_for way w c number) refl
+
+-- ---- deliver, back
+
+-- what is taken is the next one, and there is room for it
+pub taken_is_next : (received count limit number : ℕ) → arrival_of received count limit number ≡ arrivals.Taken → number ≡ received
+taken_is_next received count limit number is = grind (arith, nat_tests)
+
+pub taken_has_room : (received count limit number : ℕ) → arrival_of received count limit number ≡ arrivals.Taken → count < limit
+taken_has_room received count limit number is = grind (arith, nat_tests)
+
+module _ (w : World) (c : ℕ) (sound : IsSound w) where
+  -- the acknowledgement of what was received is genuine
+  ack_genuine : (way : Way) → GoesAlong w.update.records c (centre_at w c) (back_way way) (ack_packet way c (received_count way w c))
+  ack_genuine ways.Down = record { way_is = refl; genuine = (refl, omega arith) }
+  ack_genuine ways.Up = record { way_is = refl; genuine = (refl, omega arith) }
+
+  -- a sound world stays sound with it on the way back
+  pub sound_ack : (way : Way)
+      → IsSound (with_link w c (with_packet (back_way way) (link_at w c) (ack_packet way c (received_count way w c))))
+  sound_ack way =
+      sound_with_link w c sound _
+      (link_with_packet w.update.records c (centre_at w c) (back_way way) _ (link_at w c) (ack_genuine way) (sound.links c))
+
+  sound_acknowledged : (way : Way) → IsSound (step_of_acknowledging way w c).0
+  sound_acknowledged way = choice IsSound (is_packets_full w.links) _ _ (λ _. sound) (λ _. sound_ack way)
+
+  sound_answer : (way : Way) (number : ℕ) (how : Arrival) → IsSound (step_of_answer way w c number how).0
+  sound_answer way number arrivals.Taken = sound_acknowledged way
+  sound_answer way number arrivals.Old = sound_acknowledged way
+  sound_answer way number arrivals.Early = sound_acknowledged way
+  sound_answer way number arrivals.Full = sound
+
+  -- the record that comes next is one of the list's
+  pub sound_applied : (number : ℕ) (edit : Record) → slice_get w.update.records number ≡ Some edit → number ≡ (centre_at w c).applied
+      → IsSound (with_next_at w c)
+  sound_applied number edit is next =
+      sound_with_centre w c sound _ (omega arith) (omega (arith, slice_get_within w.update.records number edit is, next))
+      (same_items (calls_at w c)) (sound.calls c)
+
+  -- the item that comes next is one of the centre's
+  pub sound_taken_up : (number : ℕ) (item : Item) → slice_get (calls_at w c).items number ≡ Some item
+      → number ≡ taken_of w.update.records c → length w.update.records < w.update.limits.records → IsSound (with_item_of w c number item)
+  sound_taken_up number item is next room =
+      let edits = w.update.records in
+      sound_stored w (record_of (TakeUp c number item)) sound
+      (record {
+        judged = (TakeUp c number item, replies.Stored (length edits), judges_next w.update.limits edits c number item next);
+        record_room = room;
+      })
+      (λ k. item_takes_next edits c k number item (λ n. (calls_at w n).items) is next)
+
+  -- what arrives is taken if it comes next
+  pub sound_after_record : (from number : ℕ) (rec : DownRecord) → IsGenuine w.update.records c (centre_at w c) (Down from number rec)
+      → (how : Arrival) → arrival_on ways.Down w c number ≡ how → IsSound (world_after w (with_next_at w c) how)
+  sound_after_record from number rec is arrivals.Taken how = sound_applied number is.1.edit is.1.there
+      (taken_is_next (received_count ways.Down w c) (receiver_count ways.Down w c) w.update.limits.records number how)
+  sound_after_record from number rec is arrivals.Old how = sound
+  sound_after_record from number rec is arrivals.Early how = sound
+  sound_after_record from number rec is arrivals.Full how = sound
+
+  pub sound_after_item : (from number : ℕ) (item : Item) → IsGenuine w.update.records c (centre_at w c) (Up from number item)
+      → (how : Arrival) → arrival_on ways.Up w c number ≡ how → IsSound (world_after w (with_item_of w c number item) how)
+  sound_after_item from number item is arrivals.Taken how = sound_taken_up number item is.1
+      (taken_is_next (received_count ways.Up w c) (receiver_count ways.Up w c) w.update.limits.records number how)
+      (taken_has_room (received_count ways.Up w c) (receiver_count ways.Up w c) w.update.limits.records number how)
+  sound_after_item from number item is arrivals.Old how = sound
+  sound_after_item from number item is arrivals.Early how = sound
+  sound_after_item from number item is arrivals.Full how = sound
+
+  -- an end hears of no more than was received
+  pub sound_hearing : (way : Way) (count : ℕ) → count ≤ received_count way w c → IsSound (step_of_hearing way w c count).0
+  sound_hearing way count few =
+      let edits = w.update.records in
+      let centre = centre_at w c in
+      let end = end_on way (link_at w c) in
+      let least = most_received w c sound way in
+      sound_with_link w c sound _
+      (link_with_end edits c centre way _ (link_at w c)
+      (heard_within end (front_of way w c) count (most edits c centre way)
+      (end_within edits c centre way (link_at w c) (sound.links c)) (omega (arith, few, least))) (sound.links c))
+
+module _ (w : World) (c : ℕ) (sound : IsSound w) where
+  -- a sound world stays sound whatever genuine packet arrives
+  sound_packet : (packet : Packet) → IsGenuine w.update.records c (centre_at w c) packet → IsSound (step_of_packet w c packet).0
+  sound_packet (Down from number rec) is =
+      let how = arrival_on ways.Down w c number in
+      sound_answer (world_after w (with_next_at w c) how) c (sound_after_record w c sound from number rec is how refl) ways.Down number how
+  sound_packet (Up from number item) is =
+      let how = arrival_on ways.Up w c number in
+      sound_answer (world_after w (with_item_of w c number item) how) c (sound_after_item w c sound from number item is how refl) ways.Up
+      number how
+  sound_packet (DownHeard from count) is = sound_hearing w c sound ways.Down count is.1
+  sound_packet (UpHeard from count) is = sound_hearing w c sound ways.Up count is.1
+
+  -- whatever packet of a way is there is genuine
+  pub there_genuine : (way : Way) (index : ℕ) (packet : Packet) → slice_get (packets_on way (link_at w c)) index ≡ Some packet
+      → IsGenuine w.update.records c (centre_at w c) packet
+  there_genuine way index packet is =
+      let edits = w.update.records in
+      let goes = all_get (GoesAlong edits c (centre_at w c) way) (packets_on way (link_at w c)) index packet
+      (went edits c (centre_at w c) way (link_at w c) (sound.links c)) is in
+      goes.genuine
+
+  -- so a sound world stays sound whatever packet arrives
+  pub sound_arriving : (way : Way) (index : ℕ) → IsSound (step_of_arriving way w c index).0
+  sound_arriving way index = by (slice_get (packets_on way (link_at w c)) index) refl
+    where
+      by : (found : Option Packet) → slice_get (packets_on way (link_at w c)) index ≡ found → IsSound (step_of_found w c found).0
+      by None is = sound
+      by (Some packet) is = sound_packet packet (there_genuine way index packet is)
 
 -- ---- carry
 
--- a sound world stays sound if an acknowledgement is taken back
-sound_ack_back : (w : World) (c : ℕ) (ack : Option ℕ) → IsSound w → IsSound (with_ack_back w c ack)
-sound_ack_back w c None sound = sound
-sound_ack_back w c (Some index) sound = sound_back w c index sound
+-- a sound world stays sound if an acknowledgement is heard
+sound_ack_back : (way : Way) (w : World) (c : ℕ) (ack : Option ℕ) → IsSound w → IsSound (with_ack_back way w c ack)
+sound_ack_back way w c None sound = sound
+sound_ack_back way w c (Some index) sound = sound_arriving w c sound (back_way way) index
 
 -- a sound world stays sound after a round
-pub sound_round : (w : World) (c : ℕ) → IsSound w → IsSound (step_of_round w c).0
-sound_round w c sound = numbered (number_to_give (link_at w c).sending (length w.update.records))
+pub sound_round : (way : Way) (w : World) (c : ℕ) → IsSound w → IsSound (step_of_round way w c).0
+sound_round way w c sound = sent (step_of_sending way w c).0 (step_of_sending way w c).1 _ (sound_sending w c sound way)
   where
-    sent : (v : World) (outcome : Outcome) (packet : Option ℕ) → IsSound v → IsSound (round_of_send v c outcome packet).0
+    sent : (v : World) (outcome : Outcome) (packet : Option ℕ) → IsSound v → IsSound (round_of_send way v c outcome packet).0
     sent v outcome None next = next
-    sent v outcome (Some index) next = sound_ack_back (step_of_deliver v c index).0 c _ (sound_deliver v c index next)
-
-    numbered : (number : Option ℕ) → IsSound (round_of_number w c number).0
-    numbered None = sound
-    numbered (Some number) = sent (step_of_send w c).0 (step_of_send w c).1 _ (sound_send w c sound)
+    sent v outcome (Some index) next = sound_ack_back way (step_of_arriving way v c index).0 c _ (sound_arriving v c next way index)
 
 -- what comes after a round leaves a sound world sound if more rounds do
-sound_after_round : (more : World → ℕ → World × Outcome) → ((v : World) (taken : ℕ) → IsSound v → IsSound (more v taken).0)
-    → (w : World) (taken : ℕ) (round : Round) → IsSound w → IsSound (after_round more w taken round).0
-sound_after_round more keeps w taken rounds.Idle sound = sound
-sound_after_round more keeps w taken rounds.Taken sound = keeps w (taken + 1) sound
-sound_after_round more keeps w taken rounds.Again sound = keeps w taken sound
-sound_after_round more keeps w taken (rounds.Stopped outcome) sound = sound
+sound_after_round : (more : World → Way → Load → World × Outcome) → ((v : World) (way : Way) (load : Load) → IsSound v → IsSound (more v way load).0)
+    → (w : World) (way : Way) (load : Load) (round : Round) → IsSound w → IsSound (after_round more w way load round).0
+sound_after_round more keeps w way load rounds.Taken sound = keeps w way (with_one way load) sound
+sound_after_round more keeps w way load rounds.Again sound = keeps w way load sound
+sound_after_round more keeps w way load (rounds.Stopped outcome) sound = sound
+
+-- so does a round on a way, if there is one, and what comes after it
+sound_rounds_on : (more : World → Way → Load → World × Outcome)
+    → ((v : World) (way : Way) (load : Load) → IsSound v → IsSound (more v way load).0)
+    → (w : World) (c : ℕ) (load : Load) (next : Option Way) → IsSound w → IsSound (rounds_on more w c load next).0
+sound_rounds_on more keeps w c load None sound = sound
+sound_rounds_on more keeps w c load (Some way) sound =
+    sound_after_round more keeps (step_of_round way w c).0 way load (step_of_round way w c).1 (sound_round way w c sound)
 
 -- a sound world stays sound however many rounds there are
-sound_rounds : (more c : ℕ) (w : World) (taken : ℕ) → IsSound w → IsSound (carry_rounds more c w taken).0
+pub sound_rounds : (more c : ℕ) (w : World) (way : Way) (load : Load) → IsSound w → IsSound (carry_rounds more c w way load).0
 unfolding carry_rounds
-sound_rounds zero c w taken sound = sound
-sound_rounds (suc more) c w taken sound =
-    sound_after_round (carry_rounds more c) (sound_rounds more c) (step_of_round w c).0 taken (step_of_round w c).1
-    (sound_round w c sound)
+sound_rounds zero c w way load sound = sound
+sound_rounds (suc more) c w way load sound =
+    sound_rounds_on (carry_rounds more c) (sound_rounds more c) w c load (way_on way w c) sound
+
+-- ---- calls
+
+-- a sound world stays sound whatever was shown and stopped
+pub sound_told : (w : World) (shown : List BillLine) (stopped : List StoppedCall) → IsSound w
+    → IsSound (record w { shown = shown; stopped = stopped })
+sound_told w shown stopped sound = record {
+  law = sound.law;
+  next = sound.next;
+  records = sound.records;
+  frames = sound.frames;
+  links = sound.links;
+  calls = sound.calls;
+}
+
+module _ (w : World) (c port : ℕ) (sound : IsSound w) where
+  pub sound_dial : IsSound (step_of_dial w c port).0
+  sound_dial = sound_with_calls w c sound _ (dial_items (calls_at w c) port (call_at w c port))
+      (dial_sound (calls_at w c) port (sound.calls c) (call_at w c port))
+
+  pub sound_hang : IsSound (step_of_hang w c port).0
+  sound_hang = sound_told _ _ _ (sound_with_calls w c sound _ (hang_items (calls_at w c) port (call_at w c port))
+      (hang_sound (calls_at w c) port (sound.calls c) (call_at w c port)))
+
+  pub sound_press : (key : ℕ) (entry : Option Entry) → IsSound (step_of_press w c port key entry).0
+  sound_press key entry =
+      sound_with_calls w c sound _ (press_items (calls_at w c) port key (view_at w c port) w.moment entry (call_at w c port))
+      (press_sound (calls_at w c) port (sound.calls c) key (view_at w c port) w.moment entry (call_at w c port) refl)
+
+  pub sound_store : IsSound (step_of_store w c port).0
+  sound_store = sound_with_calls w c sound _ (store_items (calls_at w c) port _ _ (call_at w c port))
+      (store_sound (calls_at w c) port (sound.calls c) _ _ (call_at w c port) refl)
+
+  pub sound_show : IsSound (step_of_show w c port).0
+  sound_show = sound_told _ _ _ (sound_with_calls w c sound _ (show_items (calls_at w c) port (call_at w c port))
+      (show_sound (calls_at w c) port (sound.calls c) (call_at w c port) refl))
 
 -- ---- keys
 
-sound_press : (w : World) (c port key : ℕ) (entry : Option Entry) → IsSound w → IsSound (step_of_press w c port key entry).0
-sound_press w c port key entry sound =
-    sound_with_calls w c sound _ (press_sound (calls_at w c) port (sound.calls c) key (view_at w c port) entry (call_at w c port) refl)
-
-sound_store : (w : World) (c port : ℕ) → IsSound w → IsSound (step_of_store w c port).0
-sound_store w c port sound = sound_with_calls w c sound _ (store_sound (calls_at w c) port (sound.calls c) _ _ (call_at w c port))
-
-sound_show : (w : World) (c port : ℕ) → IsSound w → IsSound (step_of_show w c port).0
-sound_show w c port sound = sound_with_calls w c sound _ (show_sound (calls_at w c) port (sound.calls c) (call_at w c port) refl)
-
 -- a sound world stays sound with a key and the payment of what it owes
-sound_key : (w : World) (c port : ℕ) (key : KeyedByte) → IsSound w → IsSound (step_of_key w c port key).0
+pub sound_key : (w : World) (c port : ℕ) (key : KeyedByte) → IsSound w → IsSound (step_of_key w c port key).0
 sound_key w c port key sound = choice IsSound (is_owes (step_of_press w c port key.byte key.entry).1) _ _ (λ _. paid) (λ _. pressed)
   where
     pressed : IsSound (step_of_press w c port key.byte key.entry).0
-    pressed = sound_press w c port key.byte key.entry sound
+    pressed = sound_press w c port sound key.byte key.entry
 
     stored : IsSound (step_of_store (step_of_press w c port key.byte key.entry).0 c port).0
     stored = sound_store (step_of_press w c port key.byte key.entry).0 c port pressed
@@ -560,21 +696,30 @@ without_calls_sound calls = record {
   ports = refl;
   below = λ port serial is. absurd (no_serial port serial is);
   differ = λ port other serial is there. absurd (no_serial port serial is);
-  owed = λ port. rw (copy_at {X = Option Call} None PORTS port) tt;
+  replies = λ port. rw (copy_at {X = Option Call} None PORTS port) tt;
 }
   where
     no_serial : (port serial : ℕ) → serial_in (without_calls calls) port ≡ Some serial → ⊥
     no_serial port serial is = let none = ap (λ (call : Option Call). call >>= serial_of)
         (copy_at {X = Option Call} None PORTS port) in absurd cc
 
--- a sound world stays sound without the calls of a centre
-pub sound_centre_crash : (w : World) (c : ℕ) → IsSound w → IsSound (step_of_centre_crash w c).0
-sound_centre_crash w c sound = sound_with_calls w c sound _ (without_calls_sound (calls_at w c))
-
 -- a new end has heard of nothing
-renewed : (edits : List Record) (c : ℕ) (centre : Centre) (link : Link) → IsSoundLink edits c centre link
-    → IsSoundLink edits c centre (with_new_end link)
-renewed edits c centre link sound = record { packets = sound.packets; acknowledged = sound.acknowledged; heard = omega arith }
+renewed : (edits : List Record) (c : ℕ) (centre : Centre) (way : Way) (link : Link) → IsSoundLink edits c centre link
+    → IsSoundLink edits c centre (with_new_end way link)
+renewed edits c centre way link sound = link_with_end edits c centre way new_end link (omega arith) sound
+
+-- a sound world stays sound with a new end of a centre
+pub sound_renewed : (w : World) (c : ℕ) → IsSound w → IsSound (with_link w c (with_new_end ways.Up (link_at w c)))
+sound_renewed w c sound =
+    sound_with_link w c sound _ (renewed w.update.records c (centre_at w c) ways.Up (link_at w c) (sound.links c))
+
+-- and without its calls
+pub sound_lost_calls : (w : World) (c : ℕ) → IsSound w → IsSound (step_of_lost_calls w c).0
+sound_lost_calls w c sound =
+    sound_told _ _ _ (sound_with_calls w c sound _ (same_items (calls_at w c)) (without_calls_sound (calls_at w c)))
+
+sound_centre_crash : (w : World) (c : ℕ) → IsSound w → IsSound (step_of_centre_crash w c).0
+sound_centre_crash w c sound = sound_lost_calls (with_link w c (with_new_end ways.Up (link_at w c))) c (sound_renewed w c sound)
 
 -- a sound world stays sound with new seats and ends
 pub sound_update_crash : (w : World) → IsSound w → IsSound (step_of_update_crash w).0
@@ -583,8 +728,8 @@ sound_update_crash w sound = record {
   next = sound.next;
   records = sound.records;
   frames = sound.frames;
-  links = λ c. subst (λ (link : Link). IsSoundLink w.update.records c (centre_at w c) link) (sym (get_or-map with_new_end w.links c new_link))
-      (renewed w.update.records c (centre_at w c) (link_at w c) (sound.links c));
+  links = λ c. subst (λ (link : Link). IsSoundLink w.update.records c (centre_at w c) link) (sym (get_or-map (with_new_end ways.Down) w.links c new_link))
+      (renewed w.update.records c (centre_at w c) ways.Down (link_at w c) (sound.links c));
   calls = sound.calls;
 }
 
@@ -593,30 +738,45 @@ sound_crash : (w : World) (node : NodeName) → IsSound w → IsSound (step_of_c
 sound_crash w nodes.Udc sound = sound_update_crash w sound
 sound_crash w (nodes.Centre c) sound = sound_centre_crash w c sound
 
+-- ---- clock
+
+-- a sound world stays sound at another moment
+pub sound_clock : (w : World) (moment : ℕ) → IsSound w → IsSound (record w { moment = moment })
+sound_clock w moment sound = record {
+  law = sound.law;
+  next = sound.next;
+  records = sound.records;
+  frames = sound.frames;
+  links = sound.links;
+  calls = sound.calls;
+}
+
 -- ---- all
 
 -- a sound world stays sound whatever event happens, whatever is open in it
-sound_happens : (w : World) (event : Event) (choice : Choice) → IsSound w → IsSound (happens w event choice).0
+pub sound_happens : (w : World) (event : Event) (choice : Choice) → IsSound w → IsSound (happens w event choice).0
 sound_happens w (events.Seed name row) choice sound =
     sound_request w OPERATOR (next_number w.update.records OPERATOR) (Put name (seeded_frame row)) sound
 sound_happens w (events.Edit port line) choice sound = sound_edit w port choice.said sound
-sound_happens w (events.Dial centre port) choice sound =
-    sound_with_calls w centre sound _ (dial_sound (calls_at w centre) port (sound.calls centre) (call_at w centre port))
-sound_happens w (events.Press centre port key) choice sound = sound_press w centre port key (first_entry choice.keyed) sound
+sound_happens w (events.Dial centre port) choice sound = sound_dial w centre port sound
+sound_happens w (events.Press centre port key) choice sound = sound_press w centre port sound key (first_entry choice.keyed)
 sound_happens w (events.Keys centre port keys) choice sound =
     sound_keys w centre port choice.keyed (keys_refusal (call_at w centre port)) sound
 sound_happens w (events.Store centre port) choice sound = sound_store w centre port sound
 sound_happens w (events.Show centre port) choice sound = sound_show w centre port sound
-sound_happens w (events.Hang centre port) choice sound =
-    sound_with_calls w centre sound _ (hang_sound (calls_at w centre) port (sound.calls centre) (call_at w centre port))
-sound_happens w (events.Send centre) choice sound = sound_send w centre sound
-sound_happens w (events.Deliver centre index) choice sound = sound_deliver w centre index sound
-sound_happens w (events.Back centre index) choice sound = sound_back w centre index sound
-sound_happens w (events.Carry centre) choice sound = sound_rounds (packet_room w.links + 1) centre w 0 sound
+sound_happens w (events.Hang centre port) choice sound = sound_hang w centre port sound
+sound_happens w (events.Send centre) choice sound = sound_sending w centre sound ways.Down
+sound_happens w (events.Post centre) choice sound = sound_sending w centre sound ways.Up
+sound_happens w (events.Deliver centre index) choice sound = sound_arriving w centre sound ways.Down index
+sound_happens w (events.Back centre index) choice sound = sound_arriving w centre sound ways.Up index
+sound_happens w (events.Carry centre) choice sound = sound_rounds (packet_room w.links + 1) centre w ways.Down no_load sound
 sound_happens w (events.Crash node) choice sound = sound_crash w node sound
+sound_happens w (events.Clock moment) choice sound = sound_clock w moment sound
 sound_happens w (events.View centre name) choice sound = sound
 sound_happens w (events.At centre) choice sound = sound
 sound_happens w events.List choice sound = sound
+sound_happens w (events.Bill account) choice sound = sound
+sound_happens w (events.Lines centre) choice sound = sound
 
 -- a sound world stays sound however many events happen
 pub sound_after : (w : World) (events : List (Event × Choice)) → IsSound w → IsSound (after w events)
@@ -632,6 +792,7 @@ sound_start centres limits = record {
     numbered = λ place edit is. absurd cc;
     kept = λ k d none. absurd (omega (arith, none));
     prefixes = λ c. omega (arith, ap (λ (centre : Centre). centre.applied) (copy_at new_centre centres c));
+    taken = λ c. refl;
   };
   next = λ editor. refl;
   records = omega arith;

@@ -12,10 +12,12 @@ use Rattle.pv_network.specs.Centre.{Centre, Held, CentreStands, CentresStand, Ar
 use Rattle.pv_network.specs.Link.{Link}
 use Rattle.pv_editor.specs.declared.seat.EditorSeat.{EditorSeat}
 use Rattle.pv_nodes.specs.OnDisk.{OnDisk, UpdateIsOnDisk, list_with}
-use Rattle.pv_network.specs.World.{World, with_seat, centre_at, with_centre, with_link, with_edit, with_receipt}
+use Rattle.pv_network.specs.World.{World, StoppedCall, with_seat, centre_at, with_centre, with_link, with_edit, with_receipt}
+use Rattle.pv_network.specs.Charging.{IsChargedWorld}
+use Rattle.pv_network.specs.declared.outcome.BillLine.{BillLine}
 use Rattle.pv_network.specs.Sound.{IsSound}
 use Rattle.pv_network.specs.Standing.{State, StandsFor}
-use Rattle.pv_network.proofs.Soundness.{sound_seat}
+use Rattle.pv_network.proofs.Soundness.{sound_seat, sound_clock}
 use Rattle.pv_network.proofs.Lists.{set_both, get_push}
 
 -- ---- a centre: all that the network cites
@@ -23,7 +25,7 @@ use Rattle.pv_network.proofs.Lists.{set_both, get_push}
 module _ (u : EditList) (c : ℕ) (here : Held) (centre : Centre) (stands : CentreStands u c here centre) where
   -- its calls are the world's
   pub calls_are : calls_of here ≡ centre.calls
-  calls_are = λ i. record { log_ons = (stands.state i).log_ons; ports = stands.ports i }
+  calls_are = λ i. record { log_ons = (stands.state i).log_ons; items = (stands.state i).items; ports = stands.ports i }
 
   -- it has as many records in all
   pub held_there : state_count here.node.state ≡ record_count centre
@@ -71,8 +73,10 @@ module _ (s : State) (w : World) (stands : StandsFor s w) where
   pub out_stands : (out : Bool) → StandsFor (record s { is_out = out }) w
   out_stands out = record {
     sound = stands.sound;
+    charged = stands.charged;
     update = stands.update;
     on_disk = stands.on_disk;
+    moment = stands.moment;
     seats = stands.seats;
     centres = stands.centres;
     links = stands.links;
@@ -92,20 +96,40 @@ module _ (s : State) (w : World) (stands : StandsFor s w) where
     abbrev with_update : State
     with_update = record s { update = here.state; disk = here.disk }
 
+    pub edit_stands : (stored : Option Record) → here.state ≡ list_with w.update stored → IsSound (with_edit w stored)
+        → StandsFor with_update (with_edit w stored)
+    edit_stands None is sound = record { sound = sound; charged = stands.charged; update = is; on_disk = on_disk; moment = stands.moment; seats = stands.seats; centres = stands.centres; links = stands.links }
+    edit_stands (Some edit) is sound = record { sound = sound; charged = stands.charged; update = is; on_disk = on_disk; moment = stands.moment; seats = stands.seats; centres = longer edit; links = stands.links }
+
     pub request_stands : (editor q : ℕ) (stored : Option Record) (reply : UdcReplyView) → here.state ≡ list_with w.update stored
         → IsSound (with_receipt (with_edit w stored) editor q reply) → StandsFor with_update (with_receipt (with_edit w stored) editor q reply)
-    request_stands editor q None (Stored place) is sound = record { sound = sound; update = is; on_disk = on_disk; seats = stands.seats; centres = stands.centres; links = stands.links }
-    request_stands editor q None (Refused code shown) is sound = record { sound = sound; update = is; on_disk = on_disk; seats = stands.seats; centres = stands.centres; links = stands.links }
-    request_stands editor q (Some edit) (Stored place) is sound = record { sound = sound; update = is; on_disk = on_disk; seats = stands.seats; centres = longer edit; links = stands.links }
-    request_stands editor q (Some edit) (Refused code shown) is sound = record { sound = sound; update = is; on_disk = on_disk; seats = stands.seats; centres = longer edit; links = stands.links }
+    request_stands editor q None (Stored place) is sound = record { sound = sound; charged = stands.charged; update = is; on_disk = on_disk; moment = stands.moment; seats = stands.seats; centres = stands.centres; links = stands.links }
+    request_stands editor q None (Refused code shown) is sound = record { sound = sound; charged = stands.charged; update = is; on_disk = on_disk; moment = stands.moment; seats = stands.seats; centres = stands.centres; links = stands.links }
+    request_stands editor q (Some edit) (Stored place) is sound = record { sound = sound; charged = stands.charged; update = is; on_disk = on_disk; moment = stands.moment; seats = stands.seats; centres = longer edit; links = stands.links }
+    request_stands editor q (Some edit) (Refused code shown) is sound = record { sound = sound; charged = stands.charged; update = is; on_disk = on_disk; moment = stands.moment; seats = stands.seats; centres = longer edit; links = stands.links }
+
+  -- another moment leaves all else standing
+  pub clock_shows : (moment : ℕ) → StandsFor (record s { moment = moment }) (record w { moment = moment })
+  clock_shows moment = record {
+    sound = sound_clock w moment stands.sound;
+    charged = stands.charged;
+    update = stands.update;
+    on_disk = stands.on_disk;
+    moment = refl;
+    seats = stands.seats;
+    centres = stands.centres;
+    links = stands.links;
+  }
 
   -- another seat in the place of one leaves all else standing
   pub seat_replaced : (port : ℕ) (seats : List EditorSeat) (seat : EditorSeat) → seats ≡ set w.seats port seat
       → StandsFor (record s { seats = seats }) (with_seat w port seat)
   seat_replaced port seats seat is = record {
     sound = sound_seat w port seat stands.sound;
+    charged = stands.charged;
     update = stands.update;
     on_disk = stands.on_disk;
+    moment = stands.moment;
     seats = is;
     centres = stands.centres;
     links = stands.links;
@@ -116,13 +140,17 @@ module _ (s : State) (w : World) (stands : StandsFor s w) where
     pub centre_stands : (here : Held) → c < length s.centres → here ≡ get_or s.centres c here → CentreStands w.update c here (centre_at w c)
     centre_stands here there read = stands.centres.each c here (slice_get_read s.centres (length s.centres) c here refl there read)
 
-    -- another centre in the place of one leaves all others standing
-    pub centre_replaced : (here : Held) (centre : Centre) → CentreStands w.update c here centre → IsSound (with_centre w c centre)
-        → StandsFor (record s { centres = set s.centres c here }) (with_centre w c centre)
-    centre_replaced here centre is sound = record {
+    -- another centre in the place of one leaves all others standing, whatever callers were shown and whichever calls were stopped
+    pub centre_replaced : (here : Held) (centre : Centre) (shown : List BillLine) (stopped : List StoppedCall)
+        → CentreStands w.update c here centre → IsSound (record (with_centre w c centre) { shown = shown; stopped = stopped })
+        → IsChargedWorld (record (with_centre w c centre) { shown = shown; stopped = stopped })
+        → StandsFor (record s { centres = set s.centres c here }) (record (with_centre w c centre) { shown = shown; stopped = stopped })
+    centre_replaced here centre shown stopped is sound charged = record {
       sound = sound;
+      charged = charged;
       update = stands.update;
       on_disk = stands.on_disk;
+      moment = stands.moment;
       seats = stands.seats;
       centres = record {
         count = length-set s.centres c here ∙ stands.centres.count ∙ sym (length-set w.centres c centre);
@@ -136,8 +164,10 @@ module _ (s : State) (w : World) (stands : StandsFor s w) where
         → StandsFor (record s { links = links }) (with_link w c link)
     link_replaced links link is sound = record {
       sound = sound;
+      charged = stands.charged;
       update = stands.update;
       on_disk = stands.on_disk;
+      moment = stands.moment;
       seats = stands.seats;
       centres = stands.centres;
       links = is;

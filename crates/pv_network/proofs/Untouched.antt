@@ -1,6 +1,8 @@
 -- What an event at no port leaves of the calls, and what an event at one port leaves of another.
 use Rattle.std.proofs.Common.{◌≡◌, ℕ, zero, suc, ◌+◌, List, [], ◌∷◌, length, get_or, set, Option, Some, None, refl, sym, ap, ◌∙◌}
 use Rattle.std.specs.Prelude.{slice_get}
+use Rattle.pv_packet.specs.declared.packet.Packet.{Packet}
+use Rattle.pv_packet.specs.declared.packet.Packet.TheVariants.{Down, Up, DownHeard, UpHeard}
 use Rattle.pv_edits.specs.declared.record.Record.{Record}
 use Rattle.pv_edits.specs.declared.wish.EditWish.{EditWish}
 use Rattle.pv_editor.specs.declared.line.EditLine.{EditLine}
@@ -8,34 +10,45 @@ use Rattle.pv_editor.specs.declared.replies.UdcReplyView.{UdcReplyView}
 use Rattle.pv_editor.specs.declared.replies.UdcReplyView.TheVariants as told
 use Rattle.pv_editor.specs.declared.step.EditStep.{EditStep}
 use Rattle.pv_editor.specs.declared.step.EditStep.TheVariants as said
-use Rattle.pv_network.specs.Centre as arrivals
+use Rattle.pv_network.specs.declared.arrival.Arrival.{Arrival}
+use Rattle.pv_network.specs.declared.arrival.Arrival.TheVariants as arrivals
+use Rattle.pv_network.specs.declared.load.Load.{Load}
+use Rattle.pv_network.specs.declared.way.Way.{Way}
+use Rattle.pv_network.specs.declared.way.Way.TheVariants as ways
 use Rattle.pv_network.specs.declared.event.TheConstants.{PORTS}
+use Rattle.pv_network.specs.declared.outcome.BillLine.{BillLine}
 use Rattle.pv_network.specs.declared.outcome.Outcome.{Outcome}
-use Rattle.pv_network.specs.declared.delivery.Delivery.{Delivery}
-use Rattle.pv_link.specs.Sending.{number_to_give}
-use Rattle.pv_fields.specs.Reading.{◌>>=◌}
 use Rattle.pv_network.specs.declared.round.Round.{Round}
 use Rattle.pv_network.specs.declared.round.Round.TheVariants as rounds
 use Rattle.pv_network.specs.Call.{Call}
 use Rattle.pv_network.specs.Calling.{calls_at, call_at, with_calls}
 use Rattle.pv_network.specs.Calls.{Calls, call_in, with_call}
-use Rattle.pv_network.specs.Centre.{Arrival, Centre, new_centre, arrival_of, record_count}
+use Rattle.pv_network.specs.Centre.{Centre, new_centre}
 use Rattle.pv_network.specs.Crashing.{without_calls, step_of_centre_crash}
-use Rattle.pv_network.specs.Link.{is_packets_full, delivery_of, heard_count}
+use Rattle.pv_network.specs.Link.{is_packets_full, back_way, packets_on, with_new_end}
 use Rattle.pv_network.specs.Step.{step_of_request, step_of_line, step_of_said, step_of_edit}
-use Rattle.pv_network.specs.Traffic.{ack_in, with_ack_back, round_of_send, round_of_number, step_of_round, after_round, carry_rounds, step_of_packing, step_of_number, step_of_send, step_of_acknowledging, with_next_at, step_of_arrival, step_of_packet, step_of_deliver, step_of_heard, step_of_back}
+use Rattle.pv_network.specs.Traffic.{packet_for, next_number_on, step_of_packing, step_of_number, step_of_sending, step_of_acknowledging, arrival_on, world_after, step_of_answer, with_next_at, with_item_of, step_of_packet, step_of_found, step_of_arriving, ack_in, with_ack_back, round_of_send, step_of_round, with_one, way_on, after_round, rounds_on, carry_rounds}
 use Rattle.pv_network.specs.Verdict.{verdict_of}
-use Rattle.pv_network.specs.World.{World, centre_at, link_at, with_edit, with_receipt}
+use Rattle.pv_network.specs.World.{World, StoppedCall, centre_at, link_at, with_link, with_edit, with_receipt}
 use Rattle.pv_network.proofs.Lists.{set_at}
 use Rattle.pv_network.proofs.Soundness.{choice, copy_at}
 use Rattle.pv_udc.specs.declared.request.UdcRequest.TheVariants.{Edit}
 
 -- ---- events at no port
 
+-- what there is of a centre's calls, what callers were shown, and which calls were stopped
+pub record Books : Type 0 where
+  pub calls : Calls
+  pub shown : List BillLine
+  pub stopped : List StoppedCall
+
+abbrev pub books_at : World → ℕ → Books
+books_at w c = record { calls = calls_at w c; shown = w.shown; stopped = w.stopped }
+
 module _ (c : ℕ) where
-  -- the centre has the same calls in both
+  -- all this is the same in both
   abbrev Same : World → World → Type 0
-  Same w v = calls_at v c ≡ calls_at w c
+  Same w v = books_at v c ≡ books_at w c
 
   edit_same : (w : World) (stored : Option Record) → Same w (with_edit w stored)
   edit_same w None = refl
@@ -59,75 +72,76 @@ module _ (c : ℕ) where
   pub line_same : (w : World) (port : ℕ) (line : Option EditLine) → Same w (step_of_edit w port line).0
   line_same w port line = said_same (step_of_line w port line).0 port (step_of_line w port line).1
 
-  pub send_same : (w : World) (d : ℕ) → Same w (step_of_send w d).0
-  send_same w d = choice (Same w) (is_packets_full w.links) _ _ (λ _. refl)
-      (λ _. by (number_to_give (link_at w d).sending (length w.update.records)))
+  pub sending_same : (way : Way) (w : World) (d : ℕ) → Same w (step_of_sending way w d).0
+  sending_same way w d = choice (Same w) (is_packets_full w.links) _ _ (λ _. refl) (λ _. by (next_number_on way w d))
     where
-      pack : (number : ℕ) (found : Option Record) → Same w (step_of_packing w d number found).0
+      pack : (number : ℕ) (found : Option Packet) → Same w (step_of_packing way w d number found).0
       pack number None = refl
-      pack number (Some edit) = refl
+      pack number (Some packet) = refl
 
-      by : (number : Option ℕ) → Same w (step_of_number w d number).0
+      by : (number : Option ℕ) → Same w (step_of_number way w d number).0
       by None = refl
-      by (Some number) = pack number (slice_get w.update.records number)
+      by (Some number) = pack number (packet_for way w d number)
 
-  acknowledging_same : (w : World) (d : ℕ) → Same w (step_of_acknowledging w d).0
-  acknowledging_same w d = choice (Same w) (is_packets_full w.links) _ _ (λ _. refl) (λ _. refl)
+  acknowledging_same : (way : Way) (w : World) (d : ℕ) → Same w (step_of_acknowledging way w d).0
+  acknowledging_same way w d = choice (Same w) (is_packets_full w.links) _ _ (λ _. refl) (λ _. refl)
+
+  -- what arrives is answered, after which the calls are those before if taking it leaves them
+  answer_same : (way : Way) (w taken : World) (d number : ℕ) (how : Arrival) → Same w taken
+      → Same w (step_of_answer way (world_after w taken how) d number how).0
+  answer_same way w taken d number arrivals.Taken same = acknowledging_same way taken d ∙ same
+  answer_same way w taken d number arrivals.Old same = acknowledging_same way w d
+  answer_same way w taken d number arrivals.Early same = acknowledging_same way w d
+  answer_same way w taken d number arrivals.Full same = refl
 
   -- a centre that applies a record keeps its calls
-  next_same : (w : World) (d : ℕ) → Same w (with_next_at w d)
+  pub next_same : (w : World) (d : ℕ) → Same w (with_next_at w d)
   next_same w d =
-      set_at (λ k centre. centre.calls ≡ calls_at w k) w.centres d (record (centre_at w d) { applied = _ }) new_centre (λ k. refl) refl c
+      ap (λ (calls : Calls). record { calls = calls; shown = w.shown; stopped = w.stopped })
+      (set_at (λ k centre. centre.calls ≡ calls_at w k) w.centres d (record (centre_at w d) { applied = _ }) new_centre (λ k. refl) refl c)
 
-  pub deliver_same : (w : World) (d index : ℕ) → Same w (step_of_deliver w d index).0
-  deliver_same w d index = arrives (slice_get (link_at w d).down index >>= delivery_of)
+  pub arriving_same : (way : Way) (w : World) (d index : ℕ) → Same w (step_of_arriving way w d index).0
+  arriving_same way w d index = by (slice_get (packets_on way (link_at w d)) index)
     where
-      by : (number : ℕ) (arrival : Arrival) → Same w (step_of_arrival w d number arrival).0
-      by number arrivals.Taken = acknowledging_same (with_next_at w d) d ∙ next_same w d
-      by number arrivals.Old = acknowledging_same w d
-      by number arrivals.Early = acknowledging_same w d
-      by number arrivals.Full = refl
+      of_packet : (packet : Packet) → Same w (step_of_packet w d packet).0
+      of_packet (Down from number rec) =
+          answer_same ways.Down w (with_next_at w d) d number (arrival_on ways.Down w d number) (next_same w d)
+      of_packet (Up from number item) = answer_same ways.Up w (with_item_of w d number item) d number (arrival_on ways.Up w d number) refl
+      of_packet (DownHeard from count) = refl
+      of_packet (UpHeard from count) = refl
 
-      arrives : (found : Option Delivery) → Same w (step_of_packet w d found).0
-      arrives None = refl
-      arrives (Some delivery) = by delivery.number (arrival_of (centre_at w d).applied
-          (record_count (centre_at w d)) w.update.limits.records delivery.number)
-
-  pub back_same : (w : World) (d index : ℕ) → Same w (step_of_back w d index).0
-  back_same w d index = by (slice_get (link_at w d).up index >>= heard_count)
-    where
-      by : (found : Option ℕ) → Same w (step_of_heard w d found).0
+      by : (found : Option Packet) → Same w (step_of_found w d found).0
       by None = refl
-      by (Some count) = refl
+      by (Some packet) = of_packet packet
 
-  ack_same : (w : World) (d : ℕ) (ack : Option ℕ) → Same w (with_ack_back w d ack)
-  ack_same w d None = refl
-  ack_same w d (Some index) = back_same w d index
+  ack_same : (way : Way) (w : World) (d : ℕ) (ack : Option ℕ) → Same w (with_ack_back way w d ack)
+  ack_same way w d None = refl
+  ack_same way w d (Some index) = arriving_same (back_way way) w d index
 
-  round_same : (w : World) (d : ℕ) → Same w (step_of_round w d).0
-  round_same w d = numbered (number_to_give (link_at w d).sending (length w.update.records))
+  round_same : (way : Way) (w : World) (d : ℕ) → Same w (step_of_round way w d).0
+  round_same way w d = sent (step_of_sending way w d).0 (step_of_sending way w d).1 _ ∙ sending_same way w d
     where
-      sent : (v : World) (outcome : Outcome) (packet : Option ℕ) → Same v (round_of_send v d outcome packet).0
+      sent : (v : World) (outcome : Outcome) (packet : Option ℕ) → Same v (round_of_send way v d outcome packet).0
       sent v outcome None = refl
-      sent v outcome (Some index) = ack_same (step_of_deliver v d index).0 d (ack_in (step_of_deliver v d index).1) ∙ deliver_same v d index
+      sent v outcome (Some index) =
+          ack_same way (step_of_arriving way v d index).0 d (ack_in (step_of_arriving way v d index).1) ∙ arriving_same way v d index
 
-      numbered : (number : Option ℕ) → Same w (round_of_number w d number).0
-      numbered None = refl
-      numbered (Some number) = sent (step_of_send w d).0 (step_of_send w d).1 _ ∙ send_same w d
+  after_round_same : (more : World → Way → Load → World × Outcome) → ((v : World) (way : Way) (load : Load) → Same v (more v way load).0)
+      → (w : World) (way : Way) (load : Load) (round : Round) → Same w (after_round more w way load round).0
+  after_round_same more keeps w way load rounds.Taken = keeps w way (with_one way load)
+  after_round_same more keeps w way load rounds.Again = keeps w way load
+  after_round_same more keeps w way load (rounds.Stopped outcome) = refl
 
-  after_round_same : (more : World → ℕ → World × Outcome) → ((v : World) (taken : ℕ) → Same v (more v taken).0)
-      → (w : World) (taken : ℕ) (round : Round) → Same w (after_round more w taken round).0
-  after_round_same more keeps w taken rounds.Idle = refl
-  after_round_same more keeps w taken rounds.Taken = keeps w (taken + 1)
-  after_round_same more keeps w taken rounds.Again = keeps w taken
-  after_round_same more keeps w taken (rounds.Stopped outcome) = refl
+  rounds_on_same : (more : World → Way → Load → World × Outcome) → ((v : World) (way : Way) (load : Load) → Same v (more v way load).0)
+      → (w : World) (d : ℕ) (load : Load) (next : Option Way) → Same w (rounds_on more w d load next).0
+  rounds_on_same more keeps w d load None = refl
+  rounds_on_same more keeps w d load (Some way) =
+      after_round_same more keeps (step_of_round way w d).0 way load (step_of_round way w d).1 ∙ round_same way w d
 
-  pub rounds_same : (more d : ℕ) (w : World) (taken : ℕ) → Same w (carry_rounds more d w taken).0
+  pub rounds_same : (more d : ℕ) (w : World) (way : Way) (load : Load) → Same w (carry_rounds more d w way load).0
   unfolding carry_rounds
-  rounds_same zero d w taken = refl
-  rounds_same (suc more) d w taken =
-      after_round_same (carry_rounds more d) (λ v n. rounds_same more d v n) (step_of_round w d).0 taken
-      (step_of_round w d).1 ∙ round_same w d
+  rounds_same zero d w way load = refl
+  rounds_same (suc more) d w way load = rounds_on_same (carry_rounds more d) (rounds_same more d) w d load (way_on way w d)
 
 -- ---- events at a port
 

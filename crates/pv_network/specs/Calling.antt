@@ -1,11 +1,12 @@
 -- Calls in the world: what each event at a port makes of it.
-use Rattle.std.specs.Prelude.{ℕ, nat_le, Option}
+use Rattle.std.specs.Prelude.{ℕ, nat_le, [], ◌∷◌, Option}
 use Rattle.pv_edits.specs.Sight.{View, sight_of}
 use Rattle.pv_session.specs.declared.entry.Entry.{Entry}
 use Rattle.pv_network.specs.declared.outcome.Outcome.{Outcome}
 use Rattle.pv_network.specs.Call.{Call}
 use Rattle.pv_network.specs.Calls.{Calls, caller_account, call_in, dial_at, hang_at, press_at, store_at, show_at}
 use Rattle.pv_network.specs.Centre.{record_count}
+use Rattle.pv_network.specs.Charging.{with_shown, with_stops}
 use Rattle.pv_network.specs.World.{World, centre_at, with_centre, page_base}
 
 -- the calls at a centre
@@ -27,22 +28,27 @@ at_calls w c done = (with_calls w c done.0, done.1)
 abbrev pub step_of_dial : World → ℕ → ℕ → World × Outcome
 step_of_dial w c port = at_calls w c (dial_at (calls_at w c) port (call_at w c port))
 
+-- a caller hangs up: his call is stopped if it has a line in hand
 abbrev pub step_of_hang : World → ℕ → ℕ → World × Outcome
-step_of_hang w c port = at_calls w c (hang_at (calls_at w c) port (call_at w c port))
+step_of_hang w c port =
+    let done = at_calls w c (hang_at (calls_at w c) port (call_at w c port)) in
+    (with_stops done.0 c (call_at w c port ∷ []), done.1)
 
 -- what a centre shows to the caller at a port: what its page base has for his account
 abbrev pub view_at : World → ℕ → ℕ → View
 view_at w c port = sight_of (page_base w c) c (caller_account (call_at w c port))
 
--- a key, with the entry that it makes
+-- a key at the moment of the clock, with the entry that it makes
 abbrev pub step_of_press : World → ℕ → ℕ → ℕ → Option Entry → World × Outcome
-step_of_press w c port key entry = at_calls w c (press_at (calls_at w c) port key (view_at w c port) entry (call_at w c port))
+step_of_press w c port key entry = at_calls w c (press_at (calls_at w c) port key (view_at w c port) w.moment entry (call_at w c port))
 
--- a centre is full if it has as many records as it may: those that it has applied, and the log-ons
+-- a centre is full if it has as many records as it may: those that it has applied, its items, and the log-ons
 abbrev pub step_of_store : World → ℕ → ℕ → World × Outcome
 step_of_store w c port =
     let count = record_count (centre_at w c) in
     at_calls w c (store_at (nat_le w.update.limits.records count) count (calls_at w c) port (call_at w c port))
 
+-- a caller is shown what his call was stored for: the line that it has in hand is now one of a frame that was shown
 abbrev pub step_of_show : World → ℕ → ℕ → World × Outcome
-step_of_show w c port = at_calls w c (show_at (calls_at w c) port (call_at w c port))
+step_of_show w c port =
+    let done = at_calls w c (show_at (calls_at w c) port (call_at w c port)) in (with_shown done.0 c (call_at w c port), done.1)

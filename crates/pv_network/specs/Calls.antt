@@ -1,33 +1,37 @@
 -- The calls at a centre's ports: what each event makes of them, and the answer to it.
-use Rattle.std.specs.Prelude.{◌≡◌, ℕ, ◌+◌, Bool, true, false, List, replicate, slice_index_or, slice_set, Option, Some, None, Result, Ok, Err, if◌then◌else◌}
+use Rattle.std.specs.Prelude.{◌≡◌, ℕ, ◌+◌, Bool, true, false, List, [], ◌∷◌, ◌++◌, replicate, slice_index_or, slice_set, Option, Some, None, Result, Ok, Err, if◌then◌else◌}
 use Rattle.pv_edits.specs.Sight.{View}
+use Rattle.pv_post.specs.declared.item.Item.{Item}
+use Rattle.pv_post.specs.declared.item.Item.TheVariants as items
 use Rattle.pv_session.specs.declared.entry.Entry.{Entry}
 use Rattle.pv_session.specs.declared.message.Message.TheVariants.{KeyAccount}
 use Rattle.pv_session.specs.declared.step.Paid.{Paid}
-use Rattle.pv_session.specs.declared.step.Paid.TheVariants.{Serial}
+use Rattle.pv_session.specs.declared.step.Paid.TheVariants.{Serial, Stored}
 use Rattle.pv_session.specs.declared.step.Step.{Step}
 use Rattle.pv_session.specs.declared.step.Step.TheVariants as steps
 use Rattle.pv_session.specs.declared.step.Wish.{Wish}
+use Rattle.pv_session.specs.declared.step.Wish.TheVariants as wishes
 use Rattle.pv_session.specs.Messages.{screen_of_blank}
 use Rattle.pv_session.specs.State.{CallState}
 use Rattle.pv_session.specs.Turns.{storing_turn, full_turn}
 use Rattle.pv_network.specs.declared.event.TheConstants.{PORTS}
 use Rattle.pv_network.specs.declared.outcome.Outcome.{Outcome}
 use Rattle.pv_network.specs.declared.outcome.Outcome.TheVariants as outcomes
-use Rattle.pv_network.specs.Call.{Call, call_of, first_call, is_waiting, is_to_store, wish_to_store, key_turn, IsEntryAt}
+use Rattle.pv_network.specs.Call.{Call, call_of, first_call, is_waiting, wish_to_store, key_turn, IsEntryAt}
 
--- the calls of a centre: how many of its callers have logged on, and the call at each port
+-- the calls of a centre: how many of its callers have logged on, the items that it has kept for them, and the call at each port
 pub record Calls : Type 0 where
   pub log_ons : ℕ
+  pub items : List Item
   pub ports : List (Option Call)
 
--- the calls at these ports, of a centre that has counted this many log-ons
-abbrev pub calls_with : ℕ → List (Option Call) → Calls
-calls_with log_ons ports = record { log_ons = log_ons; ports = ports }
+-- the calls at these ports, of a centre that has counted this many log-ons and kept these items
+abbrev pub calls_with : ℕ → List Item → List (Option Call) → Calls
+calls_with log_ons items ports = record { log_ons = log_ons; items = items; ports = ports }
 
 -- a centre that nobody has called
 abbrev pub no_calls : Calls
-no_calls = record { log_ons = 0; ports = replicate PORTS None }
+no_calls = record { log_ons = 0; items = []; ports = replicate PORTS None }
 
 -- the call at a port; after the last port there is none
 abbrev pub call_among : List (Option Call) → ℕ → Option Call
@@ -45,10 +49,11 @@ caller_account (Some call) = call.seat.account
 abbrev pub with_call : Calls → ℕ → Option Call → Calls
 with_call calls port call = record calls { ports = slice_set calls.ports port call }
 
--- what is done at the ports, and the answer: the same whatever the count of log-ons, which stays
+-- what is done at the ports, and the answer: the same whatever the log-ons and the items, which stay
 abbrev pub IsDone : List (Option Call) → List (Option Call) → Outcome → (Calls → Calls × Outcome) → Type 0
-IsDone old new outcome step = (log_ons : ℕ)
-    → (calls_with log_ons new ≡ (step (calls_with log_ons old)).0) × (outcome ≡ (step (calls_with log_ons old)).1)
+IsDone old new outcome step = (log_ons : ℕ) (items : List Item)
+    → (calls_with log_ons items new ≡ (step (calls_with log_ons items old)).0)
+    × (outcome ≡ (step (calls_with log_ons items old)).1)
 
 -- ---- what a step at a seat does
 
@@ -86,11 +91,11 @@ hang_at calls port (Some call) = (with_call calls port None, outcomes.Hung)
 
 -- ---- press
 
--- a key at a port, with the entry that it makes; a call that waits takes no key
-abbrev pub press_at : Calls → ℕ → ℕ → View → Option Entry → Option Call → Calls × Outcome
-press_at calls port key view entry None = (calls, outcomes.NoCall)
-press_at calls port key view entry (Some call) =
-    if is_waiting call then (calls, outcomes.Owing) else turn_at calls port (key_turn call.seat key view entry)
+-- a key at a port at a moment, with the entry that it makes; a call that waits takes no key
+abbrev pub press_at : Calls → ℕ → ℕ → View → ℕ → Option Entry → Option Call → Calls × Outcome
+press_at calls port key view moment entry None = (calls, outcomes.NoCall)
+press_at calls port key view moment entry (Some call) =
+    if is_waiting call then (calls, outcomes.Owing) else turn_at calls port (key_turn call.seat key view moment entry)
 
 -- the entry that a key makes at a port, if it is read at all
 abbrev pub IsEntryUnlessWaiting : Bool → Call → ℕ → Option Entry → Type 0
@@ -112,11 +117,26 @@ abbrev pub wish_at : Option Call → Result Wish Outcome
 wish_at None = Err outcomes.NoCall
 wish_at (Some call) = wish_or_nothing (wish_to_store call)
 
--- the call's serial is the count of the log-ons before it
-abbrev pub with_log_on : Calls → ℕ → Call → Calls
-with_log_on calls port call = record {
-  log_ons = calls.log_ons + 1;
-  ports = slice_set calls.ports port (Some (record call { stored = Some (Serial calls.log_ons) }));
+-- how many have logged on, and the items, once a wish is stored: a log-on is counted, and a charge is an item
+abbrev pub log_ons_with : Calls → Wish → ℕ
+log_ons_with calls (wishes.LogOn account) = calls.log_ons + 1
+log_ons_with calls (wishes.Charge line) = calls.log_ons
+
+abbrev pub items_with : Calls → Wish → List Item
+items_with calls (wishes.LogOn account) = calls.items
+items_with calls (wishes.Charge line) = calls.items ++ items.Charge line ∷ []
+
+-- the reply: the serial of a call is the count of the log-ons before it
+abbrev pub reply_for : Calls → Wish → Paid
+reply_for calls (wishes.LogOn account) = Serial calls.log_ons
+reply_for calls (wishes.Charge line) = Stored
+
+-- a wish of the call at a port is stored, and the reply is to be shown to it
+abbrev pub with_wish : Calls → ℕ → Call → Wish → Calls
+with_wish calls port call wish = record {
+  log_ons = log_ons_with calls wish;
+  items = items_with calls wish;
+  ports = slice_set calls.ports port (Some (record call { stored = Some (reply_for calls wish) }));
 }
 
 -- the answer of a full centre with this many records, by the step with which the seat ends
@@ -124,17 +144,17 @@ abbrev pub away_answer : ℕ → Step → Outcome
 away_answer count (steps.Ended why screen) = outcomes.StoreFull count screen
 away_answer count _ = outcomes.Nothing
 
--- what a call owes is stored, if the centre has room; a full centre turns the caller away
-abbrev pub storing_at : Bool → ℕ → Calls → ℕ → Call → Calls × Outcome
-storing_at is_full count calls port call =
+-- what a call owes is stored, if the centre has room; a full centre turns the caller away. Nothing is stored for a call that owes
+-- nothing, or for which it was stored.
+abbrev pub storing_at : Bool → ℕ → Calls → ℕ → Call → Option Wish → Calls × Outcome
+storing_at is_full count calls port call None = (calls, outcomes.Nothing)
+storing_at is_full count calls port call (Some wish) =
     if is_full then (with_call calls port None, away_answer count (full_turn call.seat call.seat.phase).1)
-    else (with_log_on calls port call, outcomes.Stored)
+    else (with_wish calls port call wish, outcomes.Stored)
 
--- nothing is stored for a call that owes nothing, or for which it was stored
 abbrev pub store_at : Bool → ℕ → Calls → ℕ → Option Call → Calls × Outcome
 store_at is_full count calls port None = (calls, outcomes.NoCall)
-store_at is_full count calls port (Some call) =
-    if is_to_store call then storing_at is_full count calls port call else (calls, outcomes.Nothing)
+store_at is_full count calls port (Some call) = storing_at is_full count calls port call (wish_to_store call)
 
 -- the reply to what was stored is shown
 abbrev pub showing_at : Calls → ℕ → CallState → Option Paid → Calls × Outcome

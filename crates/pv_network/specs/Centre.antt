@@ -1,7 +1,8 @@
 -- A retrieval centre: what it has applied of the edit list, and what it does with a record that arrives.
-use Rattle.std.specs.Prelude.{◌≡◌, ℕ, ◌+◌, ◌≤◌, ◌==◌, nat_lt, nat_le, if◌then◌else◌, List, [], length, map, take, Option, Some, Result, Ok, Err, slice_get, slice_index_or}
+use Rattle.std.specs.Prelude.{◌≡◌, ℕ, ◌+◌, ◌≤◌, ◌==◌, nat_lt, nat_le, if◌then◌else◌, List, [], length, map, take, Option, Some, None, Result, Ok, Err, slice_get, slice_index_or}
 use Rattle.pv_outside.specs.declared.limits.Limits.{Limits}
 use Rattle.pv_edits.specs.Sight.{sight_of}
+use Rattle.pv_edits.specs.declared.down.DownRecord.{DownRecord}
 use Rattle.pv_edits.specs.declared.record.Record.{Record}
 use Rattle.pv_irc.specs.Deciding.{centre_judgement}
 use Rattle.pv_irc.specs.History.{CentreState, state_count, whole_places}
@@ -13,11 +14,16 @@ use Rattle.pv_node.specs.declared.decision.Told.{Told}
 use Rattle.pv_nodes.specs.Below.{records_below}
 use Rattle.pv_nodes.specs.Nodes.{told_of, stored_of}
 use Rattle.pv_nodes.specs.OnDisk.{OnDisk, CentreIsOnDisk, centre_with}
+use Rattle.pv_post.specs.declared.item.Item.TheVariants as items
 use Rattle.pv_session.specs.declared.entry.Entry.{Entry}
+use Rattle.pv_session.specs.declared.step.Paid.{Paid}
+use Rattle.pv_session.specs.declared.step.Paid.TheVariants as paid
 use Rattle.pv_session.specs.declared.step.Wish.{Wish}
 use Rattle.pv_session.specs.declared.step.Wish.TheVariants as wishes
 use Rattle.pv_udc.specs.EditList.{EditList, empty_list}
 use Rattle.pv_udc.specs.Replies.{down_of}
+use Rattle.pv_network.specs.declared.arrival.Arrival.{Arrival}
+use Rattle.pv_network.specs.declared.arrival.Arrival.TheVariants.{Taken, Old, Early, Full}
 use Rattle.pv_network.specs.declared.outcome.Outcome.{Outcome}
 use Rattle.pv_network.specs.Call.{Call}
 use Rattle.pv_network.specs.Calls.{Calls, no_calls, calls_with, caller_account, call_in, press_at, IsEntryOf}
@@ -35,21 +41,25 @@ new_centre = record { applied = 0; calls = no_calls }
 abbrev pub with_next : Centre → Centre
 with_next centre = record centre { applied = centre.applied + 1 }
 
--- how many records a centre has: those that it has applied, and its log-ons
+-- how many records a centre has: those that it has applied, its items, and its log-ons
 abbrev pub record_count : Centre → ℕ
-record_count centre = centre.applied + centre.calls.log_ons
+record_count centre = centre.applied + length centre.calls.items + centre.calls.log_ons
 
--- what a centre does with a record that arrives: it takes it, or did so before, or has not taken one before it, or is full
-pub data Arrival : Type 0 where
-  Taken : Arrival
-  Old : Arrival
-  Early : Arrival
-  Full : Arrival
-
--- it goes by the record's number: the one that comes next is taken, unless the centre has as many records as it may
+-- What a node does with what arrives goes by its number: the one that comes next is taken, unless the node has as many records as
+-- it may.
 abbrev pub arrival_of : ℕ → ℕ → ℕ → ℕ → Arrival
-arrival_of applied count limit number = if number == applied then (if nat_le limit count then Full else Taken)
-    else (if nat_lt number applied then Old else Early)
+arrival_of received count limit number = if number == received then (if nat_le limit count then Full else Taken)
+    else (if nat_lt number received then Old else Early)
+
+-- what a centre did with a record, by its node's reply: there is room for each record of the list, so that no other reply comes
+abbrev pub arrival_in : IrcReply → Arrival
+arrival_in replies.Applied = Taken
+arrival_in (replies.Old count) = Old
+arrival_in _ = Early
+
+abbrev pub arrival_by : Result IrcReply ℕ → Arrival
+arrival_by (Ok reply) = arrival_in reply
+arrival_by (Err count) = Full
 
 -- a centre after an arrival
 abbrev pub centre_with_arrival : Arrival → Centre → Centre
@@ -63,9 +73,9 @@ pub record Held : Type 0 where
   pub node : OnDisk CentreState
   pub ports : List (Option Call)
 
--- its calls: its node has counted the log-ons
+-- its calls: its node has counted the log-ons and keeps the items
 abbrev pub calls_of : Held → Calls
-calls_of here = calls_with here.node.state.log_ons here.ports
+calls_of here = calls_with here.node.state.log_ons here.node.state.items here.ports
 
 -- the reply, or the count of a full node's records
 abbrev pub reply_in : Result (Told IrcReply) ℕ → Result IrcReply ℕ
@@ -86,9 +96,22 @@ pub record Asked (old new : Held) (request : IrcRequest) (result : Result IrcRep
   pub on_disk : CentreIsOnDisk new.node
   pub ports : new.ports ≡ old.ports
 
+-- the node was asked to apply this, and the result is what it did
+pub record Applies (old new : Held) (number : ℕ) (rec : DownRecord) (result : Arrival) : Type 0 where
+  pub reply : Result IrcReply ℕ
+  pub asked : Asked old new (requests.Apply number rec) reply
+  pub result_is : result ≡ arrival_by reply
+
 -- what it is asked for a wish
 abbrev pub request_for : Wish → IrcRequest
 request_for (wishes.LogOn account) = requests.LogOn account
+request_for (wishes.Charge line) = requests.Keep (items.Charge line)
+
+-- what a call is told of the reply to it
+abbrev pub paid_by : IrcReply → Option Paid
+paid_by (replies.Serial serial) = Some (paid.Serial serial)
+paid_by (replies.Kept number) = Some paid.Stored
+paid_by _ = None
 
 -- the reply to a record that arrives
 abbrev pub reply_to_arrival : Arrival → Centre → Result IrcReply ℕ
@@ -100,7 +123,7 @@ reply_to_arrival Full centre = Err (record_count centre)
 -- ---- what it stands for
 
 -- What the node of a centre knows: what comes down of the prefix of the edit list that the centre has applied, with the places
--- there, and the count of its log-ons. It has no items.
+-- there, its items, and the count of its log-ons. No letter was removed.
 abbrev pub state_of_prefix : ℕ → Limits → Centre → List Record → CentreState
 state_of_prefix number limits centre prefix = record {
   centre = number;
@@ -108,8 +131,9 @@ state_of_prefix number limits centre prefix = record {
   applied = centre.applied;
   edits = records_below prefix;
   places = whole_places 0 (map down_of prefix);
-  items = [];
+  items = centre.calls.items;
   log_ons = centre.calls.log_ons;
+  removals = [];
 }
 
 abbrev pub node_state : ℕ → EditList → Centre → CentreState
@@ -134,18 +158,18 @@ pub record AreNew (limits : Limits) (count : ℕ) (here : List Held) : Type 0 wh
 
 -- ---- what comes of a call at it
 
--- what is done with its calls, and the answer: its node has counted the log-ons, and knows else what it knew
+-- what is done with its calls, and the answer: its node has counted the log-ons and keeps the items, and knows else what it knew
 pub record Comes (old new : Held) (outcome : Outcome) (done : Calls × Outcome) : Type 0 where
-  pub state : new.node.state ≡ record old.node.state { log_ons = done.0.log_ons }
+  pub state : new.node.state ≡ record old.node.state { items = done.0.items; log_ons = done.0.log_ons }
   pub on_disk : CentreIsOnDisk old.node → CentreIsOnDisk new.node
   pub ports : new.ports ≡ done.0.ports
   pub answer : outcome ≡ done.1
 
--- what a centre makes of a key at a port
-pub record Pressed (old new : Held) (port key : ℕ) (outcome : Outcome) : Type 0 where
+-- what a centre makes of a key at a port at a moment
+pub record Pressed (old new : Held) (port key moment : ℕ) (outcome : Outcome) : Type 0 where
   pub entry : Option Entry
   pub says : IsEntryOf (call_in (calls_of old) port) key entry
   pub comes : Comes old new outcome
       (press_at (calls_of old) port key
-      (sight_of old.node.state.edits old.node.state.centre (caller_account (call_in (calls_of old) port))) entry
+      (sight_of old.node.state.edits old.node.state.centre (caller_account (call_in (calls_of old) port))) moment entry
       (call_in (calls_of old) port))

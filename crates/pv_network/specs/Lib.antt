@@ -1,12 +1,15 @@
+pub mod Bills
 pub mod Call
 pub mod Calling
 pub mod Calls
 pub mod Centre
+pub mod Charging
 pub mod Crashing
 pub mod Keying
 pub mod Link
 pub mod OneList
 pub mod Packets
+pub mod Prices
 pub mod Run
 pub mod Screens
 pub mod Sound

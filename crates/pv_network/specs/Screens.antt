@@ -1,5 +1,5 @@
 -- What a caller is shown from the dial of his call to its end: the steps of his seat, by what happens at his port alone.
-use Rattle.std.specs.Prelude.{ℕ, Bool, ◌&&◌, ◌==◌, nat_le, List, [], ◌∷◌, ◌++◌, Option, Some, None, if◌then◌else◌}
+use Rattle.std.specs.Prelude.{ℕ, Bool, ◌&&◌, ◌==◌, nat_le, List, [], ◌∷◌, ◌++◌, is_some, Option, Some, None, if◌then◌else◌}
 use Rattle.pv_edits.specs.Sight.{View}
 use Rattle.pv_session.specs.Calls.{CallEvent, Keyed, Stored, Refused}
 use Rattle.pv_session.specs.declared.step.Paid.{Paid}
@@ -10,7 +10,7 @@ use Rattle.pv_network.specs.declared.event.Event.TheVariants as events
 use Rattle.pv_network.specs.declared.outcome.Outcome.{Outcome}
 use Rattle.pv_network.specs.declared.outcome.Outcome.TheVariants as outcomes
 use Rattle.pv_network.specs.declared.outcome.Turn.{Turn}
-use Rattle.pv_network.specs.Call.{Call, is_waiting, is_to_store}
+use Rattle.pv_network.specs.Call.{Call, is_waiting, wish_to_store}
 use Rattle.pv_network.specs.Calling.{call_at, view_at, step_of_press, step_of_store}
 use Rattle.pv_network.specs.Centre.{record_count}
 use Rattle.pv_network.specs.Keying.{KeyedByte, is_owes, is_storing, step_of_key, screens_in, is_over, keys_refusal}
@@ -19,15 +19,15 @@ use Rattle.pv_network.specs.World.{World, centre_at}
 
 -- ---- what happens at a seat
 
--- a key is taken, with what the caller may see, unless the call waits
-abbrev pub press_events : View → ℕ → Option Call → List CallEvent
-press_events view key None = []
-press_events view key (Some call) = if is_waiting call then [] else Keyed key view ∷ []
+-- a key is taken, with what the caller may see and the moment, unless the call waits
+abbrev pub press_events : View → ℕ → ℕ → Option Call → List CallEvent
+press_events view moment key None = []
+press_events view moment key (Some call) = if is_waiting call then [] else Keyed key view moment ∷ []
 
 -- a full centre refuses to store what is owed; if it stores it, the seat does not know it yet
 abbrev pub store_events : Bool → Option Call → List CallEvent
 store_events is_full None = []
-store_events is_full (Some call) = if is_to_store call then (if is_full then Refused ∷ [] else []) else []
+store_events is_full (Some call) = if is_some (wish_to_store call) then (if is_full then Refused ∷ [] else []) else []
 
 -- the seat gets the reply to what was stored
 abbrev pub reply_events : Option Paid → List CallEvent
@@ -52,7 +52,8 @@ payment_events w c port =
 abbrev pub key_events : World → ℕ → ℕ → KeyedByte → List CallEvent
 key_events w c port key =
     let pressed = step_of_press w c port key.byte key.entry in
-    press_events (view_at w c port) key.byte (call_at w c port) ++ (if is_owes pressed.1 then payment_events pressed.0 c port else [])
+    press_events (view_at w c port) w.moment key.byte (call_at w c port)
+    ++ (if is_owes pressed.1 then payment_events pressed.0 c port else [])
 
 -- all keys, up to the end of the call
 abbrev pub keys_events : World → ℕ → ℕ → List KeyedByte → List CallEvent
@@ -73,7 +74,7 @@ is_same_port centre port c p = centre == c && port == p
 -- what happens at the seat of a port in an event: nothing if the event is at another port
 abbrev pub seat_events : World → ℕ → ℕ → Event → Choice → List CallEvent
 seat_events w c p (events.Press centre port key) choice =
-    if is_same_port centre port c p then press_events (view_at w c p) key (call_at w c p) else []
+    if is_same_port centre port c p then press_events (view_at w c p) w.moment key (call_at w c p) else []
 seat_events w c p (events.Store centre port) choice =
     if is_same_port centre port c p then store_events (is_full_at w c) (call_at w c p) else []
 seat_events w c p (events.Show centre port) choice = if is_same_port centre port c p then show_events (call_at w c p) else []

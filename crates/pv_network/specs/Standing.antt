@@ -1,10 +1,11 @@
 -- Which worlds a network stands for, part by part.
-use Rattle.std.specs.Prelude.{◌≡◌, ℕ, ◌<◌, Bool, true, false, List, ◌++◌, length, Option}
+use Rattle.std.specs.Prelude.{◌≡◌, ℕ, ◌<◌, ◌≤◌, Bool, true, false, List, ◌++◌, length, Option}
 use Rattle.pv_network.specs.declared.event.Event.{Event}
 use Rattle.pv_network.specs.declared.event.Event.TheVariants as events
 use Rattle.pv_network.specs.declared.event.NodeName.{NodeName}
 use Rattle.pv_network.specs.declared.event.NodeName.TheVariants as nodes
 use Rattle.pv_memory.specs.Medium.{Medium}
+use Rattle.pv_charge.specs.declared.line.TheConstants.{LAST_MOMENT}
 use Rattle.pv_udc.specs.EditList.{EditList}
 use Rattle.pv_nodes.specs.OnDisk.{UpdateIsOnDisk}
 use Rattle.pv_editor.specs.declared.seat.EditorSeat.{EditorSeat}
@@ -13,30 +14,35 @@ use Rattle.pv_session.specs.declared.entry.Entry.{Entry}
 use Rattle.pv_network.specs.Calling.{call_at, step_of_press}
 use Rattle.pv_network.specs.Calls.{IsEntryOf}
 use Rattle.pv_network.specs.Centre.{Held, CentresStand}
+use Rattle.pv_network.specs.Charging.{IsChargedWorld}
 use Rattle.pv_network.specs.Keying.{KeyedByte, bytes_of, step_of_key, keys_from, TakesAll, step_of_keys, TakesAllAt}
 use Rattle.pv_network.specs.Link.{Link}
-use Rattle.pv_network.specs.Sound.{IsSound}
+use Rattle.pv_packet.specs.declared.packet.Packet.{Packet}
+use Rattle.pv_network.specs.Sound.{IsGenuine, IsSound}
 use Rattle.pv_cells.specs.Notation.{ReadsAs}
 use Rattle.pv_network.specs.declared.outcome.Outcome.{Outcome}
 use Rattle.pv_network.specs.declared.outcome.Turn.{Turn}
 use Rattle.pv_network.specs.Step.{Choice, IsChoice, happens}
-use Rattle.pv_network.specs.World.{World}
+use Rattle.pv_network.specs.World.{World, centre_at}
 
 -- what is seen of a network: its parts, of which the Update Centre has its list on a disk, and whether it once was out of memory
 pub record State : Type 0 where
   pub update : EditList
   pub disk : Medium
+  pub moment : ℕ
   pub seats : List EditorSeat
   pub centres : List Held
   pub links : List Link
   pub is_out : Bool
 
--- The network stands for a sound world, each part for its part. Each image that a crash of the Update Centre's disk may leave
--- spells the records of the edit list.
+-- The network stands for a sound world in which charges are right, each part for its part. Each image that a crash of the Update
+-- Centre's disk may leave spells the records of the edit list.
 pub record StandsFor (s : State) (w : World) : Type 0 where
   pub sound : IsSound w
+  pub charged : IsChargedWorld w
   pub update : s.update ≡ w.update
   pub on_disk : UpdateIsOnDisk (record { state = s.update; disk = s.disk })
+  pub moment : s.moment ≡ w.moment
   pub seats : s.seats ≡ w.seats
   pub centres : CentresStand w.update s.centres w.centres
   pub links : s.links ≡ w.links
@@ -74,6 +80,10 @@ AnswersKeys old new outcome c port text = (w : World) → StandsFor old w
     → (keyed : List KeyedByte) × ReadsAs text (bytes_of keyed) × TakesAllAt w c port keyed
     × StandsFor new (step_of_keys w c port keyed).0 × (outcome ≡ (step_of_keys w c port keyed).1)
 
+-- the packet is genuine on a centre's link, in each world that the network stands for
+abbrev pub IsGenuineAt : State → ℕ → Packet → Type 0
+IsGenuineAt s c packet = (w : World) → StandsFor s w → IsGenuine w.update.records c (centre_at w c) packet
+
 -- the text is the notation of at least one byte
 pub record IsNotation (text : List ℕ) : Type 0 where
   pub bytes : List ℕ
@@ -84,6 +94,8 @@ pub record IsNotation (text : List ℕ) : Type 0 where
 abbrev pub takes_memory : Event → Bool
 takes_memory (events.Keys centre port keys) = true
 takes_memory (events.Crash node) = true
+takes_memory (events.Bill account) = true
+takes_memory (events.Lines centre) = true
 takes_memory _ = false
 
 -- What an event leaves open is chosen in the world in which it happens: whatever world the network stood for, there is such a
@@ -93,9 +105,9 @@ TakesPlace event old new outcome = (w : World) → StandsFor old w
     → (choice : Choice) × IsChoice w event choice × StandsFor new (happens w event choice).0 × (outcome ≡ (happens w event choice).1)
 
 -- a node is one that there is
-abbrev pub IsNode : State → NodeName → Type 0
-IsNode s nodes.Udc = Unit {0}
-IsNode s (nodes.Centre c) = c < length s.centres
+abbrev pub IsThere : State → NodeName → Type 0
+IsThere s nodes.Udc = Unit {0}
+IsThere s (nodes.Centre c) = c < length s.centres
 
 -- an event at a node or at a port is at one that there is
 abbrev pub IsPossible : State → Event → Type 0
@@ -108,10 +120,14 @@ IsPossible s (events.Show centre port) = (centre < length s.centres) × (port < 
 IsPossible s (events.Keys centre port keys) = (centre < length s.centres) × (port < PORTS) × IsNotation keys
 IsPossible s (events.Hang centre port) = (centre < length s.centres) × (port < PORTS)
 IsPossible s (events.Send centre) = centre < length s.centres
+IsPossible s (events.Post centre) = centre < length s.centres
 IsPossible s (events.Deliver centre index) = centre < length s.centres
 IsPossible s (events.Back centre index) = centre < length s.centres
 IsPossible s (events.Carry centre) = centre < length s.centres
-IsPossible s (events.Crash node) = IsNode s node
+IsPossible s (events.Crash node) = IsThere s node
+IsPossible s (events.Clock moment) = moment ≤ LAST_MOMENT
 IsPossible s (events.View centre name) = centre < length s.centres
 IsPossible s (events.At centre) = centre < length s.centres
 IsPossible s events.List = Unit {0}
+IsPossible s (events.Bill account) = Unit {0}
+IsPossible s (events.Lines centre) = centre < length s.centres

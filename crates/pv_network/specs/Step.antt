@@ -24,11 +24,12 @@ use Rattle.pv_network.specs.declared.event.Event.{Event}
 use Rattle.pv_network.specs.declared.event.Event.TheVariants as events
 use Rattle.pv_network.specs.declared.outcome.Outcome.{Outcome}
 use Rattle.pv_network.specs.declared.outcome.Outcome.TheVariants as outcomes
+use Rattle.pv_network.specs.Bills.{step_of_bill, step_of_lines}
 use Rattle.pv_network.specs.Calling.{call_at, step_of_dial, step_of_press, step_of_store, step_of_show, step_of_hang}
 use Rattle.pv_network.specs.Calls.{IsEntryOf}
 use Rattle.pv_network.specs.Crashing.{step_of_crash}
 use Rattle.pv_network.specs.Keying.{KeyedByte, bytes_of, first_entry, step_of_keys, TakesAllAt}
-use Rattle.pv_network.specs.Traffic.{step_of_send, step_of_deliver, step_of_back, step_of_carry}
+use Rattle.pv_network.specs.Traffic.{step_of_send, step_of_post, step_of_deliver, step_of_back, step_of_carry}
 use Rattle.pv_network.specs.Verdict.{Verdict, verdict_of, reply_found}
 use Rattle.pv_network.specs.World.{World, seat_at, with_seat, centre_at, with_edit, with_receipt, page_base}
 
@@ -90,10 +91,17 @@ step_of_at w c = (w, outcomes.Applied (centre_at w c).applied)
 abbrev pub step_of_list : World → World × Outcome
 step_of_list w = (w, outcomes.Records (length w.update.records))
 
+-- ---- clock
+
+-- the clock shows another moment
+abbrev pub step_of_clock : World → ℕ → World × Outcome
+step_of_clock w moment = (record w { moment = moment }, outcomes.Clock moment)
+
 -- ---- all
 
 -- What the definitions leave open in an event: whether a stop within a write kept the record that was being written, what an
--- editor's line says, and what a caller's keys say. No event stops a node yet, so that none depends on the first.
+-- editor's line says, and what a caller's keys say. No event stops a node within a write, so that
+-- none depends on the first.
 pub record Choice : Type 0 where
   pub kept : Bool
   pub said : Option EditLine
@@ -118,13 +126,17 @@ happens w (events.Store centre port) choice = step_of_store w centre port
 happens w (events.Show centre port) choice = step_of_show w centre port
 happens w (events.Hang centre port) choice = step_of_hang w centre port
 happens w (events.Send centre) choice = step_of_send w centre
+happens w (events.Post centre) choice = step_of_post w centre
 happens w (events.Deliver centre index) choice = step_of_deliver w centre index
 happens w (events.Back centre index) choice = step_of_back w centre index
 happens w (events.Carry centre) choice = step_of_carry w centre
 happens w (events.Crash node) choice = step_of_crash w node
+happens w (events.Clock moment) choice = step_of_clock w moment
 happens w (events.View centre name) choice = step_of_view w centre name
 happens w (events.At centre) choice = step_of_at w centre
 happens w events.List choice = step_of_list w
+happens w (events.Bill account) choice = step_of_bill w account
+happens w (events.Lines centre) choice = step_of_lines w centre
 
 -- the world after a list of events, each with what was open in it
 abbrev pub after : World → List (Event × Choice) → World

@@ -14,6 +14,8 @@ use Rattle.pv_udc.specs.declared.reply.UdcReply.TheVariants.{Stored, Again, Old,
 use Rattle.pv_udc.specs.declared.request.UdcRequest.{UdcRequest}
 use Rattle.pv_editor.specs.declared.replies.UdcReplyView.{UdcReplyView}
 use Rattle.pv_editor.specs.declared.replies.UdcReplyView.TheVariants as told
+use Rattle.pv_network.specs.declared.arrival.Arrival.{Arrival}
+use Rattle.pv_network.specs.declared.arrival.Arrival.TheVariants as arrivals
 use Rattle.pv_network.specs.declared.verdict.TheConstants.{FULL}
 
 -- the record that is stored, if one is, and the editor's reply
@@ -39,6 +41,21 @@ verdict_by u (Store edit reply) =
 -- the verdict on a request
 abbrev pub verdict_of : EditList → UdcRequest → Verdict
 verdict_of u request = verdict_by u (judge u.limits u.records request)
+
+-- ---- items
+
+-- what was done with an item, by the reply to it: an item is never repeated to an editor, nor refused
+abbrev pub item_arrival : UdcReply → Arrival
+item_arrival (Stored place) = arrivals.Taken
+item_arrival (Old count) = arrivals.Old
+item_arrival (Early count) = arrivals.Early
+item_arrival (Again place) = arrivals.Old
+item_arrival (Refused code) = arrivals.Early
+
+-- the record that is stored with it, if it is taken
+abbrev pub stored_on : Arrival → Record → Option Record
+stored_on arrivals.Taken edit = Some edit
+stored_on _ edit = None
 
 -- ---- what callers keyed into an editor's frames
 

@@ -8,6 +8,7 @@ use Rattle.pv_editor.specs.declared.seat.EditorSeat.{EditorSeat}
 use Rattle.pv_editor.specs.declared.replies.UdcReplyView.{UdcReplyView}
 use Rattle.pv_editor.specs.declared.replies.UdcReplyView.TheVariants.{Stored, Refused}
 use Rattle.pv_network.specs.declared.event.TheConstants.{EDITORS}
+use Rattle.pv_network.specs.declared.outcome.BillLine.{BillLine}
 use Rattle.pv_network.specs.Centre.{Centre, new_centre}
 use Rattle.pv_network.specs.Link.{Link, new_link, link_in}
 
@@ -17,26 +18,39 @@ pub record Receipt : Type 0 where
   pub number : ℕ
   pub place : ℕ
 
+-- a call that was stopped while a charge line of it was stored and its frame not yet shown
+pub record StoppedCall : Type 0 where
+  pub centre : ℕ
+  pub serial : ℕ
+
 -- everything there is
 pub record World : Type 0 where
   -- the edit list with its limits
   pub update : EditList
+  -- what the clock shows, in seconds since 1970
+  pub moment : ℕ
   -- the editors' seats, one for each port
   pub seats : List EditorSeat
   -- the centres, and the link of each
   pub centres : List Centre
   pub links : List Link
-  -- what was acknowledged in this run
+  -- what happened in this run: the edits that were acknowledged, the charge lines of the frames that callers were shown, and the
+  -- calls that were stopped with a line in hand
   pub receipts : List Receipt
+  pub shown : List BillLine
+  pub stopped : List StoppedCall
 
 -- the world at the start
 abbrev pub start : ℕ → Limits → World
 start centres limits = record {
   update = empty_list limits;
+  moment = 0;
   seats = replicate EDITORS new_seat;
   centres = replicate centres new_centre;
   links = replicate centres new_link;
   receipts = [];
+  shown = [];
+  stopped = [];
 }
 
 -- the seat at a port; after the last there is none, and a new one stands for it

@@ -1,7 +1,7 @@
-ghost use Rattle.std.specs.Prelude.{◌≡◌, Option};
+ghost use Rattle.std.specs.Prelude.{◌≡◌, ◌≤◌, Option};
+ghost use Rattle.pv_charge.specs.declared.line.TheConstants.{LAST_MOMENT};
 ghost use Rattle.pv_edits.specs.Sight.{view_of};
 ghost use Rattle.pv_session.specs.declared.entry.Entry.{Entry};
-ghost use Rattle.pv_session.specs.declared.step.Paid.TheVariants.{Serial};
 ghost use Rattle.pv_session.specs.Turns.{storing_turn, full_turn};
 
 use pv_edits::Sight;
@@ -64,21 +64,22 @@ impl Call {
         self.seat.wish()
     }
 
-    /// Takes a byte.
-    pub(crate) fn key(&mut self, byte: u8, sight: &Sight) -> Step
+    /// Takes a byte at a moment.
+    pub(crate) fn key(&mut self, byte: u8, sight: &Sight, moment: u32) -> Step
+        requires { moment ≤ LAST_MOMENT }
         ensures turn { (entry : Option Entry) × IsEntryAt self.old.seat byte entry
             × (self.new
-            ≡ record self.old { seat = (key_turn self.old.seat byte (view_of sight.now) entry).0 })
-            × (result ≡ (key_turn self.old.seat byte (view_of sight.now) entry).1) }
+            ≡ record self.old { seat = (key_turn self.old.seat byte (view_of sight.now) moment entry).0 })
+            × (result ≡ (key_turn self.old.seat byte (view_of sight.now) moment entry).1) }
     {
-        self.seat.key(byte, sight)
+        self.seat.key(byte, sight, moment)
     }
 
-    /// Notes that a log-on was stored, and its serial.
-    pub(crate) fn store(&mut self, serial: u64)
-        ensures { self.new ≡ record self.old { stored = Some (Serial serial) } }
+    /// Notes that what is owed was stored, and the reply.
+    pub(crate) fn store(&mut self, reply: Paid)
+        ensures { self.new ≡ record self.old { stored = Some reply } }
     {
-        self.stored = Some(Paid::Serial(serial));
+        self.stored = Some(reply);
     }
 
     /// The seat ends the call, since the centre is full.

@@ -1,9 +1,9 @@
-ghost use Rattle.std.specs.Prelude.{◌≡◌, ◌<◌, List, Option, Some, None, length, replicate, slice_set, IfOk};
+ghost use Rattle.std.specs.Prelude.{◌≡◌, ◌<◌, ◌≤◌, List, Option, Some, None, length, replicate, slice_set, IfOk};
+ghost use Rattle.pv_charge.specs.declared.line.TheConstants.{LAST_MOMENT};
 ghost use Rattle.pv_edits.specs.Sight.{view_of};
 ghost use Rattle.pv_session.specs.Turns.{full_turn};
 ghost use Rattle.pv_session.specs.declared.entry.Entry.{Entry};
 ghost use Rattle.pv_session.specs.State.{CallState};
-ghost use Rattle.pv_session.specs.declared.step.Paid.TheVariants.{Serial};
 ghost use Rattle.pv_network.specs.declared.event.TheConstants.{PORTS};
 ghost use Rattle.pv_network.specs.declared.outcome.Outcome.TheVariants as outcomes;
 ghost use Rattle.pv_network.specs.Call.{call_of};
@@ -16,7 +16,7 @@ use crate::event::PORTS;
 use crate::outcome::{Outcome, Turn};
 use pv_edits::Sight;
 use pv_page::AccountNo;
-use pv_session::{Step, Wish};
+use pv_session::{Paid, Step, Wish};
 use std::alloc::{AllocError, Global};
 use std::marker::Model;
 
@@ -108,12 +108,13 @@ impl Calls {
         free_all(&mut self.ports);
     }
 
-    /// Takes a key at a port, with what the centre shows to the caller there.
-    pub(crate) fn press(&mut self, port: usize, key: u8, sight: &Sight) -> Outcome
-        requires { port < PORTS }
+    /// Takes a key at a port at a moment, with what the centre shows to the caller there.
+    pub(crate) fn press(&mut self, port: usize, key: u8, sight: &Sight, moment: u32) -> Outcome
+        requires port { port < PORTS }
+        requires moment { moment ≤ LAST_MOMENT }
         ensures pressed { (entry : Option Entry) × IsEntryOf (call_among self.old port) key entry
             × IsDone self.old self.new result
-            (λ calls. press_at calls port key (view_of sight.now) entry (call_in calls port)) }
+            (λ calls. press_at calls port key (view_of sight.now) moment entry (call_in calls port)) }
     {
         let Some(call) = &mut self.ports[port] else {
             return Outcome::NoCall;
@@ -121,7 +122,7 @@ impl Calls {
         if call.is_waiting() {
             return Outcome::Owing;
         }
-        let step = call.key(key, sight);
+        let step = call.key(key, sight, moment);
         self.answer(port, step)
     }
 
@@ -139,17 +140,17 @@ impl Calls {
         }
     }
 
-    /// Notes that the log-on of the call at a port was stored, and its serial.
-    pub(crate) fn note(&mut self, port: usize, serial: u64) -> Outcome
+    /// Notes that what the call at a port owes was stored, and the reply.
+    pub(crate) fn note(&mut self, port: usize, reply: Paid) -> Outcome
         requires { port < PORTS }
         ensures noted { (call : Spec.Call) → call_among self.old port ≡ Some call
-            → (self.new ≡ slice_set self.old port (Some (record call { stored = Some (Serial serial) })))
+            → (self.new ≡ slice_set self.old port (Some (record call { stored = Some reply })))
             × (result ≡ outcomes.Stored) }
     {
         let Some(call) = &mut self.ports[port] else {
             return Outcome::NoCall;
         };
-        call.store(serial);
+        call.store(reply);
         Outcome::Stored
     }
 

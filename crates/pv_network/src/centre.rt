@@ -1,16 +1,19 @@
-ghost use Rattle.std.specs.Prelude.{◌≡◌, ◌<◌, ◌≤◌, Ok, nat_le, option_copied, IfOk, IfSome, OnErr};
+ghost use Rattle.std.specs.Prelude.{◌≡◌, ◌<◌, ◌≤◌, Ok, length, nat_le, option_copied, slice_get, IfOk, IfSome, OnErr};
+ghost use Rattle.pv_charge.specs.declared.line.TheConstants.{LAST_MOMENT};
 ghost use Rattle.pv_frame.specs.Errors.{IsValid};
 ghost use Rattle.pv_edits.specs.Edits.{frame_at};
 ghost use Rattle.pv_irc.specs.Deciding.{IsCentreRequest};
 ghost use Rattle.pv_irc.specs.History.{state_count};
-ghost use Rattle.pv_irc.specs.declared.request.IrcRequest.TheVariants as requests;
 ghost use Rattle.pv_udc.specs.EditList.{empty_list};
 ghost use Rattle.pv_network.specs.declared.event.TheConstants.{MAX_CENTRES, PORTS};
+ghost use Rattle.pv_network.specs.Bills.{bill_answer, stored_lines};
 ghost use Rattle.pv_network.specs.Calls.{call_among, call_in, wish_at, dial_at, hang_at, store_at, show_at};
 ghost use Rattle.pv_network.specs.Crashing.{crash_at};
 ghost use Rattle.pv_network.specs.Keying.{keys_refusal};
-ghost use Rattle.pv_network.specs.Centre.{new_centre, calls_of, request_for, Asked, CentreStands, AreNew, Comes, Pressed};
+ghost use Rattle.pv_network.specs.Centre.{new_centre, calls_of, arrival_by, request_for, paid_by, Asked, Applies, CentreStands, AreNew, Comes, Pressed};
 
+use crate::arrival::Arrival;
+use crate::bills::stored_lines;
 use crate::calls::Calls;
 use crate::event::MAX_CENTRES;
 use crate::outcome::Outcome;
@@ -20,7 +23,8 @@ use pv_irc::{IrcReply, IrcRequest};
 use pv_nodes::CentreNode;
 use pv_outside::Limits;
 use pv_page::FrameName;
-use pv_session::Wish;
+use pv_post::Item;
+use pv_session::{Paid, Wish};
 use std::alloc::{AllocError, Global};
 use std::marker::Model;
 
@@ -61,6 +65,37 @@ impl Centre {
         self.node.state().applied()
     }
 
+    /// How many items it has kept for its callers.
+    pub(crate) fn items(&self) -> u64
+        ensures { result ≡ length self.now.node.state.items }
+    {
+        self.node.state().items()
+    }
+
+    /// The item of a number. `None` exactly from the count of items on.
+    pub(crate) fn item_at(&self, number: u64) -> Option<&Item>
+        ensures { option_copied result ≡ slice_get self.now.node.state.items number }
+    {
+        self.node.state().item_at(number)
+    }
+
+    /// How many records it has in all.
+    pub(crate) fn count(&self) -> u64
+        ensures { result ≡ state_count self.now.node.state }
+    {
+        self.node.count()
+    }
+
+    /// The charge lines that it has stored, as those of the centre of this number. The only error is that memory ran out.
+    pub(crate) fn lines(&self, alloc: Global, number: u8) -> Result<Outcome, AllocError>
+        ensures { IfOk result
+            (λ outcome. outcome ≡ bill_answer (stored_lines number self.now.node.state.items)) }
+    {
+        // It has no more items than it may have records.
+        let _count = self.node.count();
+        stored_lines(alloc, number, self.node.state())
+    }
+
     /// The frame that a name has in the records that came down whole.
     pub(crate) fn frame(&self, name: FrameName) -> Option<&Frame>
         ensures valid { IfSome result (λ frame. IsValid frame.now) }
@@ -80,15 +115,15 @@ impl Centre {
         }
     }
 
-    /// Asks the node to apply what came down under a number: the reply, or the count of the records of a full centre.
-    pub(crate) fn apply(&mut self, number: u64, rec: &DownRecord) -> Result<IrcReply, u64>
-        ensures { Asked self.old self.new (requests.Apply number rec.now) result }
+    /// Asks the node to apply what came down under a number, and returns what it did.
+    pub(crate) fn apply(&mut self, number: u64, rec: &DownRecord) -> Arrival
+        ensures { Applies self.old self.new number rec.now result }
     {
         rec.within();
-        self.ask(&IrcRequest::Apply {
+        arrival_by(self.ask(&IrcRequest::Apply {
             n: number,
             rec: *rec,
-        })
+        }))
     }
 
     /// The centre is lost, and opened again from its disk. Its calls are over. The only error is that memory ran
@@ -121,14 +156,15 @@ impl Centre {
         self.calls.refusal(port)
     }
 
-    /// Takes a key at a port.
-    pub(crate) fn press(&mut self, port: usize, key: u8) -> Outcome
-        requires { port < PORTS }
-        ensures { Pressed self.old self.new port key result }
+    /// Takes a key at a port at a moment.
+    pub(crate) fn press(&mut self, port: usize, key: u8, moment: u32) -> Outcome
+        requires port { port < PORTS }
+        requires moment { moment ≤ LAST_MOMENT }
+        ensures { Pressed self.old self.new port key moment result }
     {
         let account = self.calls.account(port);
         self.calls
-            .press(port, key, &self.node.state().sight(account))
+            .press(port, key, &self.node.state().sight(account), moment)
     }
 
     /// Stores what the call at a port owes, unless the centre is full.
@@ -153,9 +189,11 @@ impl Centre {
             (state_count self.old.node.state) (calls_of self.old) port (call_in (calls_of self.old) port)) }
     {
         match self.ask(&request_of(wish)) {
-            Ok(IrcReply::Serial(serial)) => self.calls.note(port, serial),
-            // A log-on has no other reply.
-            Ok(_) => Outcome::Nothing,
+            Ok(reply) => match paid_by(&reply) {
+                Some(paid) => self.calls.note(port, paid),
+                // A wish has no other reply.
+                None => Outcome::Nothing,
+            },
             Err(count) => self.calls.turn_away(port, count),
         }
     }
@@ -179,6 +217,19 @@ impl Centre {
     }
 }
 
+/// What a centre did with a record, by its node's reply.
+fn arrival_by(reply: Result<IrcReply, u64>) -> Arrival
+    ensures { result ≡ arrival_by reply }
+{
+    match reply {
+        Ok(IrcReply::Applied) => Arrival::Taken,
+        Ok(IrcReply::Old(_)) => Arrival::Old,
+        // There is room for each record of the list, so that no other reply comes.
+        Ok(_) => Arrival::Early,
+        Err(_) => Arrival::Full,
+    }
+}
+
 /// What a centre's node is asked for a wish.
 fn request_of(wish: Wish) -> IrcRequest
     ensures within { IsCentreRequest result }
@@ -189,6 +240,24 @@ fn request_of(wish: Wish) -> IrcRequest
             let _number = account.number();
             IrcRequest::LogOn { account }
         }
+        Wish::Charge(line) => {
+            line.within();
+            IrcRequest::Keep {
+                item: Item::Charge(line),
+            }
+        }
+    }
+}
+
+/// What a call is told of a node's reply to its wish: the serial of a log-on, or that an item is kept. `None` for the
+/// replies to what came down.
+fn paid_by(reply: &IrcReply) -> Option<Paid>
+    ensures { result ≡ paid_by reply.now }
+{
+    match reply {
+        IrcReply::Serial(serial) => Some(Paid::Serial(*serial)),
+        IrcReply::Kept(_) => Some(Paid::Stored),
+        _ => None,
     }
 }
 

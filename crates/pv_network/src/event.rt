@@ -1,4 +1,4 @@
-use pv_page::FrameName;
+use pv_page::{AccountNo, FrameName};
 use pv_words::Part;
 
 /// How many editors' ports there are.
@@ -70,6 +70,10 @@ pub enum Event<'a> {
     Send {
         centre: u8,
     },
+    /// A centre packs its next item for the Update Centre.
+    Post {
+        centre: u8,
+    },
     /// The packet of this index, of those that were made for a centre, arrives there.
     Deliver {
         centre: u8,
@@ -80,13 +84,18 @@ pub enum Event<'a> {
         centre: u8,
         index: u64,
     },
-    /// Record after record is sent to a centre and delivered there, and its acknowledgement arrives.
+    /// Record after record is sent to a centre and delivered there, and its acknowledgement arrives; and so is item
+    /// after item to the Update Centre, until nothing is left to send either way.
     Carry {
         centre: u8,
     },
     /// A node is lost, and opened again from its disk.
     Crash {
         node: NodeName,
+    },
+    /// The clock shows this moment, in seconds since 1970: 0 to 4,102,444,799.
+    Clock {
+        moment: u32,
     },
     /// Somebody reads a frame as a centre holds it.
     View {
@@ -99,4 +108,12 @@ pub enum Event<'a> {
     },
     /// Somebody asks how many records the edit list has.
     List,
+    /// Somebody asks for the bill of an account: the charge lines that came up for it.
+    Bill {
+        account: AccountNo,
+    },
+    /// Somebody asks for all charge lines that a centre has stored.
+    Lines {
+        centre: u8,
+    },
 }

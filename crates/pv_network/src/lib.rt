@@ -5,8 +5,9 @@
 //! what they ask for is judged and stored by the rules of `pv_udc`. Callers dial at the 16 ports of a
 //! centre, and `pv_session` has their seats. An [`Event`] happens to the
 //! network, one at a time, and an [`Outcome`] says what came of it.
-//! Each centre is a node of `pv_nodes`: what it is brought, and the log-ons, are on its disk before it replies.
-//! Packets are numbered in the order in which they were made; any of them may be delivered at any time,
+//! The Update Centre and each centre are nodes of `pv_nodes`: what a node stores is on its disk before it replies.
+//! Records go down to a centre, and its items go up to the Update Centre, each in a packet. The packets of a
+//! centre are numbered from 0 each way, in the order in which they were made; any of them may arrive at any time,
 //! never, or again. Each is kept in bytes, as `pv_packet` spells it, and decoded when it arrives. A node
 //! may crash: it is opened again from its disk, and knows what it had stored.
 //!
@@ -23,28 +24,35 @@
 //! so. What holds of every world that can be reached is the law [`every_reachable_world_is_sound`].
 #![tactic(auto)]
 
+mod arrival;
+mod bills;
 mod call;
 mod calls;
 mod centre;
-mod delivery;
 mod event;
 mod laws;
+mod lines;
 mod link;
 mod links;
+mod load;
+mod moment;
 mod network;
 mod outcome;
 mod packets;
 mod round;
 mod turns;
 mod verdict;
+mod way;
 
 pub use event::{EDITORS, Event, MAX_CENTRES, NodeName, PORTS};
 pub use laws::{
     a_carried_centre_has_every_record, a_carry_has_rounds_enough,
-    caller_is_shown_the_steps_of_his_seat, every_reachable_world_is_sound,
+    a_line_in_hand_is_for_the_frame_shown_next, caller_is_shown_the_steps_of_his_seat,
+    every_reachable_world_is_sound,
 };
+pub use lines::BillLines;
 pub use network::Network;
-pub use outcome::{Outcome, Turn};
+pub use outcome::{BillLine, Outcome, Turn};
 pub use pv_editor::Text;
 pub use pv_session::Why;
 pub use turns::Turns;

@@ -1,15 +1,14 @@
-ghost use Rattle.std.specs.Prelude.{◌≡◌, ◌+◌, ◌<◌, ◌≤◌, ℕ, false, length, map, replicate, slice_set, IfOk};
-ghost use Rattle.pv_edits.specs.Taken.{IsCentre};
-ghost use Rattle.pv_link.specs.Sending.{number_to_give};
-ghost use Rattle.pv_packet.specs.declared.packet.Packet.TheVariants.{Down};
+ghost use Rattle.std.specs.Prelude.{◌≡◌, ◌<◌, ◌≤◌, false, length, map, replicate, slice_get, slice_set, IfOk};
+ghost use Rattle.pv_link.specs.Sending.{new_end, number_to_give};
+ghost use Rattle.pv_packet.specs.Packet.{centre_of};
 ghost use Rattle.pv_network.specs.declared.event.TheConstants.{MAX_CENTRES};
-ghost use Rattle.pv_network.specs.Link.{new_link, link_in, is_packets_full, with_packet, delivery_in, with_acknowledgement, heard_in, heard_link, with_new_end, places_with_new_end};
+ghost use Rattle.pv_network.specs.declared.way.Way.TheVariants as ways;
+ghost use Rattle.pv_network.specs.Link.{new_link, link_in, is_packets_full, back_way, ack_packet, packets_on, end_on, with_packet, with_given_number, with_sent, with_heard, with_new_end, places_with_end};
 
-use crate::delivery::Delivery;
 use crate::event::MAX_CENTRES;
 use crate::link::Link;
 use crate::packets::{MAX_PACKETS, Packets};
-use pv_edits::DownRecord;
+use crate::way::Way;
 use pv_packet::Packet;
 use std::alloc::{AllocError, Global};
 use std::marker::Model;
@@ -60,103 +59,122 @@ impl Links {
         self.packets.len() >= MAX_PACKETS
     }
 
-    /// What the packet of an index brings that went down a link. `None` if there is no such packet, or it brings no
-    /// record.
-    pub(crate) fn delivery(&self, link: usize, index: u64) -> Option<Delivery>
-        requires { link < length self.now }
-        ensures { result ≡ delivery_in (link_in self.now link).down index }
+    /// There are no more of them than there may be centres. This does nothing.
+    pub(crate) fn within(&self)
+        ensures { length self.now ≤ MAX_CENTRES }
     {
-        let place = self.links[link].down(index)?;
-        match self.packets.get(usize::from(place)) {
-            Some(Packet::Down { number, rec, .. }) => Some(Delivery { number, rec }),
-            _ => None,
-        }
+        let _ = &self.links;
     }
 
-    /// How many records the packet of an index acknowledges that went up a link. `None` if there is no such packet,
-    /// or it acknowledges none.
-    pub(crate) fn heard(&self, link: usize, index: u64) -> Option<u64>
+    /// The packet of an index, of those that went a way. `None` if there is no such packet.
+    pub(crate) fn packet(&self, way: Way, link: u8, index: u64) -> Option<Packet>
         requires { link < length self.now }
-        ensures { result ≡ heard_in (link_in self.now link).up index }
+        ensures { result ≡ slice_get (packets_on way (link_in self.now link)) index }
     {
-        let place = self.links[link].up(index)?;
-        match self.packets.get(usize::from(place)) {
-            Some(Packet::DownHeard { number, .. }) => Some(number),
-            _ => None,
-        }
+        let place = self.links[link as usize].place(way, index)?;
+        self.packets.get(usize::from(place))
     }
 
-    /// The end that sends down a link hears that a centre has `count` records, of `front` in all.
-    pub(crate) fn hear(&mut self, link: usize, front: u64, count: u64)
+    /// The number that goes next on a way, if there are `front` to go there. `None` if all of them are acknowledged.
+    pub(crate) fn next_number(&self, way: Way, link: u8, front: u64) -> Option<u64>
+        requires { link < length self.now }
+        ensures { result ≡ number_to_give (end_on way (link_in self.now link)) front }
+    {
+        self.links[link as usize].next_number(way, front)
+    }
+
+    /// Sends a packet, under the number that the end of its way gives of `front` to go there. Returns its index.
+    pub(crate) fn send(&mut self, way: Way, link: u8, front: u64, packet: &Packet) -> u64
+        requires there { link < length self.old }
+        requires room { is_packets_full self.old ≡ false }
+        requires own { centre_of packet.now ≡ link }
+        ensures index { result ≡ length (packets_on way (link_in self.old link)) }
+        ensures sent { self.new
+            ≡ slice_set self.old link (with_sent way (link_in self.old link) front packet.now) }
+    {
+        let index = self.put(way, link, packet);
+        self.go_on(way, link, front);
+        index
+    }
+
+    /// Acknowledges `count` of what went a way, and returns the acknowledgement's index.
+    pub(crate) fn acknowledge(&mut self, way: Way, link: u8, count: u64) -> u64
+        requires there { link < length self.old }
+        requires room { is_packets_full self.old ≡ false }
+        ensures index { result ≡ length (packets_on (back_way way) (link_in self.old link)) }
+        ensures made { self.new ≡ slice_set self.old link
+            (with_packet (back_way way) (link_in self.old link) (ack_packet way link count)) }
+    {
+        let ack = acknowledgement(way, link, count);
+        self.put(way.back(), link, &ack)
+    }
+
+    /// Makes a packet that goes a way, and returns its index.
+    #[tactic(auto, using(crate::proofs::Rows::count_of_places))]
+    fn put(&mut self, way: Way, link: u8, packet: &Packet) -> u64
+        requires there { link < length self.old }
+        requires room { is_packets_full self.old ≡ false }
+        requires own { centre_of packet.now ≡ link }
+        ensures index { result ≡ length (packets_on way (link_in self.old link)) }
+        ensures made { self.new
+            ≡ slice_set self.old link (with_packet way (link_in self.old link) packet.now) }
+    {
+        let place = self.packets.len() as u16;
+        let index = self.links[link as usize].add(way, place);
+        packet.within();
+        self.packets.push(packet);
+        index
+    }
+
+    /// The end of a way gives its next number, of `front` to go there.
+    fn go_on(&mut self, way: Way, link: u8, front: u64)
         requires { link < length self.old }
-        ensures { self.new ≡ slice_set self.old link (heard_link (link_in self.old link) front count) }
+        ensures { self.new ≡ slice_set self.old link (with_given_number way (link_in self.old link) front) }
     {
-        self.links[link].hear(front, count);
+        self.links[link as usize].go_on(way, front);
     }
 
-    /// The end that sends down each link is new. The packets stay.
-    pub(crate) fn renew(&mut self)
-        ensures { self.new ≡ map with_new_end self.old }
+    /// The end of a way hears that `count` arrived, of `front` in all.
+    pub(crate) fn hear(&mut self, way: Way, link: u8, front: u64, count: u64)
+        requires { link < length self.old }
+        ensures { self.new ≡ slice_set self.old link (with_heard way (link_in self.old link) front count) }
+    {
+        self.links[link as usize].hear(way, front, count);
+    }
+
+    /// A centre's end, which sends items up, is new. The packets stay.
+    pub(crate) fn renew_up(&mut self, link: u8)
+        requires { link < length self.old }
+        ensures { self.new ≡ slice_set self.old link (with_new_end ways.Up (link_in self.old link)) }
+    {
+        self.links[link as usize].renew(Way::Up);
+    }
+
+    /// The end that sends records down each link is new. The packets stay.
+    pub(crate) fn renew_down(&mut self)
+        ensures { self.new ≡ map (with_new_end ways.Down) self.old }
     {
         renew_all(&mut self.links);
     }
+}
 
-    /// The number that goes down a link next, if there are `front` records. `None` if all of them are acknowledged.
-    pub(crate) fn next_number(&self, link: usize, front: u64) -> Option<u64>
-        requires { link < length self.now }
-        ensures { result ≡ number_to_give (link_in self.now link).sending front }
-    {
-        self.links[link].next_number(front)
-    }
-
-    /// Sends a record down a link in a packet, under the number that the end gives of `front` records. Returns the
-    /// packet's index.
-    #[tactic(auto, using(crate::proofs::Rows::count_of_places))]
-    pub(crate) fn pack(&mut self, link: usize, front: u64, number: u64, rec: DownRecord) -> u64
-        requires there { link < length self.old }
-        requires room { is_packets_full self.old ≡ false }
-        ensures index { result ≡ length (link_in self.old link).down }
-        ensures packed { self.new
-            ≡ slice_set self.old link (with_packet (link_in self.old link) front (Down link number rec)) }
-    {
-        let place = self.packets.len() as u16;
-        let index = self.links[link].send_down(front, place);
-        let packet = Packet::Down {
-            centre: link as u8,
-            number,
-            rec,
-        };
-        packet.within();
-        self.packets.push(&packet);
-        index
-    }
-
-    /// Sends an acknowledgement of `count` records up a link, and returns its index.
-    #[tactic(auto, using(crate::proofs::Rows::count_of_places))]
-    pub(crate) fn acknowledge(&mut self, link: usize, count: u64) -> u64
-        requires there { link < length self.old }
-        requires room { is_packets_full self.old ≡ false }
-        ensures index { result ≡ length (link_in self.old link).up }
-        ensures made { self.new ≡ slice_set self.old link
-            (with_acknowledgement (link_in self.old link) link count) }
-    {
-        let place = self.packets.len() as u16;
-        let index = self.links[link].send_up(place);
-        let packet = Packet::DownHeard {
-            centre: link as u8,
-            number: count,
-        };
-        packet.within();
-        self.packets.push(&packet);
-        index
+/// The packet that acknowledges `count` of what went a way.
+fn acknowledgement(way: Way, centre: u8, count: u64) -> Packet
+    ensures value { result ≡ ack_packet way centre count }
+    ensures own { centre_of result ≡ centre }
+{
+    let number = count;
+    match way {
+        Way::Down => Packet::DownHeard { centre, number },
+        Way::Up => Packet::UpHeard { centre, number },
     }
 }
 
-/// The end that sends down each of these links is new.
+/// The end that sends records down each of these links is new.
 fn renew_all(links: &mut Vec<Link>)
-    ensures { links.new.items ≡ map places_with_new_end links.old.items }
+    ensures { links.new.items ≡ map (λ here. places_with_end ways.Down here new_end) links.old.items }
 {
     for link in links.iter_mut() {
-        link.renew();
+        link.renew(Way::Down);
     }
 }

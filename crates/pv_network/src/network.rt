@@ -3,22 +3,26 @@ ghost use Rattle.pv_words.specs.Parts.{Exactly};
 ghost use Rattle.pv_editor.specs.Lines.{IsLine};
 ghost use Rattle.pv_editor.specs.declared.line.EditLine.{EditLine};
 ghost use Rattle.pv_editor.specs.declared.step.EditStep.TheVariants as steps;
+ghost use Rattle.pv_charge.specs.declared.line.TheConstants.{LAST_MOMENT};
 ghost use Rattle.pv_network.specs.declared.event.TheConstants.{MAX_CENTRES};
-ghost use Rattle.pv_network.specs.Traffic.{step_of_send, step_of_deliver, step_of_back, step_of_acknowledging, GoesOn, packet_room, with_ack_back, round_of_packet, step_of_round, step_of_carry};
-ghost use Rattle.pv_network.specs.World.{World, start};
+ghost use Rattle.pv_network.specs.Bills.{step_of_bill, step_of_lines};
+ghost use Rattle.pv_network.specs.World.{start};
 ghost use Rattle.pv_network.specs.Standing.{StandsFor, Performs, TakesPlace, IsPossible, takes_memory};
-ghost use Rattle.pv_network.specs.Step.{step_of_request, step_of_seeding, step_of_line, step_of_said, step_of_edit, step_of_view, step_of_at, step_of_list};
+ghost use Rattle.pv_network.specs.Step.{step_of_request, step_of_seeding, step_of_line, step_of_said, step_of_edit, step_of_view, step_of_at, step_of_list, step_of_clock};
 
 mod calling;
 mod crashing;
 mod keying;
+mod traffic;
 
+use crate::bills::bill;
 use crate::centre::{Centre, open_centres};
 use crate::event::{EDITORS, Event};
 use crate::links::Links;
+use crate::moment::Moment;
 use crate::outcome::{Outcome, Turn};
-use crate::round::Round;
 use crate::verdict::{responses, store, within};
+use crate::way::Way;
 use pv_editor::{EditStep, EditorSeat, closing_text, reply_text};
 use pv_edits::{EditWish, OPERATOR};
 use pv_frame::{FIRST_ROW, Frame};
@@ -26,7 +30,7 @@ use pv_nodes::{UpdateNode, a_centre_shows_what_the_list_shows};
 use pv_outside::Limits;
 use pv_page::{AccountNo, FrameName};
 use pv_screen::{Screen, compose};
-use pv_udc::{UdcRequest, down};
+use pv_udc::UdcRequest;
 use std::alloc::{AllocError, Global};
 use std::marker::Model;
 
@@ -34,6 +38,7 @@ use std::marker::Model;
 #[derive(Drop)]
 pub struct Network {
     update: UpdateNode,
+    moment: Moment,
     seats: [EditorSeat; EDITORS as usize],
     centres: Vec<Centre>,
     links: Links,
@@ -50,6 +55,7 @@ impl Model for Network {
     ghost view = { λ n. record {
       update = n.update.state;
       disk = n.update.disk;
+      moment = n.moment;
       seats = n.seats;
       centres = n.centres.items;
       links = n.links;
@@ -60,6 +66,7 @@ impl Model for Network {
     ghost invariant = { λ n. (length n.links ≡ length n.centres.items) × IsStanding (record {
       update = n.update.state;
       disk = n.update.disk;
+      moment = n.moment;
       seats = n.seats;
       centres = n.centres.items;
       links = n.links;
@@ -69,7 +76,8 @@ impl Model for Network {
 
 impl Network {
     /// A network of one to four centres, on which nothing has happened, with these limits for each of
-    /// its nodes. It reserves all room; the only error is that memory ran out.
+    /// its nodes. It reserves the room that every event needs, except for [`Event::Keys`], [`Event::Crash`],
+    /// [`Event::Bill`] and [`Event::Lines`]. The only error is that memory ran out.
     pub fn open(alloc: Global, centres: u8, limits: Limits) -> Result<Network, AllocError>
         requires some { 1 ≤ centres }
         requires few { centres ≤ MAX_CENTRES }
@@ -79,6 +87,7 @@ impl Network {
     {
         Ok(Network {
             update: UpdateNode::open(alloc, limits)?,
+            moment: Moment::of(0),
             seats: [EditorSeat::new(); EDITORS as usize],
             centres: open_centres(alloc, centres, limits)?,
             links: Links::open(alloc, centres)?,
@@ -87,8 +96,9 @@ impl Network {
     }
 
     /// Lets an event happen, and returns what came of it. The event's centre is one of the network's, and
-    /// its port is below [`EDITORS`], or below [`PORTS`](crate::PORTS) at a centre. The only error is that memory ran out: after it, every later step
-    /// returns it too. No events but [`Event::Keys`] and [`Event::Crash`] take memory.
+    /// its port is below [`EDITORS`], or below [`PORTS`](crate::PORTS) at a centre. The only error is that memory
+    /// ran out: after it, every later step returns it too. No events but [`Event::Keys`], [`Event::Crash`],
+    /// [`Event::Bill`] and [`Event::Lines`] take memory.
     pub fn step(&mut self, event: &Event) -> Result<Outcome, AllocError>
         requires { IsPossible self.old event.now }
 
@@ -96,10 +106,11 @@ impl Network {
         ensures performs { IfOk result (TakesPlace event.now self.old self.new) }
         ensures centres { length self.new.centres ≡ length self.old.centres }
 
-        // A network that is not out of memory succeeds, unless the event takes memory. One that is out of memory
-        // stays so.
-        ensures succeeds { takes_memory event.now ≡ false → self.old.is_out ≡ false
-            → IsOk result × (self.new.is_out ≡ false) }
+        // A network that is not out of memory succeeds, unless the event takes memory.
+        ensures succeeds { takes_memory event.now ≡ false → self.old.is_out ≡ false → IsOk result }
+
+        // It runs out of memory exactly when it fails, and stays so.
+        ensures stays_in { IsOk result → self.new.is_out ≡ false }
         ensures out { IsTrue self.old.is_out → IsErr result }
         ensures stays_out { IsErr result → IsTrue self.new.is_out }
     {
@@ -127,14 +138,18 @@ impl Network {
             Event::Show { centre, port } => self.show(*centre as usize, *port as usize),
             Event::Keys { centre, port, keys } => self.keys(*centre, *port as usize, keys.bytes())?,
             Event::Hang { centre, port } => self.hang(*centre as usize, *port as usize),
-            Event::Send { centre } => self.send(*centre as usize),
-            Event::Deliver { centre, index } => self.deliver(*centre as usize, *index),
-            Event::Back { centre, index } => self.back(*centre as usize, *index),
-            Event::Carry { centre } => self.carry(*centre as usize),
+            Event::Send { centre } => self.send(Way::Down, *centre),
+            Event::Post { centre } => self.send(Way::Up, *centre),
+            Event::Deliver { centre, index } => self.arrive(Way::Down, *centre, *index),
+            Event::Back { centre, index } => self.arrive(Way::Up, *centre, *index),
+            Event::Carry { centre } => self.carry(*centre),
             Event::Crash { node } => self.crash(*node)?,
+            Event::Clock { moment } => self.clock(*moment),
             Event::View { centre, name } => self.view(*centre as usize, *name),
             Event::At { centre } => self.at(*centre as usize),
             Event::List => self.list(),
+            Event::Bill { account } => self.bill(*account)?,
+            Event::Lines { centre } => self.lines(*centre)?,
         })
     }
 
@@ -203,121 +218,14 @@ impl Network {
         Outcome::Reply(closing_text())
     }
 
-    /// Packs the next record for a centre.
-    fn send(&mut self, centre: usize) -> Outcome
-        requires { centre < length self.old.centres }
-        ensures performs { Performs self.old self.new result (λ w. step_of_send w centre) }
+    /// The clock shows a moment.
+    fn clock(&mut self, moment: u32) -> Outcome
+        requires { moment ≤ LAST_MOMENT }
+        ensures performs { Performs self.old self.new result (λ w. step_of_clock w moment) }
         ensures centres { length self.new.centres ≡ length self.old.centres }
     {
-        if self.links.is_full() {
-            return Outcome::PacketsFull;
-        }
-        let front = self.update.count();
-        let Some(number) = self.links.next_number(centre, front) else {
-            return Outcome::Idle;
-        };
-        let Some(edit) = self.update.state().rec_at(number) else {
-            return Outcome::Idle;
-        };
-        let index = self.links.pack(centre, front, number, down(edit));
-        Outcome::SentRecord { index, number }
-    }
-
-    /// A packet arrives at a centre.
-    fn deliver(&mut self, centre: usize, index: u64) -> Outcome
-        requires { centre < length self.old.centres }
-        ensures performs { Performs self.old self.new result (λ w. step_of_deliver w centre index) }
-        ensures centres { length self.new.centres ≡ length self.old.centres }
-    {
-        a_centre_shows_what_the_list_shows();
-        let Some(delivery) = self.links.delivery(centre, index) else {
-            return Outcome::NoPacket;
-        };
-        let number = delivery.number;
-        match self.centres[centre].apply(number, &delivery.rec) {
-            Ok(reply) => {
-                let ack = self.acknowledge(centre);
-                Outcome::arrived(&reply, number, ack)
-            }
-            Err(count) => Outcome::Full { count },
-        }
-    }
-
-    /// An acknowledgement arrives at the Update Centre.
-    fn back(&mut self, centre: usize, index: u64) -> Outcome
-        requires { centre < length self.old.centres }
-        ensures performs { Performs self.old self.new result (λ w. step_of_back w centre index) }
-        ensures centres { length self.new.centres ≡ length self.old.centres }
-    {
-        let Some(number) = self.links.heard(centre, index) else {
-            return Outcome::NoPacket;
-        };
-        self.links.hear(centre, self.update.count(), number);
-        Outcome::Heard { number }
-    }
-
-    /// Record after record is sent to a centre and delivered there, and its acknowledgement taken back, until
-    /// nothing is left to send or the carry cannot go on.
-    fn carry(&mut self, centre: usize) -> Outcome
-        requires { centre < length self.old.centres }
-        ensures performs { Performs self.old self.new result (λ w. step_of_carry w centre) }
-        ensures centres { length self.new.centres ≡ length self.old.centres }
-    {
-        let mut records = 0;
-        'rounds: loop {
-            match self.round(centre) {
-                Round::Idle => return Outcome::Carried { records, items: 0 },
-                Round::Taken => records += 1,
-                Round::Again => {}
-                Round::Stopped(outcome) => return outcome,
-            }
-        }
-    }
-
-    /// One round of a carry: a record is sent and delivered, and its acknowledgement taken back.
-    fn round(&mut self, centre: usize) -> Round
-        requires { centre < length self.old.centres }
-        ensures performs { Performs self.old self.new result (λ w. step_of_round w centre) }
-        ensures centres { length self.new.centres ≡ length self.old.centres }
-
-        // Before another round comes a packet was made.
-        ensures room { GoesOn result → packet_room self.new.links < packet_room self.old.links }
-    {
-        if self
-            .links
-            .next_number(centre, self.update.count())
-            .is_none()
-        {
-            return Round::Idle;
-        }
-        let sent = self.send(centre);
-        match sent.packet() {
-            Some(index) => self.bring(centre, index),
-            None => Round::Stopped(sent),
-        }
-    }
-
-    /// The rest of a round: a packet is delivered, and its acknowledgement taken back.
-    fn bring(&mut self, centre: usize, index: u64) -> Round
-        requires { centre < length self.old.centres }
-        ensures performs { Performs self.old self.new result (λ w. round_of_packet w centre index) }
-        ensures centres { length self.new.centres ≡ length self.old.centres }
-    {
-        let arrived = self.deliver(centre, index);
-        self.take_back(centre, arrived.ack());
-        Round::of(arrived)
-    }
-
-    /// An acknowledgement is taken back, if one was made.
-    fn take_back(&mut self, centre: usize, ack: Option<u64>)
-        requires { centre < length self.old.centres }
-        ensures stands { (w : World) → StandsFor self.old w
-            → StandsFor self.new (with_ack_back w centre ack) }
-        ensures centres { length self.new.centres ≡ length self.old.centres }
-    {
-        if let Some(index) = ack {
-            let _ = self.back(centre, index);
-        }
+        self.moment = Moment::of(moment);
+        Outcome::Clock { moment }
     }
 
     /// A frame as a centre holds it.
@@ -352,17 +260,20 @@ impl Network {
         Outcome::Records { count }
     }
 
-    /// A centre acknowledges what it has applied, unless no packet can be made, and the acknowledgement's
-    /// index is returned.
-    fn acknowledge(&mut self, centre: usize) -> Option<u64>
-        requires { centre < length self.old.centres }
-        ensures performs { Performs self.old self.new result (λ w. step_of_acknowledging w centre) }
-        ensures centres { length self.new.centres ≡ length self.old.centres }
+    /// The bill of an account. The only error is that memory ran out for its lines.
+    fn bill(&self, account: AccountNo) -> Result<Outcome, AllocError>
+        ensures { IfOk result
+            (λ outcome. Performs self.now self.now outcome (λ w. step_of_bill w account)) }
     {
-        if self.links.is_full() {
-            return None;
-        }
-        let count = self.centres[centre].applied();
-        Some(self.links.acknowledge(centre, count))
+        bill(*self.centres.allocator(), self.update.state(), account)
+    }
+
+    /// The charge lines that a centre has stored. The only error is that memory ran out for them.
+    fn lines(&self, centre: u8) -> Result<Outcome, AllocError>
+        requires { centre < length self.now.centres }
+        ensures { IfOk result
+            (λ outcome. Performs self.now self.now outcome (λ w. step_of_lines w centre)) }
+    {
+        self.centres[centre as usize].lines(*self.centres.allocator(), centre)
     }
 }

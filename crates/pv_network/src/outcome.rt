@@ -1,11 +1,13 @@
 ghost use Rattle.std.specs.Prelude.{◌≡◌};
 ghost use Rattle.pv_network.specs.Calls.{away_answer};
 ghost use Rattle.pv_network.specs.Keying.{is_owes, is_storing, is_over};
-ghost use Rattle.pv_network.specs.Traffic.{packet_in, ack_in, arrived_answer};
+ghost use Rattle.pv_network.specs.Traffic.{packet_in, ack_in, sent_answer};
 
+use crate::lines::BillLines;
 use crate::turns::Turns;
+use crate::way::Way;
+use pv_charge::Line;
 use pv_editor::Text;
-use pv_irc::IrcReply;
 use pv_screen::Screen;
 use pv_session::{Step, Why};
 
@@ -16,7 +18,14 @@ pub struct Turn {
     pub ended: Option<Why>,
 }
 
-/// What came of an event. One owns a list, so that an outcome is not `Copy`.
+/// A charge line, and the centre of its call.
+#[derive(Clone, Copy, Debug, PartialEq, Eq)]
+pub struct BillLine {
+    pub centre: u8,
+    pub line: Line,
+}
+
+/// What came of an event. Two own a list, so that an outcome is not `Copy`.
 #[derive(Debug, Drop)]
 pub enum Outcome {
     /// The reply to an editor.
@@ -51,27 +60,33 @@ pub enum Outcome {
     NoPacket,
     /// The packet of this index was made, with the record of this number.
     SentRecord { index: u64, number: u64 },
-    /// The record of this number was taken. Its acknowledgement is the packet of the index `ack`, or
+    /// The packet of this index was made, with the item of this number.
+    SentItem { index: u64, number: u64 },
+    /// The record or item of this number was taken. Its acknowledgement is the packet of the index `ack`, or
     /// `None` if no packet could be made; the same holds below.
     Taken { number: u64, ack: Option<u64> },
-    /// The record of this number had been taken before.
+    /// The record or item of this number had been taken before.
     Old { number: u64, ack: Option<u64> },
-    /// A record before the one of this number has not been taken.
+    /// A record or item before the one of this number has not been taken.
     Early { number: u64, ack: Option<u64> },
-    /// The Update Centre heard that a centre has this many records.
+    /// The Update Centre heard that a centre has this many records, or a centre that this many of its items are taken.
     Heard { number: u64 },
-    /// The centre has this many records, which is its limit, and took none.
+    /// The node has this many records, which is its limit, and took none.
     Full { count: u64 },
     /// Nothing was left to send. The centre took this many records, and the Update Centre this many items.
     Carried { records: u64, items: u64 },
     /// The node was opened again, and has this many records.
     Crashed { count: u64 },
+    /// The clock shows this moment.
+    Clock { moment: u32 },
     /// The centre has no such frame.
     NotHeld,
     /// The centre has applied this many records.
     Applied { count: u64 },
     /// The edit list has this many records.
     Records { count: u64 },
+    /// These charge lines, and the sum of their prices in pence.
+    Bill { lines: BillLines, pence: u64 },
 }
 
 impl Outcome {
@@ -110,15 +125,13 @@ impl Outcome {
         }
     }
 
-    /// The answer to a record that arrived under a number and was acknowledged, by the centre's reply to it.
-    pub(crate) fn arrived(reply: &IrcReply, number: u64, ack: Option<u64>) -> Outcome
-        ensures { result ≡ arrived_answer reply.now number ack }
+    /// The answer to a packet that was made with the record or item of a number.
+    pub(crate) fn sent(way: Way, index: u64, number: u64) -> Outcome
+        ensures { result ≡ sent_answer way index number }
     {
-        match reply {
-            IrcReply::Applied => Outcome::Taken { number, ack },
-            IrcReply::Old(_) => Outcome::Old { number, ack },
-            // There is room for each record of the list, so that no other reply comes.
-            _ => Outcome::Early { number, ack },
+        match way {
+            Way::Down => Outcome::SentRecord { index, number },
+            Way::Up => Outcome::SentItem { index, number },
         }
     }
 
@@ -128,6 +141,7 @@ impl Outcome {
     {
         match self {
             Outcome::SentRecord { index, .. } => Some(*index),
+            Outcome::SentItem { index, .. } => Some(*index),
             _ => None,
         }
     }

@@ -6,18 +6,16 @@ use crate::outcome::Outcome;
 /// What came of a round of a carry.
 #[derive(Debug, Drop)]
 pub enum Round {
-    /// Nothing was left to send.
-    Idle,
-    /// The centre took the record.
+    /// What was sent was taken.
     Taken,
-    /// The centre had it, or misses one before it.
+    /// The receiver had it, or misses one before it.
     Again,
     /// The carry cannot go on.
     Stopped(Outcome),
 }
 
 impl Round {
-    /// The round whose delivery had this outcome.
+    /// The round whose packet arrived with this outcome.
     pub(crate) fn of(arrived: Outcome) -> Round
         ensures { result ≡ round_by arrived }
     {

@@ -1,14 +1,20 @@
-ghost use Rattle.std.specs.Prelude.{◌≡◌};
+ghost use Rattle.std.specs.Prelude.{◌≡◌, length};
+ghost use Rattle.pv_edits.specs.Edits.{taken_of};
+ghost use Rattle.pv_edits.specs.Taken.{IsCentre};
 ghost use Rattle.pv_udc.specs.Requests.{IsRequest};
-ghost use Rattle.pv_udc.specs.declared.request.UdcRequest.TheVariants.{Edit};
+ghost use Rattle.pv_udc.specs.Requests.{record_of};
+ghost use Rattle.pv_udc.specs.declared.request.UdcRequest.TheVariants.{Edit, TakeUp};
 ghost use Rattle.pv_nodes.specs.OnDisk.{UpdateIsOnDisk, list_with};
-ghost use Rattle.pv_network.specs.Verdict.{editor_reply, verdict_of, reply_found};
+ghost use Rattle.pv_network.specs.Centre.{arrival_of};
+ghost use Rattle.pv_network.specs.Verdict.{editor_reply, verdict_of, item_arrival, stored_on, reply_found};
 ghost use Rattle.pv_editor.specs.Replies.{responses_reply};
 
+use crate::arrival::Arrival;
 use pv_editor::{Text, UdcReplyView, responses_text};
 use pv_edits::{EditWish, Record};
 use pv_nodes::UpdateNode;
 use pv_page::AccountNo;
+use pv_post::Item;
 use pv_udc::{UdcReply, UdcRequest, UdcState};
 
 /// The code of a request whose record would be one too many: it prints how many there are.
@@ -26,6 +32,41 @@ pub(crate) fn store(update: &mut UpdateNode, request: &UdcRequest) -> UdcReplyVi
     match update.ask(request) {
         Ok(told) => editor_reply(told.reply),
         Err(count) => UdcReplyView::Refused(FULL, count),
+    }
+}
+
+/// Takes an item of a centre up under its number: it is stored if it comes next, unless there are as many records as
+/// may be. Each image of the disk then spells the records of the list.
+pub(crate) fn take_up(update: &mut UpdateNode, centre: u8, number: u64, item: &Item) -> Arrival
+    requires { IsCentre centre }
+    ensures arrival { result ≡ arrival_of (taken_of update.old.state.records centre)
+        (length update.old.state.records) update.old.state.limits.records number }
+    ensures stored { update.new.state
+        ≡ list_with update.old.state (stored_on result (record_of (TakeUp centre number item.now))) }
+    ensures on_disk { UpdateIsOnDisk update.new }
+{
+    item.within();
+    let request = UdcRequest::TakeUp {
+        centre,
+        k: number,
+        item: *item,
+    };
+    match update.ask(&request) {
+        Ok(told) => arrival_of(told.reply),
+        Err(_) => Arrival::Full,
+    }
+}
+
+/// What was done with an item, by the reply to it. An item is never refused.
+fn arrival_of(reply: UdcReply) -> Arrival
+    ensures { result ≡ item_arrival reply }
+{
+    match reply {
+        UdcReply::Stored(_) => Arrival::Taken,
+        UdcReply::Old(_) => Arrival::Old,
+        UdcReply::Early(_) => Arrival::Early,
+        UdcReply::Again(_) => Arrival::Old,
+        UdcReply::Refused(_) => Arrival::Early,
     }
 }
 

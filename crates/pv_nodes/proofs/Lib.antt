@@ -2,3 +2,4 @@ mod Asked
 pub mod Below
 mod Opened
 mod Spelled
+mod Stopped

@@ -1,5 +1,5 @@
 -- Each image that a crash of a node's disk may leave spells its records.
-use Rattle.std.proofs.Common.{◌≡◌, ℕ, List, map, None, refl, ap, sym, subst, ◌∙◌}
+use Rattle.std.proofs.Common.{◌≡◌, ℕ, List, map, refl, ap, sym, subst, ◌∙◌}
 use Rattle.std.specs.Prelude.{All}
 use Rattle.pv_memory.specs.Medium.{Medium}
 use Rattle.pv_node.specs.Parts.{Parts}

@@ -1,6 +1,5 @@
 -- What a contract sees of a centre's node, whatever its number.
 use Rattle.pv_irc.specs.History.{CentreState}
-use Rattle.pv_irc.specs.declared.record.CentreRecord.{CentreRecord}
 use Rattle.pv_memory.specs.Medium.{Medium}
 use Rattle.pv_node.specs.Parts.{Parts}
 use Rattle.pv_nodes.specs.OnDisk.{OnDisk}

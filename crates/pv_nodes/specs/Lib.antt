@@ -1,5 +1,6 @@
 pub mod AnyNode
 pub mod Below
+pub mod Cutting
 pub mod Nodes
 pub mod OnDisk
 pub use Rattle.pv_node.specs.Asking

@@ -1,5 +1,5 @@
 -- What a node over a disk in memory is, what is answered at it, and what opens again.
-use Rattle.std.specs.Prelude.{◌≡◌, ℕ, ◌≤◌, nat_le, if◌then◌else◌, List, Option, Some, None, Result, Ok, Err}
+use Rattle.std.specs.Prelude.{◌≡◌, ℕ, nat_le, if◌then◌else◌, List, Option, Some, None, Result, Ok, Err}
 use Rattle.pv_outside.specs.Disk.{IsEndless}
 use Rattle.pv_outside.specs.declared.limits.Limits.{Limits}
 use Rattle.pv_memory.specs.Medium.{Medium, budget_of}

@@ -1,5 +1,5 @@
 -- What a contract sees of the nodes of a network, and that what they know is on their disks.
-use Rattle.std.specs.Prelude.{◌≡◌, ℕ, List, length, map, All, Option, Some, None}
+use Rattle.std.specs.Prelude.{◌≡◌, ℕ, List, map, All, Option, Some, None}
 use Rattle.pv_memory.specs.Medium.{Medium, moment_of, IsImage}
 use Rattle.pv_journal.specs.Text.{Spells}
 use Rattle.pv_edits.specs.Record.{IsRecord, record_bytes}

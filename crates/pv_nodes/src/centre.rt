@@ -2,11 +2,13 @@ ghost use Rattle.std.specs.Prelude.{◌≡◌, ◌<◌, ◌≤◌, [], IfOk, OnO
 ghost use Rattle.pv_memory.specs.Medium.{image_of};
 ghost use Rattle.pv_irc.specs.Deciding.{IsCentreRequest, centre_judgement};
 ghost use Rattle.pv_irc.specs.History.{centre_state_of, state_count};
+ghost use Rattle.pv_nodes.specs.Cutting.{MayBecome, kept_record};
 ghost use Rattle.pv_nodes.specs.Nodes.{told_of, stored_of};
 ghost use Rattle.pv_nodes.specs.OnDisk.{CentreIsOnDisk, centre_with};
 ghost use Rattle.pv_nodes.specs.AnyNode.{on_disk};
 ghost use Rattle.pv_nodes.specs.declared.centre.TheConstants.{CENTRES};
 
+use crate::cut::Cut;
 use crate::mem::MemNode;
 use pv_irc::{IrcReply, IrcRequest, IrcRules, IrcState};
 use pv_node::Told;
@@ -110,6 +112,29 @@ impl CentreNode {
     {
         on_node!(&mut self.node, node => crash_node(node, alloc, image))
     }
+
+    /// Stops the node within the ask of a request: its disk passes this many more calls and then none, nothing is replied,
+    /// and the node is opened again from the image of this number that a crash then leaves. Returns what became of the
+    /// record that was to be stored. This takes memory: without it the node stays as it is, and nothing was asked.
+    pub fn cut(
+        &mut self,
+        alloc: Global,
+        request: &IrcRequest,
+        calls: u8,
+        image: u8,
+    ) -> Result<Cut, AllocError>
+        requires { IsCentreRequest request.now }
+        ensures may { IfOk result (MayBecome calls
+            (stored_of self.old.state.limits.records (state_count self.old.state)
+            (centre_judgement self.old.state request.now))) }
+        ensures state { IfOk result (λ cut. self.new.state ≡ centre_with self.old.state (kept_record
+            (stored_of self.old.state.limits.records (state_count self.old.state)
+            (centre_judgement self.old.state request.now)) cut)) }
+        ensures err { OnErr result (self.new ≡ self.old) }
+        ensures on_disk { CentreIsOnDisk self.new }
+    {
+        on_node!(&mut self.node, node => cut_node(node, alloc, request, calls, image))
+    }
 }
 
 /// The node of no records, of the rules of a number.
@@ -134,6 +159,27 @@ fn ask_node<const C: u8>(
     ensures on_disk { CentreIsOnDisk (on_disk node.new) }
 {
     node.ask(request)
+}
+
+/// Stops a node of the rules of a number within an ask, and opens it again.
+fn cut_node<const C: u8>(
+    node: &mut MemNode<IrcRules<C>>,
+    alloc: Global,
+    request: &IrcRequest,
+    calls: u8,
+    image: u8,
+) -> Result<Cut, AllocError>
+    requires { IsCentreRequest request.now }
+    ensures may { IfOk result (MayBecome calls
+        (stored_of node.old.state.limits.records (state_count node.old.state)
+        (centre_judgement node.old.state request.now))) }
+    ensures state { IfOk result (λ cut. node.new.state ≡ centre_with node.old.state (kept_record
+        (stored_of node.old.state.limits.records (state_count node.old.state)
+        (centre_judgement node.old.state request.now)) cut)) }
+    ensures err { OnErr result (node.new ≡ node.old) }
+    ensures on_disk { CentreIsOnDisk (on_disk node.new) }
+{
+    node.cut(alloc, request, calls, image)
 }
 
 /// Loses a node of the rules of a number, and opens it again.

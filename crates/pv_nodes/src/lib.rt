@@ -17,15 +17,20 @@
 //! node.state().front();                                        // the same as before
 //! ```
 //!
+//! [`MemNode::cut`] stops a node within an ask, after some calls of its disk: the record that was being stored is
+//! then on the disk or not.
+//!
 //! `specs/Nodes.antt` says what a node is, and what is asked of it.
 #![tactic(auto)]
 
 mod centre;
+mod cut;
 mod law;
 mod mem;
 mod update;
 
 pub use centre::{CENTRES, CentreNode};
+pub use cut::{APPEND_CALLS, Cut, GATE_CALLS};
 pub use law::a_centre_shows_what_the_list_shows;
 pub use mem::MemNode;
 pub use update::UpdateNode;

@@ -1,14 +1,18 @@
-ghost use Rattle.std.specs.Prelude.{◌≡◌, ℕ, ◌≤◌, List, [], length, IfOk, IfErr, OnOk, OnErr};
-ghost use Rattle.pv_memory.specs.Medium.{image_of};
+ghost use Rattle.std.specs.Prelude.{◌≡◌, ℕ, ◌≤◌, List, [], length, is_some, IfOk, IfErr, OnOk, OnErr};
+ghost use Rattle.pv_outside.specs.Disk.{IsEndless};
+ghost use Rattle.pv_journal.specs.Log.{longest};
+ghost use Rattle.pv_memory.specs.Medium.{budget_of, image_of};
 ghost use Rattle.pv_memory.specs.contracts.disk.MemDiskReports.TheImpl as memory;
 ghost use Rattle.pv_node.specs.Asking.{records_with};
 ghost use Rattle.pv_node.specs.Standing.{DiskStands, StandsFor};
 ghost use Rattle.pv_node.specs.declared.fault.NodeFault.TheVariants as faults;
+ghost use Rattle.pv_nodes.specs.Cutting.{IsLeft, IsCut};
 ghost use Rattle.pv_nodes.specs.Nodes.{IsMemNode, IsReady, told_of, stored_of, state_with, OpensAgain};
 
+use crate::cut::Cut;
 use pv_journal::{format, longest};
 use pv_memory::MemDisk;
-use pv_node::{AskFault, Node, NodeFault, Rules, Told};
+use pv_node::{AskFault, Decision, Node, NodeFault, Rules, Told};
 use pv_outside::Limits;
 use std::alloc::{AllocError, Global};
 use std::marker::Model;
@@ -115,7 +119,76 @@ impl<R: Rules> MemNode<R> {
         *self = MemNode::on_disk(alloc, disk, self.limits)?;
         Ok(())
     }
+
+    /// Stops the node within the ask of a request: its disk passes this many more calls and then none, nothing is replied,
+    /// and the node is opened again from the image of this number that a crash then leaves. Returns what became of the
+    /// record that was to be stored. This takes memory: without it the node stays as it is, and nothing was asked.
+    pub fn cut(
+        &mut self,
+        alloc: Global,
+        request: &R::Request,
+        calls: u8,
+        image: u8,
+    ) -> Result<Cut, AllocError>
+        requires { R.is_request request.now }
+        ensures was { IsMemNode ⟦<R as Rules>⟧ self.old }
+        ensures ok { IfOk result (λ cut. IsCut ⟦<R as Rules>⟧ calls
+            (stored_of (R.limits_of self.old.state).records (R.count_of self.old.state)
+            (R.judgement self.old.state request.now)) cut self.old self.new) }
+        ensures err { OnErr result (self.new ≡ self.old) }
+        ensures is { IsMemNode ⟦<R as Rules>⟧ self.new }
+    {
+        let stores = self.stores(request);
+        let disk = self.stopped_disk(alloc, request, calls, image)?;
+        let opened = MemNode::on_disk(alloc, disk, self.limits)?;
+        let cut = Cut::by(stores, self.count(), opened.count());
+        *self = opened;
+        Ok(cut)
+    }
+
+    /// Whether a request would have a record stored.
+    fn stores(&self, request: &R::Request) -> bool
+        requires { R.is_request request.now }
+        ensures { result ≡ is_some (stored_of (R.limits_of self.now.state).records (R.count_of self.now.state)
+            (R.judgement self.now.state request.now)) }
+    {
+        match R::decide(self.node.state(), request) {
+            Decision::Store(_, _) => self.node.count() < self.limits.records as u64,
+            Decision::Answer(_) => false,
+        }
+    }
+
+    /// The image of this number that a crash leaves of a copy of the disk, once this many calls of it passed in the ask of a
+    /// request.
+    fn stopped_disk(
+        &self,
+        alloc: Global,
+        request: &R::Request,
+        calls: u8,
+        image: u8,
+    ) -> Result<MemDisk, AllocError>
+        requires { R.is_request request.now }
+        ensures left { IfOk result (λ disk. (records : List R.Rec)
+            → StandsFor ⟦<R as Rules>⟧ memory.ghosts self.now records
+            → IsLeft ⟦<R as Rules>⟧ calls
+            (stored_of (R.limits_of self.now.state).records (R.count_of self.now.state)
+            (R.judgement self.now.state request.now)) (R.limits_of self.now.state) disk records) }
+        ensures endless { IfOk result
+            (λ disk. IsEndless (longest (R.limits_of self.now.state).records) (budget_of disk)) }
+    {
+        let disk = self.node.disk().image(alloc, AS_IT_READS)?;
+        let Ok(mut node) = open_node::<R>(alloc, disk, self.limits) else {
+            return Err(AllocError);
+        };
+        node.fuse(calls as u32);
+        // Nothing of the answer leaves the node.
+        let _ = node.ask(request);
+        node.disk().image(alloc, image)
+    }
 }
+
+/// The number of the image of a disk that is what the disk reads as.
+const AS_IT_READS: u8 = 1;
 
 /// Opens the node of the records of a disk. The only error is that memory ran out.
 fn open_node<R: Rules>(

@@ -3,9 +3,11 @@ ghost use Rattle.pv_memory.specs.Medium.{image_of};
 ghost use Rattle.pv_udc.specs.EditList.{empty_list};
 ghost use Rattle.pv_udc.specs.Judgement.{judge};
 ghost use Rattle.pv_udc.specs.Requests.{IsRequest};
+ghost use Rattle.pv_nodes.specs.Cutting.{MayBecome, kept_record};
 ghost use Rattle.pv_nodes.specs.Nodes.{told_of, stored_of};
 ghost use Rattle.pv_nodes.specs.OnDisk.{UpdateIsOnDisk, list_with};
 
+use crate::cut::Cut;
 use crate::mem::MemNode;
 use pv_node::Told;
 use pv_outside::Limits;
@@ -77,5 +79,28 @@ impl UpdateNode {
         ensures on_disk { UpdateIsOnDisk self.new }
     {
         self.node.crash(alloc, image)
+    }
+
+    /// Stops the node within the ask of a request: its disk passes this many more calls and then none, nothing is replied,
+    /// and the node is opened again from the image of this number that a crash then leaves. Returns what became of the
+    /// record that was to be stored. This takes memory: without it the node stays as it is, and nothing was asked.
+    pub fn cut(
+        &mut self,
+        alloc: Global,
+        request: &UdcRequest,
+        calls: u8,
+        image: u8,
+    ) -> Result<Cut, AllocError>
+        requires { IsRequest request.now }
+        ensures may { IfOk result (MayBecome calls
+            (stored_of self.old.state.limits.records (length self.old.state.records)
+            (judge self.old.state.limits self.old.state.records request.now))) }
+        ensures state { IfOk result (λ cut. self.new.state ≡ list_with self.old.state (kept_record
+            (stored_of self.old.state.limits.records (length self.old.state.records)
+            (judge self.old.state.limits self.old.state.records request.now)) cut)) }
+        ensures err { OnErr result (self.new ≡ self.old) }
+        ensures on_disk { UpdateIsOnDisk self.new }
+    {
+        self.node.cut(alloc, request, calls, image)
     }
 }

@@ -1,5 +1,5 @@
 -- Boxes by their owners: where an owner's box is, and what another box in its place leaves.
-use Rattle.std.proofs.Common.{◌≡◌, ◌≢◌, ◌⊎◌, inl, inr, ℕ, zero, suc, ◌+◌, ◌<◌, ◌≤◌, Bool, true, false, cond, eqb, nat_lt, not, ◌||◌, List, [], ◌∷◌, ◌++◌, length, get_or, set, true≢false, refl, sym, ap, subst, ◌∙◌, arith}
+use Rattle.std.proofs.Common.{◌≡◌, ◌≢◌, ◌⊎◌, inl, inr, ℕ, zero, suc, ◌+◌, ◌<◌, ◌≤◌, Bool, true, false, cond, eqb, nat_lt, not, ◌||◌, List, [], ◌∷◌, length, get_or, set, true≢false, refl, sym, ap, subst, ◌∙◌, arith}
 use Rattle.std.specs.List.{list_any, position_or_len}
 use Rattle.std.proofs.lemmas.Bool.{eqb-true, eqb-false, eq-eqb, ltb-true, ltb-false}
 use Rattle.std.proofs.lemmas.List.{length-append, get_or-set_same, get_or-set_other}
@@ -72,29 +72,6 @@ insert_key-owner owner (other ∷ owners) within = by (eqb owner other) refl (in
         → cond (not same) (1 + index_of owner owners) 0 < length (other ∷ owners) → insert_key eqb (other ∷ owners) owner ≡ other ∷ owners
     by true is rest within = rw is refl
     by false is rest within = insert_later owner other owners is ∙ ap (λ list. other ∷ list) (rest (omega (arith, within)))
-
--- who is inserted is an owner
-pub has-inserted : (owner : ℕ) (owners : List ℕ) → list_any (eqb owner) (insert_key eqb owners owner) ≡ true
-has-inserted owner [] = rw (eq-eqb owner owner refl) refl
-has-inserted owner (other ∷ owners) = by (eqb owner other) refl (has-inserted owner owners)
-  where
-    by : (same : Bool) → eqb owner other ≡ same → list_any (eqb owner) (insert_key eqb owners owner) ≡ true
-        → list_any (eqb owner) (insert_key eqb (other ∷ owners) owner) ≡ true
-    by true is rest = rw is (rw is refl)
-    by false is rest = rw (insert_later owner other owners is, is) rest
-
--- who was an owner still is
-pub has-kept : (owner another : ℕ) (owners : List ℕ) → list_any (eqb owner) owners ≡ true
-    → list_any (eqb owner) (insert_key eqb owners another) ≡ true
-has-kept owner another [] has = absurd (true≢false (sym has))
-has-kept owner another (other ∷ owners) has = by (eqb another other) (eqb owner other) refl refl (has-kept owner another owners) has
-  where
-    by : (same mine : Bool) → eqb another other ≡ same → eqb owner other ≡ mine
-        → (list_any (eqb owner) owners ≡ true → list_any (eqb owner) (insert_key eqb owners another) ≡ true)
-        → (mine || list_any (eqb owner) owners) ≡ true → list_any (eqb owner) (insert_key eqb (other ∷ owners) another) ≡ true
-    by true mine is here rest has = rw is (rw here has)
-    by false true is here rest has = rw (insert_later another other owners is, here) refl
-    by false false is here rest has = rw (insert_later another other owners is, here) (rest has)
 
 -- no owner is lost
 grown : (owner : ℕ) (owners : List ℕ) → length owners ≤ length (insert_key eqb owners owner)

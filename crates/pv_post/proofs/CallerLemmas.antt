@@ -1,4 +1,4 @@
--- What a proof in a crate above may cite: items are read as they are spelled.
+-- What a proof in a crate above may cite: items are read as they are spelled, and what waits after one place or removal more.
 use Rattle.std.proofs.Common.{◌≡◌, ℕ, zero, suc, List, ◌++◌, Some, refl, lit<, arith}
 use Rattle.std.specs.List.{list_all}
 use Rattle.std.proofs.lemmas.List.Elements.{All-from_recursion, recursion_from_All}
@@ -15,6 +15,7 @@ use Rattle.pv_post.specs.declared.fields.TheConstants.{MAX_FIELDS}
 use Rattle.pv_post.specs.declared.filled.TheConstants.{FILLED_BYTES}
 use Rattle.pv_post.specs.declared.mail.TheConstants.{TEXT_CELLS}
 use Rattle.pv_post.proofs.Filling.{IsBytes-filled, IsBytes-text}
+pub use Rattle.pv_post.proofs.Waiting.{left-earlier, waiting-arrivals, waiting-removed}
 
 -- a filled field
 Reads-filled : Reads IsFilled filled_bytes filled_at

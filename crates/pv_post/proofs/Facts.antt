@@ -1,9 +1,11 @@
 -- Worked examples, computed from the definitions: each constant at the last value that fits, and the next.
 use Rattle.std.proofs.Common.{◌≡◌, true, false, ◌∷◌, [], ◌++◌, replicate, refl}
-use Rattle.std.specs.Prelude.{codes, Some, None}
+use Rattle.std.specs.Prelude.{ℕ, length, codes, Option, Some, None}
 use Rattle.pv_fields.specs.Reading.{times}
 use Rattle.pv_post.specs.Item.{is_text_cell, is_field_byte, filled_at, fields_bytes, fields_at, Response, response_bytes, Message, message_bytes}
 use Rattle.pv_post.specs.Spelling.{item_bytes}
+use Rattle.pv_post.specs.Boxes.{WaitingLetter, has_letter}
+use Rattle.pv_post.specs.Waiting.{waiting_letters}
 use Rattle.pv_post.specs.declared.item.Item.TheVariants.{Reply, Mail}
 use Rattle.pv_post.specs.declared.fields.TheConstants.{MAX_FIELDS}
 use Rattle.pv_post.specs.declared.filled.TheConstants.{FILLED_BYTES}
@@ -92,3 +94,41 @@ pub spelling-of_a_letter : item_bytes (Mail some_mail)
     ≡ (3 ∷ 0 ∷ 0 ∷ 0 ∷ 0 ∷ 0 ∷ 0 ∷ 0 ∷ 12 ∷ 0 ∷ 0 ∷ 0 ∷ 0 ∷ 0 ∷ 0 ∷ 0 ∷ 13 ∷ 0 ∷ 0 ∷ 0 ∷ 1 ∷ []) ++ replicate 240 32
 unfolding item_bytes message_bytes
 spelling-of_a_letter = refl
+
+-- ---- letters that wait
+
+-- an empty letter under a number
+abbrev pub letter_under : ℕ → WaitingLetter
+letter_under number = record { number = number; sender = 12; moment = 1; text = [] }
+
+-- each place brings a letter
+abbrev pub each_place : ℕ → Option WaitingLetter
+each_place place = Some (letter_under place)
+
+-- the letters wait in the order of their places
+pub three-wait : waiting_letters each_place [] 13 3 ≡ letter_under 0 ∷ letter_under 1 ∷ letter_under 2 ∷ []
+three-wait = refl
+
+-- a removal takes its letter out, and no other's letter
+pub second-removed : waiting_letters each_place (record { account = 13; number = 1; place = 3 } ∷ []) 13 3 ≡ letter_under 0 ∷ letter_under 2 ∷ []
+second-removed = refl
+
+pub anothers-removal : waiting_letters each_place (record { account = 12; number = 1; place = 3 } ∷ []) 13 3 ≡ waiting_letters each_place [] 13 3
+anothers-removal = refl
+
+-- a removal before the letter came takes nothing
+pub removed-too_early : waiting_letters each_place (record { account = 13; number = 1; place = 1 } ∷ []) 13 3 ≡ waiting_letters each_place [] 13 3
+removed-too_early = refl
+
+-- the twentieth letter waits, and the next one is dropped for good, also if one is removed after it
+pub twenty-wait : length (waiting_letters each_place [] 13 20) ≡ 20
+twenty-wait = refl
+
+pub next-is_dropped : waiting_letters each_place [] 13 21 ≡ waiting_letters each_place [] 13 20
+next-is_dropped = refl
+
+pub dropped-for_good : has_letter (waiting_letters each_place (record { account = 13; number = 0; place = 21 } ∷ []) 13 22) 20 ≡ false
+dropped-for_good = refl
+
+pub room-again : has_letter (waiting_letters each_place (record { account = 13; number = 0; place = 21 } ∷ []) 13 22) 21 ≡ true
+room-again = refl

@@ -2,3 +2,4 @@ mod Boxes
 pub mod CallerLemmas
 mod Facts
 mod Filling
+mod Waiting

@@ -55,3 +55,7 @@ letters_of mail account = slice_index_or mail.boxes (position_or_len (λ owner. 
 -- the account has a box
 abbrev pub has_box : Boxes → ℕ → Bool
 has_box mail account = list_any (λ owner. account == owner) mail.owners
+
+-- the owners after one more is to have a box: they stay if he has one
+abbrev pub with_owner : List ℕ → ℕ → List ℕ
+with_owner owners to = if list_any (λ owner. to == owner) owners then owners else owners ++ to ∷ []

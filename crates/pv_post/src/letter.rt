@@ -1,6 +1,7 @@
 ghost use Rattle.std.specs.Prelude.{◌≡◌, not, ◌==◌};
 ghost use Rattle.std.specs.Prelude.{slice_get, option_copied, [], IfOk};
 ghost use Rattle.pv_post.specs.Boxes.{with_letter, has_letter, without_letter};
+ghost use Rattle.pv_post.specs.Waiting.{letter_of};
 
 use crate::mail::{Mail, TEXT_CELLS};
 use pv_page::AccountNo;
@@ -44,12 +45,7 @@ impl Model for Letter {
 impl Letter {
     /// A mail under this number.
     pub fn of_mail(number: u64, mail: &Mail) -> Letter
-        ensures { result ≡ record {
-          number = number;
-          sender = mail.now.sender;
-          moment = mail.now.moment;
-          text = mail.now.text;
-        } }
+        ensures { result ≡ letter_of number mail.now }
     {
         Letter {
             number,
@@ -90,6 +86,15 @@ impl Mailbox {
         })
     }
 
+    /// A copy of the box, with as much room.
+    pub(crate) fn copy(&self, alloc: Global) -> Result<Mailbox, AllocError>
+        ensures { IfOk result (λ copy. copy ≡ self.now) }
+    {
+        let mut letters = Vec::with_capacity(alloc, MAX_WAITING)?;
+        letters.extend_from_slice(&self.letters)?;
+        Ok(Mailbox { letters })
+    }
+
     /// Puts a letter after the others. It is dropped if [`MAX_WAITING`] wait.
     pub(crate) fn arrive(&mut self, letter: &Letter)
         ensures { self.new ≡ with_letter self.old letter.now }
@@ -106,12 +111,19 @@ impl Mailbox {
         self.letters.first()
     }
 
+    /// Whether the letter of a number waits.
+    pub(crate) fn has(&self, number: u64) -> bool
+        ensures { result ≡ has_letter self.now number }
+    {
+        self.letters.iter().any(|letter| letter.number == number)
+    }
+
     /// Takes the letter of a number out. `false` exactly when none of that number waits.
     pub(crate) fn remove(&mut self, number: u64) -> bool
         ensures found { result ≡ has_letter self.old number }
         ensures rest { self.new ≡ without_letter self.old number }
     {
-        let found = self.letters.iter().any(|letter| letter.number == number);
+        let found = self.has(number);
         self.letters.retain(
             |letter: &Letter| -> bool
                 ensures { result ≡ not (letter.now.number == number) }

@@ -6,9 +6,9 @@
 //!   [`pv_charge::Line`].
 //! - [`Item`] is one of these three. It has one spelling in bytes.
 //! - [`Mailboxes`] keeps the letters that wait for each account, at most [`MAX_WAITING`], oldest first. A
-//!   [`Letter`] is a mail under the place of its record in the edit list.
+//!   [`Letter`] is a mail under the place of its record in the edit list. A [`Removal`] takes one out.
 //!
-//! Only [`Mailboxes::open`] allocates. A caller fills a field and sends it:
+//! Only [`Mailboxes::open`] and [`Mailboxes::copy`] allocate. A caller fills a field and sends it:
 //!
 //! ```text
 //! let filled = Filled::of_text(b"TWO TICKETS").ok_or(Unkeyable)?;
@@ -19,7 +19,8 @@
 //!
 //! Contracts see a filled field as the list of its bytes, and the fields as a list of these. They see a
 //! reply as a `Response` and a mail as a `Message` (`specs/Item.antt`). They see the mailboxes as the list
-//! of letters of each account (`letters_of` of `specs/Boxes.antt`).
+//! of letters of each account (`letters_of` of `specs/Boxes.antt`). Which letters wait after the records of
+//! an edit list and some removals is defined in `specs/Waiting.antt`.
 #![tactic(auto)]
 
 mod fields;
@@ -29,6 +30,7 @@ mod law;
 mod letter;
 mod mail;
 mod mailboxes;
+mod removal;
 mod reply;
 
 pub use fields::{Fields, MAX_FIELDS};
@@ -38,6 +40,7 @@ pub use law::no_item_begins_another;
 pub use letter::{Letter, MAX_WAITING};
 pub use mail::{FIRST_CELL, LAST_CELL, Mail, TEXT_CELLS};
 pub use mailboxes::Mailboxes;
+pub use removal::Removal;
 pub use reply::Reply;
 
 #[cfg(test)]

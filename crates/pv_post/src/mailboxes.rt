@@ -1,7 +1,7 @@
 ghost use Rattle.std.specs.Prelude.{◌≡◌, ◌⊎◌, ◌==◌, ◌+◌, ◌<◌, ◌≤◌, nat_eq, ℕ, [], length, replicate, slice_get, option_copied, IfOk, IsTrue, if◌then◌else◌};
-ghost use Rattle.std.specs.List.{list_any, position_or_len};
-ghost use Rattle.indexmap.specs.IndexSet.{insert_key, index_set_len, spare};
-ghost use Rattle.pv_post.specs.Boxes.{Boxes, no_boxes, letters_of, has_box, with_letter, has_letter, without_letter};
+ghost use Rattle.std.specs.List.{IsDistinct, list_any, position_or_len};
+ghost use Rattle.indexmap.specs.IndexSet.{insert_key, index_set_len, spare, IsUnique};
+ghost use Rattle.pv_post.specs.Boxes.{Boxes, no_boxes, letters_of, has_box, with_owner, with_letter, has_letter, without_letter};
 
 use crate::letter::{Letter, Mailbox};
 use indexmap::IndexSet;
@@ -44,6 +44,18 @@ impl Mailboxes {
         })
     }
 
+    /// A copy of the mailboxes, with as much room.
+    pub fn copy(&self, alloc: Global) -> Result<Mailboxes, AllocError>
+        ensures { IfOk result (λ copy. copy ≡ self.now) }
+    {
+        let mut owners = self.owners.clone()?;
+        owners.reserve(self.boxes.len() - self.owners.len())?;
+        Ok(Mailboxes {
+            owners,
+            boxes: copy_boxes(alloc, &self.boxes)?,
+        })
+    }
+
     /// Puts a letter into an account's box, after the others. It is dropped if as many wait as may.
     pub fn arrive(&mut self, to: AccountNo, letter: &Letter)
         requires room { IsTrue (has_box self.old to) ⊎ (length self.old.owners < self.old.room) }
@@ -52,10 +64,9 @@ impl Mailboxes {
             else letters_of self.old account) }
         ensures room { self.new.room ≡ self.old.room }
 
-        // The account has a box then, and so has each that had one.
-        ensures boxed { IsTrue (has_box self.new to) }
-        ensures kept { (account : ℕ) → IsTrue (has_box self.old account)
-            → IsTrue (has_box self.new account) }
+        // The account has a box then, and so has each that had one. No account has two.
+        ensures owners { self.new.owners ≡ with_owner self.old.owners to }
+        ensures distinct { IsDistinct nat_eq self.new.owners }
     {
         let index = index_for(&mut self.owners, to);
         self.boxes[index].arrive(letter);
@@ -67,6 +78,16 @@ impl Mailboxes {
     {
         let index = self.owners.get_index_of(&account)?;
         self.boxes[index].oldest()
+    }
+
+    /// Whether the letter of a number waits for an account.
+    pub fn waits(&self, account: AccountNo, number: u64) -> bool
+        ensures { result ≡ has_letter (letters_of self.now account) number }
+    {
+        match self.owners.get_index_of(&account) {
+            Some(index) => self.boxes[index].has(number),
+            None => false,
+        }
     }
 
     /// Takes the letter of a number out of an account's box. `false` exactly when no such letter waits.
@@ -93,6 +114,9 @@ fn index_for(owners: &mut IndexSet<AccountNo>, to: AccountNo) -> usize
     ensures within { result < length owners.new.keys }
     ensures reserved { index_set_len owners.old + spare owners.old
         ≤ index_set_len owners.new + spare owners.new }
+
+    // No owner is there twice, if none was before.
+    ensures unique { IsUnique nat_eq owners.old → IsUnique nat_eq owners.new }
 {
     match owners.get_index_of(&to) {
         Some(index) => index,
@@ -109,4 +133,15 @@ fn open_boxes(alloc: Global, count: u32) -> Result<Vec<Mailbox>, AllocError>
         boxes.push(Mailbox::open(alloc)?)?;
     }
     Ok(boxes)
+}
+
+/// A copy of each box.
+fn copy_boxes(alloc: Global, boxes: &[Mailbox]) -> Result<Vec<Mailbox>, AllocError>
+    ensures { IfOk result (λ copies. copies.items ≡ boxes.now) }
+{
+    let mut copies = Vec::with_capacity(alloc, boxes.len())?;
+    for mailbox in boxes {
+        copies.push(mailbox.copy(alloc)?)?;
+    }
+    Ok(copies)
 }

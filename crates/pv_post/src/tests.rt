@@ -159,7 +159,11 @@ fn letters_wait_in_order_until_they_are_removed(rt: HostRuntime) -> Result<(), F
     mail.arrive(to, &letter(3).ok_or("a letter")?);
     mail.arrive(to, &letter(5).ok_or("a letter")?);
     assert_eq!(rt; mail.oldest(to).copied(), letter(3));
+    let copy = mail.copy(rt.alloc())?;
+    assert!(rt; mail.waits(to, 3));
     assert!(rt; mail.remove(to, 3));
+    assert!(rt; !mail.waits(to, 3));
     assert_eq!(rt; mail.oldest(to).copied(), letter(5));
+    assert_eq!(rt; copy.oldest(to).copied(), letter(3));
     Ok(())
 }

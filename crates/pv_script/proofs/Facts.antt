@@ -3,7 +3,7 @@ use Rattle.std.proofs.Common.{lit≤, ◌≡◌, [], ◌∷◌, ◌*◌, true, S
 use Rattle.std.specs.Fmt.{digits}
 use Rattle.pv_network.specs.declared.event.Event.TheVariants.{Send, Deliver}
 use Rattle.pv_network.specs.declared.event.TheConstants.{MAX_CENTRES}
-use Rattle.pv_network.specs.declared.outcome.Outcome.TheVariants.{Turns, SentRecord, Taken, Old, Carried, NotHeld, Applied, Records}
+use Rattle.pv_network.specs.declared.outcome.Outcome.TheVariants.{Turns, SentRecord, SentItem, Taken, Old, Carried, Clock, NotHeld, Applied, Records, Bill}
 use Rattle.pv_script.specs.declared.grammar.Command.TheVariants.{Nothing, Do}
 use Rattle.pv_script.specs.declared.grammar.TheConstants.{COMMENT}
 use Rattle.pv_script.specs.declared.word.CallWord.TheVariants as calling
@@ -46,12 +46,32 @@ mebibyte = refl
 pub lines : (answer_text (SentRecord 3 17) ≡ codes "sent 3 record 17\n")
     × (answer_text (Taken 17 (Some 4)) ≡ codes "taken 17 ack 4\n")
     × (answer_text (Old 17 None) ≡ codes "old 17 ack -\n")
+    × (answer_text (SentItem 3 17) ≡ codes "sent 3 item 17\n")
+    × (answer_text (Clock 315532800) ≡ codes "clock 315532800\n")
     × (answer_text NotHeld ≡ codes "-\n")
     × (answer_text (Carried 3 0) ≡ codes "carried 3 0\n")
     × (answer_text (Applied 2) ≡ codes "applied 2\n")
     × (answer_text (Records 3) ≡ codes "records 3\n")
 unfolding digits
-lines = (refl, refl, refl, refl, refl, refl, refl)
+lines = (refl, refl, refl, refl, refl, refl, refl, refl, refl)
+
+-- a bill: a line for each charge, and the sum
+pub bill : answer_text
+    (Bill
+    (record {
+      centre = 1;
+      line = record {
+        serial = 2;
+        number = 0;
+        account = 1000000001;
+        name = record { page = 20; letter = 97 };
+        price = 9;
+        moment = 315532800;
+      };
+    }
+    ∷ []) 9) ≡ codes "line 1 2 0 20a 9 315532800\nsum 9\n"
+unfolding digits
+bill = refl
 
 -- the line after a call's last screen says why it ended, and nothing is written of keys that showed nothing
 pub ends : (end_text (Some Finished) ≡ codes "ended finished\n") × (end_text None ≡ []) × (answer_text (Turns []) ≡ [])

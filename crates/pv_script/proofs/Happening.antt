@@ -3,7 +3,7 @@ use Rattle.std.proofs.Common.{◌≡◌, List, ℕ, length, sym, subst}
 use Rattle.pv_network.specs.declared.event.Event.{Event}
 use Rattle.pv_network.specs.declared.event.NodeName.{NodeName}
 use Rattle.pv_network.specs.declared.event.NodeName.TheVariants as nodes
-use Rattle.pv_network.specs.Standing.{State, StandsFor, IsPossible, IsNode, IsNotation}
+use Rattle.pv_network.specs.Standing.{State, StandsFor, IsPossible, IsThere, IsNotation}
 use Rattle.pv_network.specs.World.{World}
 use Rattle.pv_script.specs.declared.grammar.Command.TheVariants.{Do}
 use Rattle.pv_script.specs.declared.word.CallWord.{CallWord}
@@ -35,7 +35,7 @@ call_can_happen s calling.Hang tail event asks =
     subst (IsPossible s) (sym (event_is asks.is)) (asks.are.first.0, asks.are.second.first.0)
 
 -- a node that a text names is one that there is
-node_there : (s : State) (node : NodeName) (text : List ℕ) → IsNodeText (length s.centres) node text → IsNode s node
+node_there : (s : State) (node : NodeName) (text : List ℕ) → IsNodeText (length s.centres) node text → IsThere s node
 node_there s nodes.Udc text names = tt
 node_there s (nodes.Centre c) text names = names.0
 
@@ -47,14 +47,18 @@ can_happen s words.Seed tail event asks = subst (IsPossible s) (sym (event_is as
 can_happen s words.Edit tail event asks = subst (IsPossible s) (sym (event_is asks.is)) asks.are.first.0
 can_happen s (words.Call word) tail event asks = call_can_happen s word tail event asks
 can_happen s words.Send tail event asks = subst (IsPossible s) (sym (event_is asks.is)) asks.are.first.0
+can_happen s words.Post tail event asks = subst (IsPossible s) (sym (event_is asks.is)) asks.are.first.0
 can_happen s words.Deliver tail event asks = subst (IsPossible s) (sym (event_is asks.is)) asks.are.first.0
 can_happen s words.Back tail event asks = subst (IsPossible s) (sym (event_is asks.is)) asks.are.first.0
 can_happen s words.Carry tail event asks = subst (IsPossible s) (sym (event_is asks.is)) asks.are.first.0
 can_happen s words.Crash tail event asks =
     subst (IsPossible s) (sym (event_is asks.is)) (node_there s asks.parts asks.are.text asks.are.first)
+can_happen s words.Clock tail event asks = subst (IsPossible s) (sym (event_is asks.is)) asks.are.first.0
 can_happen s words.View tail event asks = subst (IsPossible s) (sym (event_is asks.is)) asks.are.first.0
 can_happen s words.At tail event asks = subst (IsPossible s) (sym (event_is asks.is)) asks.are.first.0
 can_happen s words.List tail event asks = subst (IsPossible s) (sym (event_is asks.1)) tt
+can_happen s words.Bill tail event asks = subst (IsPossible s) (sym (event_is asks.is)) tt
+can_happen s words.Lines tail event asks = subst (IsPossible s) (sym (event_is asks.is)) asks.are.first.0
 
 -- a network has as many centres as a world that it stands for
 pub count_stands : (s : State) (w : World) → StandsFor s w → length s.centres ≡ length w.centres

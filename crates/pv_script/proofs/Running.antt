@@ -14,21 +14,21 @@ use Rattle.pv_script.specs.declared.grammar.Command.{Command}
 use Rattle.pv_script.specs.Ends.{HasRun, IsLineEnd, IsRunEnd}
 use Rattle.pv_script.specs.Grammar.{ReadsLine, HasNoForm, IsCommandChoice}
 use Rattle.pv_script.specs.Play.{IsTranscript, IsPlayed, StopsAfterLine}
-use Rattle.pv_script.specs.Transcript.{AreRead, answer_to, answers, world_after, world_after_all}
+use Rattle.pv_script.specs.Transcript.{AreRead, answer_to, answers, world_after_command, world_after_all}
 use Rattle.pv_script.proofs.CallerLemmas.{Appends-none, Appends-more}
 
 -- ---- one command more
 
 -- the world after one command more
-world_after-push : (w : World) (runs : List (Command × Choice)) (run : Command × Choice) → world_after_all w (runs ++ run ∷ []) ≡ world_after (world_after_all w runs) run.0 run.1
-world_after-push w [] run = refl
-world_after-push w (first ∷ runs) run = world_after-push (world_after w first.0 first.1) runs run
+world_after_command-push : (w : World) (runs : List (Command × Choice)) (run : Command × Choice) → world_after_all w (runs ++ run ∷ []) ≡ world_after_command (world_after_all w runs) run.0 run.1
+world_after_command-push w [] run = refl
+world_after_command-push w (first ∷ runs) run = world_after_command-push (world_after_command w first.0 first.1) runs run
 
 -- what is written for one command more
 answers-push : (w : World) (runs : List (Command × Choice)) (run : Command × Choice) → answers w (runs ++ run ∷ []) ≡ answers w runs ++ answer_to (world_after_all w runs) run.0 run.1
 answers-push w [] run = append-nil (answer_to w run.0 run.1)
 answers-push w (first ∷ runs) run =
-    ap (λ (l : List ℕ). answer_to w first.0 first.1 ++ l) (answers-push (world_after w first.0 first.1) runs run)
+    ap (λ (l : List ℕ). answer_to w first.0 first.1 ++ l) (answers-push (world_after_command w first.0 first.1) runs run)
     ∙ sym (append_assoc (answer_to w first.0 first.1) _ _)
 
 -- one line more reads as one command more
@@ -41,7 +41,7 @@ read-push w centres number at [] [] line run is read reads choice =
 read-push w centres number at [] (c ∷ cs) line run is read reads choice = absurd read
 read-push w centres number at (l ∷ ls) [] line run is read reads choice = absurd read
 read-push w centres number at (l ∷ ls) (c ∷ cs) line run is read reads choice =
-    (read.0, read.1, read-push (world_after w c.0 c.1) centres (number + 1) at ls cs line run (omega (arith, is)) read.2 reads choice)
+    (read.0, read.1, read-push (world_after_command w c.0 c.1) centres (number + 1) at ls cs line run (omega (arith, is)) read.2 reads choice)
 
 -- ---- the run so far
 
@@ -77,6 +77,7 @@ module _ (centres : ℕ) (first : World) (text : List ℕ) (before : Option (Lis
         transcript = record { runs = t.runs; read = subst (λ (l : List (List ℕ)). AreRead first centres 1 l t.runs) all t.read; written = t.written };
         stands = p.stands;
         one_list = p.stands.sound.law;
+        owed = λ c serial. (p.stands.charged c).owed serial;
       }
 
   module _ (rest line later : List ℕ) (number : ℕ) (old : State) (mid now : Option (List ℕ)) (p : Progress rest number old mid) (is : lines_of rest ≡ line ∷ lines_of later) where
@@ -99,7 +100,7 @@ module _ (centres : ℕ) (first : World) (text : List ℕ) (before : Option (Lis
             read = read-push first centres 1 (number + 1) p.done runs line next (omega (arith, p.count)) p.transcript.read run.1 step.1;
             written = subst (λ (l : List ℕ). Appends before now l) (sym (answers-push first runs next)) (Appends-more before mid now (answers first runs) _ p.transcript.written step.3);
           };
-          stands = subst (λ (w : World). StandsFor new w) (sym (world_after-push first runs next)) step.2;
+          stands = subst (λ (w : World). StandsFor new w) (sym (world_after_command-push first runs next)) step.2;
         }
 
     -- the next line was not run

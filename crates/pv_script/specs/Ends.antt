@@ -15,7 +15,7 @@ use Rattle.pv_script.specs.declared.ends.RunEnd.{RunEnd}
 use Rattle.pv_script.specs.declared.ends.RunEnd.TheVariants.{BadLine, Unanswered}
 use Rattle.pv_script.specs.declared.grammar.Command.{Command}
 use Rattle.pv_script.specs.Grammar.{ReadsLine, HasNoForm, IsCommandChoice}
-use Rattle.pv_script.specs.Transcript.{answer_to, world_after}
+use Rattle.pv_script.specs.Transcript.{answer_to, world_after_command}
 use Rattle.pv_script.specs.Play.{longest_script, StopsAtBadLine, StopsInAnswers, StopsAfterLine}
 
 -- the status of a play whose script was not read to its end
@@ -39,7 +39,7 @@ IsReadEnd text faults_before faults_now reads.Memory = text ≡ []
 -- a command was run: for each world that the network stood for it stands for the next, and the answer was written
 abbrev pub GivesAnswer : Command → State → State → Option (List ℕ) → Option (List ℕ) → Type 0
 GivesAnswer command old new before now = (w : World) → StandsFor old w → (choice : Choice) × IsCommandChoice w command choice
-    × StandsFor new (world_after w command choice) × Appends before now (answer_to w command choice)
+    × StandsFor new (world_after_command w command choice) × Appends before now (answer_to w command choice)
 
 -- a command was begun: for each world that the network stood for a prefix of the answer was written
 abbrev pub HasBegun : Command → State → Option (List ℕ) → Option (List ℕ) → Type 0

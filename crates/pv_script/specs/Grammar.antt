@@ -3,6 +3,7 @@ use Rattle.std.specs.Prelude.{◌≡◌, ℕ, Bool, IsTrue, ◌⊎◌, List, [],
 use Rattle.pv_words.specs.Numbers.{IsNumber, IsBelow}
 use Rattle.pv_words.specs.Parts.{IsPart, IsOne, AreTwo, AreThree, Gives, GivesAlone}
 use Rattle.pv_words.specs.Split.{IsSplit}
+use Rattle.pv_editor.specs.Parts.{IsAccountText}
 use Rattle.pv_network.specs.declared.event.Event.TheVariants as events
 use Rattle.pv_network.specs.declared.event.TheConstants.{EDITORS, PORTS}
 use Rattle.pv_network.specs.Step.{Choice, IsChoice}
@@ -14,7 +15,7 @@ use Rattle.pv_script.specs.declared.word.CallWord.{CallWord}
 use Rattle.pv_script.specs.declared.word.CallWord.TheVariants as calling
 use Rattle.pv_script.specs.declared.word.Word.{Word}
 use Rattle.pv_script.specs.declared.word.Word.TheVariants as words
-use Rattle.pv_script.specs.Readers.{IsFrameText, IsNodeText, IsRowText, IsKeyText, IsKeysText, IsLimitsText}
+use Rattle.pv_script.specs.Readers.{IsFrameText, IsNodeText, IsMomentText, IsRowText, IsKeyText, IsKeysText, IsLimitsText}
 use Rattle.pv_script.specs.Words.{word_of_text}
 
 -- a word of a caller's line and the tail after it ask for the command: a row for each form
@@ -35,13 +36,17 @@ AsksAs centres words.Seed tail = Gives (AreTwo IsFrameText IsRowText) (λ parts.
 AsksAs centres words.Edit tail = Gives (AreTwo (IsBelow EDITORS) IsPart) (λ parts. Do (events.Edit parts.0 parts.1)) tail
 AsksAs centres (words.Call word) tail = CallAsksAs centres word tail
 AsksAs centres words.Send tail = Gives (IsOne (IsBelow centres)) (λ centre. Do (events.Send centre)) tail
+AsksAs centres words.Post tail = Gives (IsOne (IsBelow centres)) (λ centre. Do (events.Post centre)) tail
 AsksAs centres words.Deliver tail = Gives (AreTwo (IsBelow centres) IsNumber) (λ parts. Do (events.Deliver parts.0 parts.1)) tail
 AsksAs centres words.Back tail = Gives (AreTwo (IsBelow centres) IsNumber) (λ parts. Do (events.Back parts.0 parts.1)) tail
 AsksAs centres words.Carry tail = Gives (IsOne (IsBelow centres)) (λ centre. Do (events.Carry centre)) tail
 AsksAs centres words.Crash tail = Gives (IsOne (IsNodeText centres)) (λ node. Do (events.Crash node)) tail
+AsksAs centres words.Clock tail = Gives (IsOne IsMomentText) (λ moment. Do (events.Clock moment)) tail
 AsksAs centres words.View tail = Gives (AreTwo (IsBelow centres) IsFrameText) (λ parts. Do (events.View parts.0 parts.1)) tail
 AsksAs centres words.At tail = Gives (IsOne (IsBelow centres)) (λ centre. Do (events.At centre)) tail
 AsksAs centres words.List tail = GivesAlone (Do events.List) tail
+AsksAs centres words.Bill tail = Gives (IsOne IsAccountText) (λ account. Do (events.Bill account)) tail
+AsksAs centres words.Lines tail = Gives (IsOne (IsBelow centres)) (λ centre. Do (events.Lines centre)) tail
 
 -- a line asks for the command, by its first word and its tail
 abbrev pub Asks : ℕ → List ℕ → Command → Type 0

@@ -7,6 +7,7 @@ use Rattle.pv_outside.specs.declared.status.Status.{Status}
 use Rattle.pv_outside.specs.declared.status.Status.TheVariants.{Done, Usage, BadLine, ReadFault, WriteFault, Memory, TooLong}
 use Rattle.pv_words.specs.Lines.{lines_of}
 use Rattle.pv_network.specs.declared.event.TheConstants.{MAX_CENTRES}
+use Rattle.pv_network.specs.Charging.{OwedLines}
 use Rattle.pv_network.specs.OneList.{OneList}
 use Rattle.pv_network.specs.Standing.{State, StandsFor}
 use Rattle.pv_network.specs.World.{World, start}
@@ -57,11 +58,12 @@ pub record IsTranscript (centres : ℕ) (first : World) (lines : List (List ℕ)
   pub written : Appends written_before written_now (answers first runs)
 
 -- Every line of the text was run: what was written is the answers, and the network stands for the world after them, in which
--- the law of the one list holds.
+-- the law of the one list and the law of charging hold.
 pub record IsPlayed (centres : ℕ) (first : World) (text : List ℕ) (network : State) (written_before written_now : Option (List ℕ)) : Type 0 where
   pub transcript : IsTranscript centres first (lines_of text) written_before written_now
   pub stands : StandsFor network (world_after_all first transcript.runs)
   pub one_list : OneList (world_after_all first transcript.runs)
+  pub owed : OwedLines (world_after_all first transcript.runs)
 
 -- the line of this number is the first of the text that is not a valid command: those before it were run, and what was
 -- written is their answers

@@ -1,6 +1,7 @@
 -- Parts of lines that the script alone has, and what each of them stands for.
-use Rattle.std.specs.Prelude.{◌≡◌, ℕ, List, [], ◌∷◌, codes}
+use Rattle.std.specs.Prelude.{◌≡◌, ℕ, ◌≤◌, List, [], ◌∷◌, codes, decimal}
 use Rattle.pv_outside.specs.declared.limits.Limits.{Limits}
+use Rattle.pv_charge.specs.declared.line.TheConstants.{LAST_MOMENT}
 use Rattle.pv_words.specs.Numbers.{IsNumber, IsBelow}
 use Rattle.pv_words.specs.Parts.{IsPart, IsOne}
 use Rattle.pv_words.specs.Split.{IsSplit}
@@ -20,6 +21,10 @@ IsFrameText name text = IsName name × (text ≡ name_text name)
 abbrev pub IsNodeText : ℕ → NodeName → List ℕ → Type 0
 IsNodeText centres Udc text = text ≡ codes "u"
 IsNodeText centres (Centre c) text = IsBelow centres c text
+
+-- the text is a moment that a clock can show
+abbrev pub IsMomentText : ℕ → List ℕ → Type 0
+IsMomentText moment text = (moment ≤ LAST_MOMENT) × (text ≡ decimal moment)
 
 -- the text is the notation of a row: of at most 40 cells, which are the row with spaces after them
 abbrev pub IsRowText : List ℕ → List ℕ → Type 0

@@ -28,11 +28,15 @@ word_of_text text =
     if is_text text (codes "seed") then Some words.Seed else
     if is_text text (codes "edit") then Some words.Edit else
     if is_text text (codes "send") then Some words.Send else
+    if is_text text (codes "post") then Some words.Post else
     if is_text text (codes "deliver") then Some words.Deliver else
     if is_text text (codes "back") then Some words.Back else
     if is_text text (codes "carry") then Some words.Carry else
     if is_text text (codes "crash") then Some words.Crash else
+    if is_text text (codes "clock") then Some words.Clock else
     if is_text text (codes "view") then Some words.View else
     if is_text text (codes "at") then Some words.At else
     if is_text text (codes "list") then Some words.List else
+    if is_text text (codes "bill") then Some words.Bill else
+    if is_text text (codes "lines") then Some words.Lines else
     option_map words.Call (call_word_of_text text)

@@ -1,10 +1,12 @@
-ghost use Rattle.std.specs.Prelude.{◌≡◌, ◌++◌, OnOk, decimal};
-ghost use Rattle.pv_script.specs.Transcript.{answer_text, turn_text, turns_text, limits_text, ack_text, end_text, newline};
+ghost use Rattle.std.specs.Prelude.{◌≡◌, ◌++◌, OnOk, codes, decimal};
+ghost use Rattle.pv_page.specs.Names.{name_text};
+ghost use Rattle.pv_script.specs.Transcript.{answer_text, charge_text, charges_text, turn_text, turns_text, limits_text, ack_text, end_text, newline};
 
 use itoa::Buffer;
 use pv_cells::push_notation;
-use pv_network::{Outcome, Turn, Why};
+use pv_network::{BillLine, Outcome, Turn, Why};
 use pv_outside::Limits;
+use pv_page::FrameName;
 use pv_screen::BUFFER;
 use std::alloc::AllocError;
 
@@ -45,6 +47,11 @@ pub fn push_answer(text: &mut Vec<u8>, outcome: &Outcome) -> Result<(), AllocErr
             push_number(text, b" record ", *number)?;
             push_words(text, b"\n")
         }
+        Outcome::SentItem { index, number } => {
+            push_number(text, b"sent ", *index)?;
+            push_number(text, b" item ", *number)?;
+            push_words(text, b"\n")
+        }
         Outcome::Taken { number, ack } => push_arrival(text, b"taken ", *number, *ack),
         Outcome::Old { number, ack } => push_arrival(text, b"old ", *number, *ack),
         Outcome::Early { number, ack } => push_arrival(text, b"early ", *number, *ack),
@@ -56,9 +63,14 @@ pub fn push_answer(text: &mut Vec<u8>, outcome: &Outcome) -> Result<(), AllocErr
             push_words(text, b"\n")
         }
         Outcome::Crashed { count } => push_line(text, b"crashed ", *count),
+        Outcome::Clock { moment } => push_line(text, b"clock ", *moment as u64),
         Outcome::NotHeld => push_words(text, b"-\n"),
         Outcome::Applied { count } => push_line(text, b"applied ", *count),
         Outcome::Records { count } => push_line(text, b"records ", *count),
+        Outcome::Bill { lines, pence } => {
+            push_charges(text, lines.all())?;
+            push_line(text, b"sum ", *pence)
+        }
     }
 }
 
@@ -110,6 +122,39 @@ fn push_arrival(
         None => push_words(text, b" ack -")?,
     }
     push_words(text, b"\n")
+}
+
+/// Appends charge lines, one after another.
+fn push_charges(text: &mut Vec<u8>, charges: &[BillLine]) -> Result<(), AllocError>
+    ensures { OnOk result (text.new.items ≡ text.old.items ++ charges_text charges.now) }
+{
+    for charge in charges {
+        push_charge(text, charge)?;
+    }
+    Ok(())
+}
+
+/// Appends a charge line.
+fn push_charge(text: &mut Vec<u8>, charge: &BillLine) -> Result<(), AllocError>
+    ensures { OnOk result (text.new.items ≡ text.old.items ++ charge_text charge.now) }
+{
+    push_number(text, b"line ", charge.centre as u64)?;
+    push_number(text, b" ", charge.line.serial)?;
+    push_number(text, b" ", charge.line.number as u64)?;
+    push_name(text, charge.line.name)?;
+    push_number(text, b" ", charge.line.price as u64)?;
+    push_number(text, b" ", charge.line.moment as u64)?;
+    push_words(text, b"\n")
+}
+
+/// Appends a space and the name of a frame.
+fn push_name(text: &mut Vec<u8>, name: FrameName) -> Result<(), AllocError>
+    ensures { OnOk result (text.new.items ≡ text.old.items ++ (codes " " ++ name_text name)) }
+{
+    let mut bytes = [0; 10];
+    let count = name.text(&mut bytes);
+    push_words(text, b" ")?;
+    push_words(text, &bytes[..count])
 }
 
 /// Appends screens, one after another.

@@ -7,7 +7,8 @@ use pv_words::number_of;
 /// when they are not.
 pub(crate) fn number_asked(words: &[String], command: &[u8], last: u32) -> Option<u32>
     ensures found { IfSome result (AskFor command.now last (map string_bytes words.now)) }
-    ensures only { (number : ℕ) → AskFor command.now last (map string_bytes words.now) number → result ≡ Some number }
+    ensures only { (number : ℕ) → AskFor command.now last (map string_bytes words.now) number
+        → result ≡ Some number }
 {
     match words {
         [first, second] => number_of_words(first.as_bytes(), second.as_bytes(), command, last),
@@ -18,7 +19,8 @@ pub(crate) fn number_asked(words: &[String], command: &[u8], last: u32) -> Optio
 /// The number that these two words ask for. `None` exactly when they are not the command and such a number.
 fn number_of_words(first: &[u8], second: &[u8], command: &[u8], last: u32) -> Option<u32>
     ensures found { IfSome result (AskFor command.now last (first.now ∷ second.now ∷ [])) }
-    ensures only { (number : ℕ) → AskFor command.now last (first.now ∷ second.now ∷ []) number → result ≡ Some number }
+    ensures only { (number : ℕ) → AskFor command.now last (first.now ∷ second.now ∷ []) number
+        → result ≡ Some number }
 {
     if first != command {
         return None;

@@ -17,7 +17,8 @@ pub fn generate<K: Sink>(words: &[String], out: &mut K) -> Status
     ensures unwritten { result ≡ Status.Usage → out.new ≡ out.old }
 
     // The output failed only if its count rose. So if the words ask for a script and no count rises, all is done.
-    ensures write_fault { result ≡ Status.WriteFault → Rose (K.write_faults out.old) (K.write_faults out.new) }
+    ensures write_fault { result ≡ Status.WriteFault
+        → Rose (K.write_faults out.old) (K.write_faults out.new) }
     ensures counted { K.write_faults out.old ≤ K.write_faults out.new }
     ensures succeeds { (number : ℕ) → AskToGenerate (map string_bytes words.now) number
         → (Rose (K.write_faults out.old) (K.write_faults out.new) → ⊥) → result ≡ Status.Done }

@@ -2,8 +2,9 @@ ghost use Rattle.std.specs.Prelude.{◌≡◌, ◌↔◌, Some, IfSome, IsTrue};
 ghost use Rattle.pv_words.specs.Parts.{Exactly};
 ghost use Rattle.pv_script.specs.Grammar.{Asks, AsksAs, CallAsksAs, MayStand, ReadsLine};
 
-use crate::readers::{FrameText, KeyText, KeysText, LimitsText, NodeText, RowText};
+use crate::readers::{FrameText, KeyText, KeysText, LimitsText, MomentText, NodeText, RowText};
 use crate::word::{CallWord, Word, word_of};
+use pv_editor::AccountText;
 use pv_network::{EDITORS, Event, PORTS};
 use pv_outside::Limits;
 use pv_words::{AllOf, Below, Number, none_as, one_as, split_word, three_as, two_as};
@@ -82,6 +83,7 @@ fn asked_command(word: Word, tail: &[u8], centres: u8) -> Option<Command<'_>>
         ),
         Word::Call(word) => asked_call(word, tail, centres),
         Word::Send => one_as(&centre, tail, |centre| Command::Do(Event::Send { centre })),
+        Word::Post => one_as(&centre, tail, |centre| Command::Do(Event::Post { centre })),
         Word::Deliver => two_as(
             &centre,
             &Number,
@@ -96,6 +98,11 @@ fn asked_command(word: Word, tail: &[u8], centres: u8) -> Option<Command<'_>>
         ),
         Word::Carry => one_as(&centre, tail, |centre| Command::Do(Event::Carry { centre })),
         Word::Crash => one_as(&node, tail, |node| Command::Do(Event::Crash { node })),
+        Word::Clock => one_as(
+            &MomentText,
+            tail,
+            |moment| Command::Do(Event::Clock { moment }),
+        ),
         Word::View => two_as(
             &centre,
             &FrameText,
@@ -104,6 +111,12 @@ fn asked_command(word: Word, tail: &[u8], centres: u8) -> Option<Command<'_>>
         ),
         Word::At => one_as(&centre, tail, |centre| Command::Do(Event::At { centre })),
         Word::List => none_as(tail, Command::Do(Event::List)),
+        Word::Bill => one_as(
+            &AccountText,
+            tail,
+            |account| Command::Do(Event::Bill { account }),
+        ),
+        Word::Lines => one_as(&centre, tail, |centre| Command::Do(Event::Lines { centre })),
     }
 }
 

@@ -173,8 +173,8 @@ fn run_line<K: Sink>(
     requires few { centres ≤ MAX_CENTRES }
 
     // The line was played; or the play ends at it, for the reason that is returned.
-    ensures ok { OnOk result (HasRun centres (number == 1) line.now network.old network.new (K.written out.old)
-        (K.written out.new)) }
+    ensures ok { OnOk result (HasRun centres (number == 1) line.now network.old network.new
+        (K.written out.old) (K.written out.new)) }
     ensures err { IfErr result (IsLineEnd centres line.now number network.old
         (K.written out.old) (K.written out.new) (K.write_faults out.old) (K.write_faults out.new)) }
     ensures counted { K.write_faults out.old ≤ K.write_faults out.new }

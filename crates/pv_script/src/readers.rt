@@ -2,9 +2,10 @@ ghost use Rattle.std.specs.Prelude.{◌≡◌, ◌↔◌, Some, IfSome, IsTrue};
 ghost use Rattle.pv_words.specs.Parts.{Exactly};
 ghost use Rattle.pv_outside.specs.declared.limits.Limits.{Limits};
 ghost use Rattle.pv_network.specs.Standing.{IsNotation};
-ghost use Rattle.pv_script.specs.Readers.{IsFrameText, IsNodeText, IsRowText, IsKeyText, IsKeysText, IsLimitsText, AreOf};
+ghost use Rattle.pv_script.specs.Readers.{IsFrameText, IsNodeText, IsMomentText, IsRowText, IsKeyText, IsKeysText, IsLimitsText, AreOf};
 
 use pv_cells::{ROW_LENGTH, first_byte, row_of};
+use pv_charge::LAST_MOMENT;
 use pv_network::NodeName;
 use pv_outside::{Limits, MAX_FRAMES, MAX_RECORDS};
 use pv_page::FrameName;
@@ -47,6 +48,25 @@ fn node_of(text: &[u8], centres: u8) -> Option<NodeName>
     }
     let centre = Below(centres).read(text)?;
     Some(NodeName::Centre(centre))
+}
+
+/// The part of a line that is a moment of the clock, in seconds since 1970.
+#[derive(Clone, Copy, Debug)]
+pub struct MomentText;
+
+impl<'a> Reader<'a> for MomentText {
+    type Value = u32;
+
+    ghost Writes = { λ _. IsMomentText };
+
+    fn read(&self, text: &'a [u8]) -> Option<u32> {
+        let moment = number_of(text)?;
+        if moment <= LAST_MOMENT as u64 {
+            Some(moment as u32)
+        } else {
+            None
+        }
+    }
 }
 
 /// The part of a line that is a row in notation.

@@ -14,6 +14,8 @@ pub enum Word {
     Call(CallWord),
     /// `send C`
     Send,
+    /// `post C`
+    Post,
     /// `deliver C K`
     Deliver,
     /// `back C K`
@@ -22,12 +24,18 @@ pub enum Word {
     Carry,
     /// `crash NODE`
     Crash,
+    /// `clock N`
+    Clock,
     /// `view C NAME`
     View,
     /// `at C`
     At,
     /// `list`
     List,
+    /// `bill ACCOUNT`
+    Bill,
+    /// `lines C`
+    Lines,
 }
 
 /// The first word of a caller's line.
@@ -59,6 +67,8 @@ pub fn word_of(text: &[u8]) -> Option<Word>
         Some(Word::Edit)
     } else if text == b"send".as_slice() {
         Some(Word::Send)
+    } else if text == b"post".as_slice() {
+        Some(Word::Post)
     } else if text == b"deliver".as_slice() {
         Some(Word::Deliver)
     } else if text == b"back".as_slice() {
@@ -67,12 +77,18 @@ pub fn word_of(text: &[u8]) -> Option<Word>
         Some(Word::Carry)
     } else if text == b"crash".as_slice() {
         Some(Word::Crash)
+    } else if text == b"clock".as_slice() {
+        Some(Word::Clock)
     } else if text == b"view".as_slice() {
         Some(Word::View)
     } else if text == b"at".as_slice() {
         Some(Word::At)
     } else if text == b"list".as_slice() {
         Some(Word::List)
+    } else if text == b"bill".as_slice() {
+        Some(Word::Bill)
+    } else if text == b"lines".as_slice() {
+        Some(Word::Lines)
     } else {
         Some(Word::Call(call_word_of(text)?))
     }

@@ -1,11 +1,11 @@
 -- The cells of what a seat sends.
-use Rattle.std.proofs.Common.{ℕ, ◌+◌, Bool, true, false, [], Option, Some, None, refl, sym, subst}
+use Rattle.std.proofs.Common.{ℕ, Bool, true, false, Option, Some, None, sym, subst}
 use Rattle.pv_edits.specs.Sight.{View}
 use Rattle.pv_session.specs.declared.entry.Entry.{Entry}
 use Rattle.pv_session.specs.declared.message.Message.TheVariants.{CallEnded}
 use Rattle.pv_session.specs.declared.step.Step.{Step}
 use Rattle.pv_session.specs.State.{CallState}
-use Rattle.pv_session.specs.Turns.{CanBeShown, Goes, Listens, byte_turn}
+use Rattle.pv_session.specs.Turns.{CanBeShown, Goes, Listens, byte_turn, call_at_entry}
 use Rattle.pv_session.proofs.EachTurn.{entry_holds}
 use Rattle.pv_session.proofs.Rows.{message_cells}
 
@@ -14,16 +14,17 @@ goes_shown : (turn : CallState × Step) (after : CallState) (step : Step) → Ca
 goes_shown turn after step shown goes = subst CanBeShown (sym goes.step_is) shown
 
 -- what comes of a byte
-byte_shown : (call : CallState) (byte : ℕ) (view : View) (entry : Option Entry) → CanBeShown (byte_turn call byte view entry).1
-byte_shown call byte view None = tt
-byte_shown call byte view (Some entry) =
-    let raised : CallState = record call { keyed = []; bytes = call.bytes + 1; entries = call.entries + 1 } in
-    entry_holds raised.entries (λ turn. CanBeShown turn.1) (λ _ words _. message_cells words) (λ _ _ _. tt)
-    (λ _ _ words _. message_cells words) (λ _ _ _ _. tt) (λ _ _ _. tt) (λ _ _ _. tt) raised view entry refl
+byte_shown : (call : CallState) (byte : ℕ) (view : View) (moment : ℕ) (entry : Option Entry)
+    → CanBeShown (byte_turn call byte view moment entry).1
+byte_shown call byte view moment None = tt
+byte_shown call byte view moment (Some entry) =
+    entry_holds (λ _. Unit {0}) (λ turn. CanBeShown turn.1) moment (λ _ _ _. tt) (λ _ words _. message_cells words) (λ _ _ _. tt)
+    (λ _ _ words _. message_cells words) (λ _ _ _. tt) (λ _ _ _. tt) (λ _ _ _ _ _. tt) (λ _ _ _ _ _. tt) (λ _ _ _. tt)
+    (call_at_entry call) view entry tt
 
 -- at a seat that takes keys
-pub listens_shown : (spent : Bool) (call after : CallState) (byte : ℕ) (view : View) (step : Step)
-    → Listens spent call byte view after step → CanBeShown step
-listens_shown true call after byte view step goes = goes_shown _ after step (message_cells CallEnded) goes
-listens_shown false call after byte view step hears =
-    goes_shown (byte_turn call byte view hears.entry) after step (byte_shown call byte view hears.entry) hears.goes
+pub listens_shown : (spent : Bool) (call after : CallState) (byte : ℕ) (view : View) (moment : ℕ) (step : Step)
+    → Listens spent call byte view moment after step → CanBeShown step
+listens_shown true call after byte view moment step goes = goes_shown _ after step (message_cells CallEnded) goes
+listens_shown false call after byte view moment step hears =
+    goes_shown (byte_turn call byte view moment hears.entry) after step (byte_shown call byte view moment hears.entry) hears.goes

@@ -8,51 +8,56 @@ use Rattle.pv_session.specs.declared.step.Phase.{Phase}
 use Rattle.pv_session.specs.declared.step.Phase.TheVariants as phases
 use Rattle.pv_session.specs.declared.step.Step.{Step}
 use Rattle.pv_session.specs.State.{CallState}
-use Rattle.pv_session.specs.Turns.{Goes, Listens, IsTurnIn, IsTurn, is_spent, entry_turn, byte_turn}
+use Rattle.pv_session.specs.Turns.{Goes, Listens, IsTurnIn, IsTurn, is_spent, entry_turn, byte_turn, call_at_entry}
 use Rattle.pv_session.proofs.EachTurn.{entry_holds}
 use Rattle.pv_session.specs.Calls.{CallEvent, Keyed, Stored, Refused, Happens, AreSteps, IsLike, AreStepsOfLike}
 
 -- ---- what an entry does changes no count of entries
 
 -- it leaves the count as it was
-pub entry_keeps : (call : CallState) (view : View) (entry : Entry) → (entry_turn call view entry).0.entries ≡ call.entries
-entry_keeps call view entry =
-    entry_holds call.entries (λ turn. turn.0.entries ≡ call.entries) (λ _ _ is. is) (λ _ _ is. is) (λ _ _ _ is. is) (λ _ _ _ is. is)
-    (λ _ _ is. is) (λ _ _ is. is) call view entry refl
+pub entry_keeps : (call : CallState) (view : View) (moment : ℕ) (entry : Entry)
+    → (entry_turn call view moment entry).0.entries ≡ call.entries
+entry_keeps call view moment entry =
+    entry_holds (λ c. c.entries ≡ call.entries) (λ turn. turn.0.entries ≡ call.entries) moment (λ _ _ is. is) (λ _ _ is. is)
+    (λ _ _ is. is) (λ _ _ _ is. is) (λ _ _ is. is) (λ _ _ is. is) (λ _ _ _ _ is. is) (λ _ _ _ _ is. is) (λ _ _ is. is)
+    call view entry refl
 
 -- ---- a byte that makes no entry
 
--- a byte that makes an entry raises the count, so it is none that leaves it
-hears_unseen : (call after : CallState) (byte : ℕ) (view other : View) (step : Step) (entry : Option Entry)
-    → Goes (byte_turn call byte view entry) after step → after.entries ≡ call.entries → Goes (byte_turn call byte other entry) after step
-hears_unseen call after byte view other step None goes same = record { after_is = goes.after_is; step_is = goes.step_is }
-hears_unseen call after byte view other step (Some entry) goes same =
-    let raised : CallState = record call { keyed = []; bytes = call.bytes + 1; entries = call.entries + 1 } in
-    let more : after.entries ≡ call.entries + 1 = ap (λ (c : CallState). c.entries) goes.after_is ∙ entry_keeps raised view entry in
-    absurd (omega arith)
+module _ (view other : View) (moment later : ℕ) where
+  -- a byte that makes an entry raises the count, so it is none that leaves it
+  hears_unseen : (call after : CallState) (byte : ℕ) (step : Step) (entry : Option Entry)
+      → Goes (byte_turn call byte view moment entry) after step → after.entries ≡ call.entries
+      → Goes (byte_turn call byte other later entry) after step
+  hears_unseen call after byte step None goes same = record { after_is = goes.after_is; step_is = goes.step_is }
+  hears_unseen call after byte step (Some entry) goes same =
+      let more : after.entries ≡ call.entries + 1 =
+      ap (λ (c : CallState). c.entries) goes.after_is ∙ entry_keeps (call_at_entry call) view moment entry in
+      absurd (omega arith)
 
--- a byte at a seat that takes keys
-listens_unseen : (spent : Bool) (call after : CallState) (byte : ℕ) (view other : View) (step : Step)
-    → Listens spent call byte view after step → after.entries ≡ call.entries → Listens spent call byte other after step
-listens_unseen true call after byte view other step goes same = goes
-listens_unseen false call after byte view other step hears same = record {
-  entry = hears.entry;
-  says = hears.says;
-  goes = hears_unseen call after byte view other step hears.entry hears.goes same;
-}
+  -- a byte at a seat that takes keys
+  listens_unseen : (spent : Bool) (call after : CallState) (byte : ℕ) (step : Step)
+      → Listens spent call byte view moment after step → after.entries ≡ call.entries → Listens spent call byte other later after step
+  listens_unseen true call after byte step goes same = goes
+  listens_unseen false call after byte step hears same = record {
+    entry = hears.entry;
+    says = hears.says;
+    goes = hears_unseen call after byte step hears.entry hears.goes same;
+  }
 
--- a byte at any seat
-turns_unseen : (phase : Phase) (call after : CallState) (byte : ℕ) (view other : View) (step : Step)
-    → IsTurnIn phase call byte view after step → after.entries ≡ call.entries → IsTurnIn phase call byte other after step
-turns_unseen phases.Listening call after byte view other step turns same =
-    listens_unseen (is_spent call) call after byte view other step turns same
-turns_unseen (phases.Owing wish) call after byte view other step turns same = turns
-turns_unseen phases.Over call after byte view other step turns same = turns
+  -- a byte at any seat
+  turns_unseen : (phase : Phase) (call after : CallState) (byte : ℕ) (step : Step)
+      → IsTurnIn phase call byte view moment after step → after.entries ≡ call.entries
+      → IsTurnIn phase call byte other later after step
+  turns_unseen phases.Listening call after byte step turns same = listens_unseen (is_spent call) call after byte step turns same
+  turns_unseen (phases.Owing wish) call after byte step turns same = turns
+  turns_unseen phases.Over call after byte step turns same = turns
 
--- the sight does not count at a byte that makes no entry
-pub unseen : (call after : CallState) (byte : ℕ) (view other : View) (step : Step)
-    → IsTurn call byte view after step → after.entries ≡ call.entries → IsTurn call byte other after step
-unseen call after byte view other step turns same = turns_unseen call.phase call after byte view other step turns same
+-- neither the sight nor the moment counts at a byte that makes no entry
+pub unseen : (call after : CallState) (byte : ℕ) (view other : View) (moment later : ℕ) (step : Step)
+    → IsTurn call byte view moment after step → after.entries ≡ call.entries → IsTurn call byte other later after step
+unseen call after byte view other moment later step turns same =
+    turns_unseen view other moment later call.phase call after byte step turns same
 
 -- ---- one way
 
@@ -67,25 +72,25 @@ one_value Is None (Some b) is_a is_b = is_a.only b is_b.found
 one_value Is (Some a) b is_a is_b = sym (is_b.only a is_a.found)
 
 -- a byte at a seat that takes keys, in one way
-listens_once : (spent : Bool) (call x y : CallState) (byte : ℕ) (view : View) (a b : Step)
-    → Listens spent call byte view x a → Listens spent call byte view y b → (x ≡ y) × (a ≡ b)
-listens_once true call x y byte view a b is_x is_y = one_end _ x y a b is_x is_y
-listens_once false call x y byte view a b is_x is_y =
+listens_once : (spent : Bool) (call x y : CallState) (byte : ℕ) (view : View) (moment : ℕ) (a b : Step)
+    → Listens spent call byte view moment x a → Listens spent call byte view moment y b → (x ≡ y) × (a ≡ b)
+listens_once true call x y byte view moment a b is_x is_y = one_end _ x y a b is_x is_y
+listens_once false call x y byte view moment a b is_x is_y =
     let same = one_value _ is_x.entry is_y.entry is_x.says is_y.says in
-    one_end (byte_turn call byte view is_y.entry) x y a b
-    (subst (λ (entry : Option Entry). Goes (byte_turn call byte view entry) x a) same is_x.goes) is_y.goes
+    one_end (byte_turn call byte view moment is_y.entry) x y a b
+    (subst (λ (entry : Option Entry). Goes (byte_turn call byte view moment entry) x a) same is_x.goes) is_y.goes
 
 -- a byte at any seat, in one way
-turns_once : (phase : Phase) (call x y : CallState) (byte : ℕ) (view : View) (a b : Step)
-    → IsTurnIn phase call byte view x a → IsTurnIn phase call byte view y b → (x ≡ y) × (a ≡ b)
-turns_once phases.Listening call x y byte view a b is_x is_y = listens_once (is_spent call) call x y byte view a b is_x is_y
-turns_once (phases.Owing wish) call x y byte view a b is_x is_y = one_end _ x y a b is_x is_y
-turns_once phases.Over call x y byte view a b is_x is_y = one_end _ x y a b is_x is_y
+turns_once : (phase : Phase) (call x y : CallState) (byte : ℕ) (view : View) (moment : ℕ) (a b : Step)
+    → IsTurnIn phase call byte view moment x a → IsTurnIn phase call byte view moment y b → (x ≡ y) × (a ≡ b)
+turns_once phases.Listening call x y byte view moment a b is_x is_y = listens_once (is_spent call) call x y byte view moment a b is_x is_y
+turns_once (phases.Owing wish) call x y byte view moment a b is_x is_y = one_end _ x y a b is_x is_y
+turns_once phases.Over call x y byte view moment a b is_x is_y = one_end _ x y a b is_x is_y
 
 -- whatever happens, in one way
 happens_once : (call x y : CallState) (event : CallEvent) (a b : Step) → Happens call event x a → Happens call event y b
     → (x ≡ y) × (a ≡ b)
-happens_once call x y (Keyed byte view) a b is_x is_y = turns_once call.phase call x y byte view a b is_x is_y
+happens_once call x y (Keyed byte view moment) a b is_x is_y = turns_once call.phase call x y byte view moment a b is_x is_y
 happens_once call x y (Stored reply) a b is_x is_y = one_end _ x y a b is_x is_y
 happens_once call x y Refused a b is_x is_y = one_end _ x y a b is_x is_y
 
@@ -107,15 +112,20 @@ one_call (event ∷ events) call x y (a ∷ one) (b ∷ other) (next, first, mor
 -- an event has the effect of one that is like it
 like_event : (call next : CallState) (event other : CallEvent) (step : Step) → Happens call event next step → IsLike call next event other
     → Happens call other next step
-like_event call next (Keyed byte view) (Keyed other seen) step happens like =
-    let here : IsTurn call byte seen next step =
+like_event call next (Keyed byte view moment) (Keyed other seen later) step happens like =
+    let here : IsTurn call byte seen later next step =
     elim (cases_eq next.entries call.entries) [
-      | inl same ↦ unseen call next byte view seen step happens same
-      | inr raised ↦ subst (λ (v : View). IsTurn call byte v next step) (like.1 raised) happens
+      | inl same ↦ unseen call next byte view seen moment later step happens same
+      | inr raised ↦
+          let both = like.1 raised in
+          subst (λ (m : ℕ). IsTurn call byte seen m next step) both.1
+          (subst (λ (v : View). IsTurn call byte v moment next step) both.0 happens)
     ] in
-    subst (λ (b : ℕ). IsTurn call b seen next step) like.0 here
-like_event call next (Keyed byte view) (Stored reply) step happens like = subst (λ (e : CallEvent). Happens call e next step) like happens
-like_event call next (Keyed byte view) Refused step happens like = subst (λ (e : CallEvent). Happens call e next step) like happens
+    subst (λ (b : ℕ). IsTurn call b seen later next step) like.0 here
+like_event call next (Keyed byte view moment) (Stored reply) step happens like =
+    subst (λ (e : CallEvent). Happens call e next step) like happens
+like_event call next (Keyed byte view moment) Refused step happens like =
+    subst (λ (e : CallEvent). Happens call e next step) like happens
 like_event call next (Stored reply) other step happens like = subst (λ (e : CallEvent). Happens call e next step) like happens
 like_event call next Refused other step happens like = subst (λ (e : CallEvent). Happens call e next step) like happens
 

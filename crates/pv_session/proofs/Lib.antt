@@ -1,8 +1,9 @@
+mod Callers
 mod Cells
 mod EachTurn
 mod Facts
 mod Laws
+mod Plain
 mod Rows
-mod Serials
 mod TenDigits
 mod Waiting

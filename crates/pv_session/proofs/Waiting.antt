@@ -10,7 +10,7 @@ use Rattle.pv_session.specs.declared.step.Phase.TheVariants.{Listening, Over}
 use Rattle.pv_session.specs.declared.step.Step.{Step}
 use Rattle.pv_session.specs.Entries.{Mode, mode_keys}
 use Rattle.pv_session.specs.State.{CallState}
-use Rattle.pv_session.specs.Turns.{Goes, Listens, IsTurnIn, is_spent, byte_turn}
+use Rattle.pv_session.specs.Turns.{Goes, Listens, IsTurnIn, is_spent, byte_turn, call_at_entry}
 use Rattle.pv_session.specs.Calls.{IsWaiting, AreWaiting}
 use Rattle.pv_session.proofs.Laws.{entry_keeps}
 
@@ -19,29 +19,30 @@ abbrev Keeps_keys : CallState → ℕ → CallState → Type 0
 Keeps_keys call byte next = (next.mode ≡ call.mode) × (next.keyed ≡ call.keyed ++ mode_keys call.mode byte)
 
 -- a byte that is heard
-hears_waiting : (call next : CallState) (byte : ℕ) (view : View) (step : Step) (entry : Option Entry)
-    → Goes (byte_turn call byte view entry) next step → next.entries ≡ call.entries → Keeps_keys call byte next
-hears_waiting call next byte view step None goes same =
+hears_waiting : (call next : CallState) (byte : ℕ) (view : View) (moment : ℕ) (step : Step) (entry : Option Entry)
+    → Goes (byte_turn call byte view moment entry) next step → next.entries ≡ call.entries → Keeps_keys call byte next
+hears_waiting call next byte view moment step None goes same =
     (ap (λ (c : CallState). c.mode) goes.after_is, ap (λ (c : CallState). c.keyed) goes.after_is)
-hears_waiting call next byte view step (Some entry) goes same =
-    let raised : CallState = record call { keyed = []; bytes = call.bytes + 1; entries = call.entries + 1 } in
-    let more : next.entries ≡ call.entries + 1 = ap (λ (c : CallState). c.entries) goes.after_is ∙ entry_keeps raised view entry in
+hears_waiting call next byte view moment step (Some entry) goes same =
+    let more : next.entries ≡ call.entries + 1 =
+    ap (λ (c : CallState). c.entries) goes.after_is ∙ entry_keeps (call_at_entry call) view moment entry in
     absurd (omega arith)
 
 -- a byte at a seat that takes keys
-listens_waiting : (spent : Bool) (call next : CallState) (byte : ℕ) (view : View) (step : Step)
-    → Listens spent call byte view next step → next.phase ≡ Listening → next.entries ≡ call.entries → Keeps_keys call byte next
-listens_waiting true call next byte view step goes listening same =
+listens_waiting : (spent : Bool) (call next : CallState) (byte : ℕ) (view : View) (moment : ℕ) (step : Step)
+    → Listens spent call byte view moment next step → next.phase ≡ Listening → next.entries ≡ call.entries → Keeps_keys call byte next
+listens_waiting true call next byte view moment step goes listening same =
     let over : next.phase ≡ Over = ap (λ (c : CallState). c.phase) goes.after_is in
     let both : Listening ≡ Over = sym listening ∙ over in
     absurd cc
-listens_waiting false call next byte view step hears listening same = hears_waiting call next byte view step hears.entry hears.goes same
+listens_waiting false call next byte view moment step hears listening same =
+    hears_waiting call next byte view moment step hears.entry hears.goes same
 
 -- a byte that makes no entry
 waiting : (call next : CallState) (byte : ℕ) → IsWaiting call byte next → Keeps_keys call byte next
 waiting call next byte is =
-    let turns = subst (λ (phase : Phase). IsTurnIn phase call byte is.view next is.step) is.listening.0 is.turns in
-    listens_waiting (is_spent call) call next byte is.view is.step turns is.listening.1 is.no_entry
+    let turns = subst (λ (phase : Phase). IsTurnIn phase call byte is.view is.moment next is.step) is.listening.0 is.turns in
+    listens_waiting (is_spent call) call next byte is.view is.moment is.step turns is.listening.1 is.no_entry
 
 -- many of them
 pub all_kept : (bytes : List ℕ) (call after : CallState) → AreWaiting call bytes after

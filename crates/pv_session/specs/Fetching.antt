@@ -1,7 +1,8 @@
--- What the commands of a caller show: messages, and frames that are fetched.
+-- What the commands of a caller show: messages, and frames that are fetched. A priced frame is shown once its charge is stored.
 use Rattle.std.specs.Prelude.{ℕ, ◌+◌, ◌==◌, List, [], ◌∷◌, take, Option, Some, None, if◌then◌else◌}
 use Rattle.pv_page.specs.Names.{Name}
 use Rattle.pv_page.specs.declared.frame_name.TheConstants.{LAST_LETTER}
+use Rattle.pv_charge.specs.Line.{Charge}
 use Rattle.pv_frame.specs.Content.{Content}
 use Rattle.pv_edits.specs.Sight.{View}
 use Rattle.pv_keys.specs.declared.command.Command.{Command}
@@ -9,11 +10,13 @@ use Rattle.pv_keys.specs.declared.command.Command.TheVariants as commands
 use Rattle.pv_session.specs.declared.earlier.TheConstants.{EARLIER}
 use Rattle.pv_session.specs.declared.message.Message.{Message}
 use Rattle.pv_session.specs.declared.message.Message.TheVariants.{Welcome, PageNotAvailable, NoSuchRoute, NoPreviousFrame, KeysNotUnderstood, Blank, CallEnded, NoMessages}
-use Rattle.pv_session.specs.declared.step.Phase.TheVariants.{Over}
+use Rattle.pv_session.specs.declared.step.Phase.TheVariants.{Owing, Over}
 use Rattle.pv_session.specs.declared.step.Why.{Why}
 use Rattle.pv_session.specs.declared.step.Why.TheVariants.{Finished}
+use Rattle.pv_session.specs.declared.step.Wish.TheVariants as wishes
 use Rattle.pv_session.specs.declared.step.Step.{Step}
 use Rattle.pv_session.specs.declared.step.Step.TheVariants as steps
+use Rattle.pv_session.specs.Charging.{charge_of}
 use Rattle.pv_session.specs.Messages.{screen_of_row, screen_of_blank}
 use Rattle.pv_session.specs.Shown.{ShownFrame, screen_of_frame, route_of_digit, first_frame}
 use Rattle.pv_session.specs.State.{CallState}
@@ -33,15 +36,25 @@ ending_turn call why message = (record call { phase = Over }, steps.Ended why (s
 -- ---- frames
 
 -- a frame becomes the present one and is shown
-abbrev pub showing_turn : CallState → Name → Content → CallState × Step
-showing_turn call name frame =
-    let present : ShownFrame = record { name = name; frame = frame } in
-    (record call { present = Some present }, steps.Show (screen_of_frame present))
+abbrev pub showing_turn : CallState → ShownFrame → CallState × Step
+showing_turn call shown = (record call { present = Some shown }, steps.Show (screen_of_frame shown))
 
--- a fetch: a frame that the caller may see is shown, and without one nothing changes but row 24
-abbrev pub fetch_turn : CallState → Name → Option Content → CallState × Step
-fetch_turn call name None = message_turn call PageNotAvailable
-fetch_turn call name (Some frame) = showing_turn call name frame
+-- a frame is kept aside, and its charge is owed; a caller who cannot be charged has no page
+abbrev pub charging_turn : CallState → ShownFrame → Option Charge → CallState × Step
+charging_turn call shown None = message_turn call PageNotAvailable
+charging_turn call shown (Some charge) =
+    (record call { phase = Owing (wishes.Charge charge); aside = Some shown }, steps.Owe (wishes.Charge charge))
+
+-- a frame that is found at a moment: a free one is shown, and a priced one is charged first
+abbrev pub found_turn : CallState → ℕ → ShownFrame → CallState × Step
+found_turn call moment shown =
+    if shown.frame.price == 0 then showing_turn call shown
+    else charging_turn call shown (charge_of call shown.name shown.frame.price moment)
+
+-- a fetch: without a frame that the caller may see nothing changes but row 24
+abbrev pub fetch_turn : CallState → ℕ → Name → Option Content → CallState × Step
+fetch_turn call moment name None = message_turn call PageNotAvailable
+fetch_turn call moment name (Some frame) = found_turn call moment (record { name = name; frame = frame })
 
 -- the earlier names, with the present one before them; the oldest of four is dropped
 abbrev pub names_with : Option ShownFrame → List Name → List Name
@@ -49,49 +62,50 @@ names_with None earlier = earlier
 names_with (Some present) earlier = take EARLIER (present.name ∷ earlier)
 
 -- a fetch from which the caller can go back
-abbrev pub visit_turn : CallState → Name → Option Content → CallState × Step
-visit_turn call name None = message_turn call PageNotAvailable
-visit_turn call name (Some frame) = showing_turn (record call { earlier = names_with call.present call.earlier }) name frame
+abbrev pub visit_turn : CallState → ℕ → Name → Option Content → CallState × Step
+visit_turn call moment name None = message_turn call PageNotAvailable
+visit_turn call moment name (Some frame) =
+    found_turn (record call { earlier = names_with call.present call.earlier }) moment (record { name = name; frame = frame })
 
 -- ---- commands
 
 -- a digit: frame a of the page to which the present frame's route leads
-abbrev pub route_turn : CallState → View → Option ℕ → CallState × Step
-route_turn call view None = message_turn call NoSuchRoute
-route_turn call view (Some page) = visit_turn call (first_frame page) (view.pages (first_frame page))
+abbrev pub route_turn : CallState → View → ℕ → Option ℕ → CallState × Step
+route_turn call view moment None = message_turn call NoSuchRoute
+route_turn call view moment (Some page) = visit_turn call moment (first_frame page) (view.pages (first_frame page))
 
 -- the next frame of the page, or frame 0a if none is shown
-abbrev pub next_turn : CallState → View → Option ShownFrame → CallState × Step
-next_turn call view None = visit_turn call (first_frame 0) (view.pages (first_frame 0))
-next_turn call view (Some present) =
+abbrev pub next_turn : CallState → View → ℕ → Option ShownFrame → CallState × Step
+next_turn call view moment None = visit_turn call moment (first_frame 0) (view.pages (first_frame 0))
+next_turn call view moment (Some present) =
     if present.name.letter == LAST_LETTER then message_turn call PageNotAvailable else
     let next : Name = record present.name { letter = present.name.letter + 1 } in
-    visit_turn call next (view.pages next)
+    visit_turn call moment next (view.pages next)
 
 -- the last earlier frame; its name is used up, whether it can be seen or not
-abbrev pub back_turn : CallState → View → List Name → CallState × Step
-back_turn call view [] = message_turn call NoPreviousFrame
-back_turn call view (name ∷ earlier) = fetch_turn (record call { earlier = earlier }) name (view.pages name)
+abbrev pub back_turn : CallState → View → ℕ → List Name → CallState × Step
+back_turn call view moment [] = message_turn call NoPreviousFrame
+back_turn call view moment (name ∷ earlier) = fetch_turn (record call { earlier = earlier }) moment name (view.pages name)
 
--- the present frame as it was shown
+-- the present frame as it was shown, which costs nothing
 abbrev pub repeat_turn : CallState → Option ShownFrame → CallState × Step
 repeat_turn call None = blank_turn call Welcome
 repeat_turn call (Some present) = (call, steps.Show (screen_of_frame present))
 
 -- the present frame as it is now
-abbrev pub fresh_turn : CallState → View → Option ShownFrame → CallState × Step
-fresh_turn call view None = blank_turn call Welcome
-fresh_turn call view (Some present) = fetch_turn call present.name (view.pages present.name)
+abbrev pub fresh_turn : CallState → View → ℕ → Option ShownFrame → CallState × Step
+fresh_turn call view moment None = blank_turn call Welcome
+fresh_turn call view moment (Some present) = fetch_turn call moment present.name (view.pages present.name)
 
 -- what each command does
-abbrev pub command_turn : CallState → View → Command → CallState × Step
-command_turn call view (commands.Route digit) = route_turn call view (route_of_digit call.present digit)
-command_turn call view commands.Next = next_turn call view call.present
-command_turn call view (commands.Go page) = visit_turn call (first_frame page) (view.pages (first_frame page))
-command_turn call view commands.Back = back_turn call view call.earlier
-command_turn call view commands.Repeat = repeat_turn call call.present
-command_turn call view commands.Fresh = fresh_turn call view call.present
-command_turn call view commands.Mail = message_turn call NoMessages
-command_turn call view commands.End = ending_turn call Finished CallEnded
-command_turn call view commands.Cancel = message_turn call Blank
-command_turn call view commands.Slip = message_turn call KeysNotUnderstood
+abbrev pub command_turn : CallState → View → ℕ → Command → CallState × Step
+command_turn call view moment (commands.Route digit) = route_turn call view moment (route_of_digit call.present digit)
+command_turn call view moment commands.Next = next_turn call view moment call.present
+command_turn call view moment (commands.Go page) = visit_turn call moment (first_frame page) (view.pages (first_frame page))
+command_turn call view moment commands.Back = back_turn call view moment call.earlier
+command_turn call view moment commands.Repeat = repeat_turn call call.present
+command_turn call view moment commands.Fresh = fresh_turn call view moment call.present
+command_turn call view moment commands.Mail = message_turn call NoMessages
+command_turn call view moment commands.End = ending_turn call Finished CallEnded
+command_turn call view moment commands.Cancel = message_turn call Blank
+command_turn call view moment commands.Slip = message_turn call KeysNotUnderstood

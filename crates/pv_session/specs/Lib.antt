@@ -5,6 +5,8 @@ pub mod Earlier
 pub mod Reading
 pub mod Shown
 pub mod State
+pub mod Charging
+pub mod Callers
 pub mod Seat
 pub mod Fetching
 pub mod Turns

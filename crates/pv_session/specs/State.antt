@@ -6,6 +6,7 @@ use Rattle.pv_session.specs.Shown.{ShownFrame}
 use Rattle.pv_session.specs.declared.step.Phase.{Phase}
 use Rattle.pv_session.specs.declared.step.Phase.TheVariants.{Listening, Owing, Over}
 use Rattle.pv_session.specs.declared.step.Wish.{Wish}
+use Rattle.pv_session.specs.declared.step.Wish.TheVariants.{LogOn, Charge}
 
 -- something is to be stored
 abbrev pub is_owing : Phase → Bool
@@ -19,8 +20,16 @@ wish_in Listening = None
 wish_in (Owing wish) = Some wish
 wish_in Over = None
 
+-- how many charges are to be stored: one or none
+abbrev pub charges_in : Phase → ℕ
+charges_in Listening = 0
+charges_in (Owing (LogOn account)) = 0
+charges_in (Owing (Charge line)) = 1
+charges_in Over = 0
+
 -- a call: what the caller is asked for, and what he has keyed of it; how many of his log-ons failed; his account and the call's
--- serial; the frame that he is shown, and the names of those before it, the last one first; and how much he has keyed in all
+-- serial; how many priced frames he was shown, and the one that is kept aside until its charge is stored; the frame that he is
+-- shown, and the names of those before it, the last one first; and how much he has keyed in all
 pub record CallState : Type 0 where
   pub phase : Phase
   pub mode : Mode
@@ -28,6 +37,8 @@ pub record CallState : Type 0 where
   pub failed : ℕ
   pub account : Option ℕ
   pub serial : Option ℕ
+  pub lines : ℕ
+  pub aside : Option ShownFrame
   pub present : Option ShownFrame
   pub earlier : List Name
   pub bytes : ℕ
@@ -42,6 +53,8 @@ new_call = record {
   failed = 0;
   account = None;
   serial = None;
+  lines = 0;
+  aside = None;
   present = None;
   earlier = [];
   bytes = 0;

@@ -12,13 +12,14 @@ use Rattle.pv_session.specs.declared.seat.TheConstants.{MAX_BYTES, MAX_ENTRIES, 
 use Rattle.pv_session.specs.declared.step.Phase.{Phase}
 use Rattle.pv_session.specs.declared.step.Phase.TheVariants as phases
 use Rattle.pv_session.specs.declared.step.Paid.{Paid}
-use Rattle.pv_session.specs.declared.step.Paid.TheVariants.{Serial}
+use Rattle.pv_session.specs.declared.step.Paid.TheVariants as replies
 use Rattle.pv_session.specs.declared.step.Why.TheVariants.{Refused, Spent, Full}
-use Rattle.pv_session.specs.declared.step.Wish.TheVariants.{LogOn}
+use Rattle.pv_session.specs.declared.step.Wish.TheVariants as wishes
 use Rattle.pv_session.specs.declared.step.Step.{Step}
 use Rattle.pv_session.specs.declared.step.Step.TheVariants as steps
 use Rattle.pv_session.specs.Entries.{AccountMode, PasswordMode, BrowseMode, IsEntry, mode_keys}
-use Rattle.pv_session.specs.Fetching.{message_turn, blank_turn, ending_turn, command_turn}
+use Rattle.pv_session.specs.Fetching.{message_turn, blank_turn, ending_turn, showing_turn, command_turn}
+use Rattle.pv_session.specs.Shown.{ShownFrame}
 use Rattle.pv_session.specs.State.{CallState}
 
 -- ---- logging on
@@ -46,15 +47,15 @@ failure_turn call =
 -- a caller who is known owes the record of his log-on
 abbrev pub log_on_turn : CallState → Option ℕ → CallState × Step
 log_on_turn call None = failure_turn call
-log_on_turn call (Some account) = (record call { phase = phases.Owing (LogOn account) }, steps.Owe (LogOn account))
+log_on_turn call (Some account) = (record call { phase = phases.Owing (wishes.LogOn account) }, steps.Owe (wishes.LogOn account))
 
 -- ---- a turn
 
--- what an entry does
-abbrev pub entry_turn : CallState → View → Entry → CallState × Step
-entry_turn call view (entries.Account account) = account_turn call account
-entry_turn call view (entries.Password password) = log_on_turn call (known_caller call.account view.account password)
-entry_turn call view (entries.Command command) = command_turn call view command
+-- what an entry does at a moment
+abbrev pub entry_turn : CallState → View → ℕ → Entry → CallState × Step
+entry_turn call view moment (entries.Account account) = account_turn call account
+entry_turn call view moment (entries.Password password) = log_on_turn call (known_caller call.account view.account password)
+entry_turn call view moment (entries.Command command) = command_turn call view moment command
 
 -- the call has had as many bytes or entries as it may have
 abbrev pub is_spent : CallState → Bool
@@ -64,11 +65,14 @@ is_spent call = nat_le MAX_BYTES call.bytes || nat_le MAX_ENTRIES call.entries
 abbrev pub keys_with : CallState → ℕ → List ℕ
 keys_with call byte = call.keyed ++ mode_keys call.mode byte
 
+-- the call after a byte that makes an entry
+abbrev pub call_at_entry : CallState → CallState
+call_at_entry call = record call { keyed = []; bytes = call.bytes + 1; entries = call.entries + 1 }
+
 -- a byte that makes no entry is kept if it counts, and one that makes an entry takes all keys with it
-abbrev pub byte_turn : CallState → ℕ → View → Option Entry → CallState × Step
-byte_turn call byte view None = (record call { keyed = keys_with call byte; bytes = call.bytes + 1 }, steps.Quiet)
-byte_turn call byte view (Some entry) =
-    entry_turn (record call { keyed = []; bytes = call.bytes + 1; entries = call.entries + 1 }) view entry
+abbrev pub byte_turn : CallState → ℕ → View → ℕ → Option Entry → CallState × Step
+byte_turn call byte view moment None = (record call { keyed = keys_with call byte; bytes = call.bytes + 1 }, steps.Quiet)
+byte_turn call byte view moment (Some entry) = entry_turn (call_at_entry call) view moment entry
 
 -- what comes of something: the seat after, and the step
 pub record Goes (turn : CallState × Step) (after : CallState) (step : Step) : Type 0 where
@@ -76,26 +80,26 @@ pub record Goes (turn : CallState × Step) (after : CallState) (step : Step) : T
   pub step_is : step ≡ turn.1
 
 -- a byte is heard
-pub record Hears (call : CallState) (byte : ℕ) (view : View) (after : CallState) (step : Step) : Type 0 where
+pub record Hears (call : CallState) (byte : ℕ) (view : View) (moment : ℕ) (after : CallState) (step : Step) : Type 0 where
   -- what all the keys since the last entry say; it is `None` if they are not whole
   pub entry : Option Entry
   pub says : Exactly (IsEntry call.mode (keys_with call byte)) entry
-  pub goes : Goes (byte_turn call byte view entry) after step
+  pub goes : Goes (byte_turn call byte view moment entry) after step
 
 -- a byte is heard unless the call is spent, which ends it
-abbrev pub Listens : Bool → CallState → ℕ → View → CallState → Step → Type 0
-Listens true call byte view after step = Goes (ending_turn call Spent CallEnded) after step
-Listens false call byte view after step = Hears call byte view after step
+abbrev pub Listens : Bool → CallState → ℕ → View → ℕ → CallState → Step → Type 0
+Listens true call byte view moment after step = Goes (ending_turn call Spent CallEnded) after step
+Listens false call byte view moment after step = Hears call byte view moment after step
 
 -- a seat that owes something takes no byte, and neither does one whose call is over
-abbrev pub IsTurnIn : Phase → CallState → ℕ → View → CallState → Step → Type 0
-IsTurnIn phases.Listening call byte view after step = Listens (is_spent call) call byte view after step
-IsTurnIn (phases.Owing wish) call byte view after step = Goes (call, steps.Quiet) after step
-IsTurnIn phases.Over call byte view after step = Goes (call, steps.Quiet) after step
+abbrev pub IsTurnIn : Phase → CallState → ℕ → View → ℕ → CallState → Step → Type 0
+IsTurnIn phases.Listening call byte view moment after step = Listens (is_spent call) call byte view moment after step
+IsTurnIn (phases.Owing wish) call byte view moment after step = Goes (call, steps.Quiet) after step
+IsTurnIn phases.Over call byte view moment after step = Goes (call, steps.Quiet) after step
 
--- a byte is keyed at a seat
-abbrev pub IsTurn : CallState → ℕ → View → CallState → Step → Type 0
-IsTurn call byte view after step = IsTurnIn call.phase call byte view after step
+-- a byte is keyed at a seat, with what the caller may see at that moment
+abbrev pub IsTurn : CallState → ℕ → View → ℕ → CallState → Step → Type 0
+IsTurn call byte view moment after step = IsTurnIn call.phase call byte view moment after step
 
 -- the cells of what is sent are 0 to 127
 abbrev pub CanBeShown : Step → Type 0
@@ -106,10 +110,19 @@ CanBeShown (steps.Ended why screen) = HasCells screen
 
 -- ---- what the centre stored
 
--- a log-on that is stored: the caller is welcome, and the call has its serial
+-- a charge that is stored: the frame that was kept aside becomes the present one and is shown
+abbrev pub charged_turn : CallState → Option ShownFrame → CallState × Step
+charged_turn call None = (call, steps.Quiet)
+charged_turn call (Some shown) = showing_turn (record call { phase = phases.Listening; lines = call.lines + 1; aside = None }) shown
+
+-- what is stored: after a log-on the caller is welcome and the call has its serial; another reply than the one to what is owed
+-- changes nothing
 abbrev pub storing_turn : CallState → Phase → Paid → CallState × Step
-storing_turn call (phases.Owing (LogOn account)) (Serial serial) =
+storing_turn call (phases.Owing (wishes.LogOn account)) (replies.Serial serial) =
     blank_turn (record call { phase = phases.Listening; mode = BrowseMode; keyed = []; serial = Some serial }) Welcome
+storing_turn call (phases.Owing (wishes.LogOn account)) replies.Stored = (call, steps.Quiet)
+storing_turn call (phases.Owing (wishes.Charge charge)) (replies.Serial serial) = (call, steps.Quiet)
+storing_turn call (phases.Owing (wishes.Charge charge)) replies.Stored = charged_turn call call.aside
 storing_turn call phases.Listening reply = (call, steps.Quiet)
 storing_turn call phases.Over reply = (call, steps.Quiet)
 

@@ -1,21 +1,22 @@
-ghost use Rattle.std.specs.Prelude.{◌≡◌, ℕ, List, ◌++◌, flat_map, Option};
-ghost use Rattle.std.specs.List.{AllZip};
+ghost use Rattle.std.specs.Prelude.{◌≡◌, ℕ, List, ◌++◌, map, flat_map, Option};
 ghost use Rattle.pv_edits.specs.Sight.{View};
 ghost use Rattle.pv_session.specs.declared.step.Step.{Step};
-ghost use Rattle.pv_session.specs.State.{CallState};
+ghost use Rattle.pv_session.specs.Callers.{IsCall};
+ghost use Rattle.pv_session.specs.State.{CallState, new_call};
 ghost use Rattle.pv_session.specs.Turns.{IsTurn};
-ghost use Rattle.pv_session.specs.Calls.{CallEvent, AreSteps, AreStepsOfLike, AreWaiting, with_serial, IsLikeButSerial};
+ghost use Rattle.pv_session.specs.Calls.{CallEvent, Happens, AreSteps, AreStepsOfLike, AreWaiting, IsSameCaller};
+ghost use Rattle.pv_session.specs.Calls.{plain_call, plain_event, sent_by};
 ghost use Rattle.pv_session.specs.Entries.{mode_keys};
 
-/// A law: what comes of a byte that makes no entry does not depend on what the caller may see.
+/// A law: what comes of a byte that makes no entry depends neither on what the caller may see nor on the moment.
 #[tactic(auto, using(crate::proofs::Laws::unseen))]
 pub fn byte_without_entry_reads_no_sight()
-    ensures { (call after : CallState) (byte : ℕ) (view other : View) (step : Step) →
-        IsTurn call byte view after step → after.entries ≡ call.entries → IsTurn call byte other after step }
+    ensures { (call after : CallState) (byte : ℕ) (view other : View) (moment later : ℕ) (step : Step) →
+        IsTurn call byte view moment after step → after.entries ≡ call.entries → IsTurn call byte other later after step }
 {}
 
-/// A law: what a caller is sent is a function of his keys, of what he may see as he keys them, and of what his centre
-/// stores.
+/// A law: what a caller is sent is a function of his keys, of what he may see as he keys them and when, and of what his
+/// centre stores.
 #[tactic(auto, using(crate::proofs::Laws::one_call))]
 pub fn screens_are_a_function()
     ensures { (events : List CallEvent) (call x y : CallState) (one other : List Step) →
@@ -36,9 +37,30 @@ pub fn keys_are_kept_until_they_make_an_entry()
         (after.mode ≡ call.mode) × (after.keyed ≡ call.keyed ++ flat_map (mode_keys call.mode) bytes) }
 {}
 
-/// A law: serials change no screen. Two calls whose log-ons were stored under different serials have the same steps.
-pub fn serials_change_no_screen()
-    ensures { (events others : List CallEvent) (call after : CallState) (serial : Option ℕ)
-        (steps : List Step) → AllZip IsLikeButSerial events others → AreSteps call events steps after →
-        (end : Option ℕ) × AreSteps (with_serial call serial) others steps (with_serial after end) }
+/// A law: moments and serials change no screen. Of two calls that differ in them alone, the other has steps as well, one
+/// for each step of the first, and each sends the caller the same.
+#[tactic(auto, using(crate::proofs::Plain::other_calls))]
+pub fn moments_and_serials_change_no_screen()
+    ensures { (events others : List CallEvent) (call other after : CallState) (steps : List Step) →
+        plain_call call ≡ plain_call other → map plain_event events ≡ map plain_event others →
+        AreSteps call events steps after →
+        (end : CallState) × (there : List Step) × AreSteps other others there end
+        × (plain_call after ≡ plain_call end) × (map sent_by steps ≡ map sent_by there) }
+{}
+
+/// A law: what a call owes is its own. A charge that it owes has its serial, its line number and its account, and is for
+/// the frame that is kept aside.
+#[tactic(auto, using(crate::proofs::Callers::new_is, crate::proofs::Callers::call_lasts))]
+pub fn a_call_owes_what_is_its_own()
+    ensures begins { IsCall new_call }
+    ensures lasts { (call after : CallState) (event : CallEvent) (step : Step) →
+        IsCall call → Happens call event after step → IsCall after }
+{}
+
+/// A law: a caller stays who he is. The serial of his call and its line number change at a reply to what it owes alone,
+/// and his account stays once he has logged on.
+#[tactic(auto, using(crate::proofs::Callers::same_caller))]
+pub fn a_caller_stays_who_he_is()
+    ensures { (call after : CallState) (event : CallEvent) (step : Step) →
+        IsCall call → Happens call event after step → IsSameCaller call event after }
 {}

@@ -1,6 +1,8 @@
-ghost use Rattle.std.specs.Prelude.{◌≡◌, Some};
+ghost use Rattle.std.specs.Prelude.{◌≡◌, ◌≤◌, Some};
+ghost use Rattle.pv_page.specs.Names.{IsName};
 ghost use Rattle.pv_frame.specs.Errors.{IsValid};
 
+use pv_charge::MAX_PRICE;
 use pv_frame::Frame;
 use pv_page::{FrameName, PageNo};
 use pv_screen::{Screen, compose};
@@ -42,9 +44,19 @@ impl Present {
 
     /// Its name.
     pub(crate) fn name(&self) -> FrameName
-        ensures { result ≡ self.now.name }
+        ensures value { result ≡ self.now.name }
+        ensures within { IsName result }
     {
+        self.name.within();
         self.name
+    }
+
+    /// Its price in pence.
+    pub(crate) fn price(&self) -> u16
+        ensures value { result ≡ self.now.frame.price }
+        ensures within { result ≤ MAX_PRICE }
+    {
+        self.frame.price
     }
 
     /// Where its route of a digit leads.

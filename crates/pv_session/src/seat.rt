@@ -1,5 +1,6 @@
-ghost use Rattle.std.specs.Prelude.{◌≡◌, ◌<◌, false};
+ghost use Rattle.std.specs.Prelude.{◌≡◌, ◌+◌, ◌<◌, ◌≤◌, false, IfSome};
 ghost use Rattle.pv_session.specs.declared.seat.TheConstants.{TRIES};
+ghost use Rattle.pv_session.specs.State.{charges_in};
 
 mod browse;
 
@@ -13,6 +14,7 @@ use crate::present::Present;
 use crate::reading::Reading;
 use crate::step::{Paid, Phase, Step, Why, Wish};
 use pv_account::AccountNo;
+use pv_charge::LAST_MOMENT;
 use pv_edits::Sight;
 use pv_keys::KeyReader;
 use pv_screen::Screen;
@@ -34,15 +36,19 @@ pub struct Seat {
     failed: u8,
     account: Option<AccountNo>,
     serial: Option<u64>,
+    lines: u32,
+    aside: Option<Present>,
     present: Option<Present>,
     earlier: Earlier,
     bytes: u32,
     entries: u16,
     ghost tries_left: { failed < TRIES },
+    ghost charged_at_entries: { lines + charges_in phase ≤ entries },
 }
 
 impl Seat {
     ghost use Rattle.pv_edits.specs.Sight.{view_of};
+    ghost use Rattle.pv_session.specs.Charging.{IsSeatWish, IsStorable};
     ghost use Rattle.pv_session.specs.Fetching.{ending_turn};
     ghost use Rattle.pv_session.specs.Messages.{screen_of_blank};
     ghost use Rattle.pv_session.specs.Seat.{state_of};
@@ -61,6 +67,8 @@ impl Seat {
             failed: 0,
             account: None,
             serial: None,
+            lines: 0,
+            aside: None,
             present: None,
             earlier: Earlier::new(),
             bytes: 0,
@@ -69,21 +77,28 @@ impl Seat {
         (seat, Message::KeyAccount.on_blank())
     }
 
-    /// Takes a byte. The sight is that of [`Seat::account`]. A seat that owes something or whose call is over takes no
-    /// byte, and returns [`Step::Quiet`].
-    pub fn key(&mut self, byte: u8, sight: &Sight) -> Step
-        ensures turn { IsTurn (state_of self.old) byte (view_of sight.now) (state_of self.new) result }
+    /// Takes a byte at a moment, in seconds since 1970. The sight is that of [`Seat::account`]. A seat that owes
+    /// something or whose call is over takes no byte, and returns [`Step::Quiet`].
+    pub fn key(&mut self, byte: u8, sight: &Sight, moment: u32) -> Step
+        requires { moment ≤ LAST_MOMENT }
+        ensures turn { IsTurn (state_of self.old) byte (view_of sight.now) moment
+            (state_of self.new) result }
 
-        // A screen that is sent can be shown.
+        // A screen that is sent can be shown, and what is owed can be stored.
         ensures cells { CanBeShown result }
+        ensures valid { IsStorable result }
     {
         match self.phase {
-            Phase::Listening => self.listen(byte, sight),
+            Phase::Listening => {
+                let step = self.listen(byte, sight, moment);
+                step.within();
+                step
+            }
             Phase::Owing(_) | Phase::Over => Step::Quiet,
         }
     }
 
-    /// Goes on after the centre stored what the seat owes. If it owes nothing, nothing changes.
+    /// Goes on after the centre stored what the seat owes. If it owes nothing or this is another reply, nothing changes.
     pub fn paid(&mut self, reply: Paid) -> Step
         ensures turn { Goes (storing_turn (state_of self.old) (state_of self.old).phase reply)
             (state_of self.new) result }
@@ -96,6 +111,7 @@ impl Seat {
                 self.reading = Reading::Browse(KeyReader::new());
                 Step::Show(Message::Welcome.on_blank())
             }
+            (Phase::Owing(Wish::Charge(_)), Paid::Stored) => self.charged(),
             _ => Step::Quiet,
         }
     }
@@ -129,10 +145,14 @@ impl Seat {
 
     /// What is to be stored. `None` exactly when nothing is.
     pub fn wish(&self) -> Option<Wish>
-        ensures { result ≡ wish_in (state_of self.now).phase }
+        ensures value { result ≡ wish_in (state_of self.now).phase }
+        ensures valid { IfSome result IsSeatWish }
     {
         match self.phase {
-            Phase::Owing(wish) => Some(wish),
+            Phase::Owing(wish) => {
+                wish.within();
+                Some(wish)
+            }
             Phase::Listening | Phase::Over => None,
         }
     }
@@ -144,6 +164,13 @@ impl Seat {
         self.serial
     }
 
+    /// How many priced frames were charged and shown: the number of the next charge.
+    pub fn lines(&self) -> u32
+        ensures { result ≡ (state_of self.now).lines }
+    {
+        self.lines
+    }
+
     /// How many entries were keyed.
     pub fn entries(&self) -> u16
         ensures { result ≡ (state_of self.now).entries }
@@ -152,27 +179,32 @@ impl Seat {
     }
 
     /// Takes a byte, unless the call is spent.
-    fn listen(&mut self, byte: u8, sight: &Sight) -> Step
-        ensures { Listens (is_spent (state_of self.old)) (state_of self.old) byte (view_of sight.now)
+    fn listen(&mut self, byte: u8, sight: &Sight, moment: u32) -> Step
+        requires listens { self.old.phase ≡ Phase.Listening }
+        requires moment { moment ≤ LAST_MOMENT }
+        ensures { Listens (is_spent (state_of self.old)) (state_of self.old) byte (view_of sight.now) moment
             (state_of self.new) result }
     {
         if self.is_spent() {
             self.end(Why::Spent, Message::CallEnded)
         } else {
-            self.hear(byte, sight)
+            self.hear(byte, sight, moment)
         }
     }
 
     /// Takes a byte of a call that is not spent.
-    fn hear(&mut self, byte: u8, sight: &Sight) -> Step
-        requires { is_spent (state_of self.old) ≡ false }
-        ensures { Hears (state_of self.old) byte (view_of sight.now) (state_of self.new) result }
+    fn hear(&mut self, byte: u8, sight: &Sight, moment: u32) -> Step
+        requires lasts { is_spent (state_of self.old) ≡ false }
+        requires listens { self.old.phase ≡ Phase.Listening }
+        requires moment { moment ≤ LAST_MOMENT }
+        ensures { Hears (state_of self.old) byte (view_of sight.now) moment
+            (state_of self.new) result }
     {
         self.bytes += 1;
         match self.reading.take(byte) {
             Some(entry) => {
                 self.entries += 1;
-                self.enter(entry, sight)
+                self.enter(entry, sight, moment)
             }
             None => Step::Quiet,
         }
@@ -195,8 +227,11 @@ impl Seat {
     }
 
     /// Does what an entry asks for.
-    fn enter(&mut self, entry: Entry, sight: &Sight) -> Step
-        ensures { Goes (entry_turn (state_of self.old) (view_of sight.now) entry) (state_of self.new) result }
+    fn enter(&mut self, entry: Entry, sight: &Sight, moment: u32) -> Step
+        requires uncharged { self.old.lines < self.old.entries }
+        requires moment { moment ≤ LAST_MOMENT }
+        ensures { Goes (entry_turn (state_of self.old) (view_of sight.now) moment entry)
+            (state_of self.new) result }
     {
         match entry {
             Entry::Account(account) => {
@@ -207,7 +242,7 @@ impl Seat {
             Entry::Password(password) => {
                 self.log_on(known_caller(self.account, sight.account(), &password))
             }
-            Entry::Command(command) => self.obey(command, sight),
+            Entry::Command(command) => self.obey(command, sight, moment),
         }
     }
 

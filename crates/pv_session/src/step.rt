@@ -1,4 +1,7 @@
+ghost use Rattle.pv_session.specs.Charging.{IsSeatWish, IsStorable};
+
 use pv_account::AccountNo;
+use pv_charge::Line;
 use pv_screen::Screen;
 
 /// What a seat asks its centre to store.
@@ -6,6 +9,8 @@ use pv_screen::Screen;
 pub enum Wish {
     /// That this account has logged on.
     LogOn(AccountNo),
+    /// This charge, for a priced frame.
+    Charge(Line),
 }
 
 /// What the centre stored.
@@ -13,6 +18,8 @@ pub enum Wish {
 pub enum Paid {
     /// A log-on, and the serial of the call.
     Serial(u64),
+    /// What was owed otherwise.
+    Stored,
 }
 
 /// Why a call ended.
@@ -50,4 +57,29 @@ pub enum Phase {
     Owing(Wish),
     /// The call is over.
     Over,
+}
+
+impl Wish {
+    /// Its parts are within their ranges, by their types. This does nothing.
+    pub(crate) fn within(&self)
+        ensures { IsSeatWish self.now }
+    {
+        match self {
+            Wish::LogOn(account) => {
+                let _ = account.number();
+            }
+            Wish::Charge(line) => line.within(),
+        }
+    }
+}
+
+impl Step {
+    /// What is owed can be stored, by its type. This does nothing.
+    pub(crate) fn within(&self)
+        ensures { IsStorable self.now }
+    {
+        if let Step::Owe(wish) = self {
+            wish.within();
+        }
+    }
 }

@@ -1,5 +1,6 @@
 use crate::{MAX_BYTES, MAX_ENTRIES, Message, Paid, Seat, Step, Why, Wish};
 use pv_account::{Account, AccountNo, Groups, LAST_CENTRE, digest};
+use pv_charge::{LAST_MOMENT, Line};
 use pv_edits::{Base, Record, Sight};
 use pv_frame::{CheckedFrame, Frame};
 use pv_outside::Limits;
@@ -23,13 +24,15 @@ enum Sent {
     Row(Message),
     /// A message on a blank screen.
     Alone(Message),
-    /// The frame of a name.
+    /// The free frame of a name.
     Page(&'static [u8]),
+    /// The frame of a name, at a price.
+    Priced(&'static [u8], u16),
     /// A message, and the call is over.
     Over(Why, Message),
 }
 
-use Sent::{Alone, Nothing, Over, Page, Row};
+use Sent::{Alone, Nothing, Over, Page, Priced, Row};
 
 fn number(number: u64) -> Result<AccountNo, Fail> {
     Ok(AccountNo::of_number(number).ok_or("an account's number")?)
@@ -61,8 +64,9 @@ fn new_account(account: Option<Account>) -> Result<Record, Fail> {
 }
 
 /// A frame with a route 2 to page 2. Page 70 is closed to all but group 7.
-fn frame_of(name: FrameName) -> Result<CheckedFrame, Fail> {
+fn priced_frame(name: FrameName, price: u16) -> Result<CheckedFrame, Fail> {
     let mut frame = Frame::blank();
+    frame.price = price;
     frame.routes[2] = PageNo::of_number(2);
     if name.page.number() == 70 {
         frame.group = 7;
@@ -75,6 +79,19 @@ fn absorb(base: &mut Base, record: &Record) {
     if base.count() < u64::from(base.limits().records) && base.has_room(record) {
         base.absorb(record, 0);
     }
+}
+
+/// Gives a frame a price.
+fn price(base: &mut Base, text: &[u8], price: u16) -> Result<(), Fail> {
+    let name = name(text)?;
+    let put = Record::Put {
+        editor: number(0)?,
+        q: 3,
+        name,
+        frame: priced_frame(name, price)?,
+    };
+    absorb(base, &put);
+    Ok(())
 }
 
 /// A base with a member of group 7 and a stranger at home at centre 0, another account at home at centre 1, and these
@@ -90,20 +107,29 @@ fn base_of(alloc: Global, names: &[&[u8]]) -> Result<Base, Fail> {
             editor: number(0)?,
             q: 2,
             name,
-            frame: frame_of(name)?,
+            frame: priced_frame(name, 0)?,
         };
         absorb(&mut base, &put);
     }
     Ok(base)
 }
 
+/// The reply to what was stored: the serial of each call is 9.
+fn reply_to(wish: Wish) -> Paid {
+    match wish {
+        Wish::LogOn(_) => Paid::Serial(9),
+        Wish::Charge(_) => Paid::Stored,
+    }
+}
+
 /// Keys bytes at centre 0, one after another. What is owed is stored at once. The step is the last one that is not quiet.
 fn keyed(seat: &mut Seat, keys: &[u8], base: &Base) -> Step {
     let mut last = Step::Quiet;
     for key in keys {
-        let mut step = seat.key(*key, &Sight::new(base, 0, seat.account()));
-        if seat.owes() {
-            step = seat.paid(Paid::Serial(9));
+        let sight = Sight::new(base, 0, seat.account());
+        let mut step = seat.key(*key, &sight, 0);
+        if let Some(wish) = seat.wish() {
+            step = seat.paid(reply_to(wish));
         }
         if step != Step::Quiet {
             last = step;
@@ -119,16 +145,21 @@ fn logged_on(keys: &[u8], base: &Base) -> Seat {
     seat
 }
 
+/// What shows the frame of a name at a price.
+fn show_at(text: &[u8], price: u16) -> Result<Step, Fail> {
+    let name = name(text)?;
+    let frame = priced_frame(name, price)?;
+    Ok(Step::Show(Screen::Whole(compose(frame.frame(), name))))
+}
+
 /// The step that sends this.
 fn step_of(sent: Sent) -> Result<Step, Fail> {
     Ok(match sent {
         Nothing => Step::Quiet,
         Row(message) => Step::Show(Screen::Row(message.row())),
         Alone(message) => Step::Show(message.on_blank()),
-        Page(text) => {
-            let name = name(text)?;
-            Step::Show(Screen::Whole(compose(frame_of(name)?.frame(), name)))
-        }
+        Page(text) => show_at(text, 0)?,
+        Priced(text, price) => show_at(text, price)?,
         Over(why, message) => Step::Ended(why, Screen::Row(message.row())),
     })
 }
@@ -322,9 +353,11 @@ fn a_log_on_is_stored_first(rt: HostRuntime) -> Result<(), Fail> {
     let _ = keyed(&mut seat, b"1000000001ABC", &base);
     let caller = number(1_000_000_001)?;
     let sight = Sight::new(&base, 0, Some(caller));
-    assert!(rt; seat.key(b'D', &sight) == Step::Owe(Wish::LogOn(caller)));
+    assert!(rt; seat.key(b'D', &sight, 0) == Step::Owe(Wish::LogOn(caller)));
     assert!(rt; seat.owes());
-    assert!(rt; seat.key(b'1', &sight) == Step::Quiet);
+    assert!(rt; seat.key(b'1', &sight, 0) == Step::Quiet);
+    assert!(rt; seat.paid(Paid::Stored) == Step::Quiet);
+    assert!(rt; seat.owes());
     let mut away = seat;
     assert!(rt; away.turned_away() == step_of(Over(Why::Full, Message::PleaseTryLater))?);
     assert!(rt; !away.owes());
@@ -347,7 +380,88 @@ fn a_call_has_a_last_entry_and_a_last_byte(rt: HostRuntime) -> Result<(), Fail> 
     play(&rt, &mut seat, &base, &[spent, (b"1", Nothing)])?;
     let (mut silent, _) = Seat::dial();
     for _ in 0..MAX_BYTES {
-        assert!(rt; silent.key(b' ', &Sight::new(&base, 0, None)) == Step::Quiet);
+        assert!(rt; silent.key(b' ', &Sight::new(&base, 0, None), 0) == Step::Quiet);
     }
     play(&rt, &mut silent, &base, &[spent])
+}
+
+#[test]
+fn each_fetch_of_a_priced_frame_is_charged(rt: HostRuntime) -> Result<(), Fail> {
+    let names: [&[u8]; 4] = [b"0a", b"1a", b"2a", b"2b"];
+    let mut base = base_of(rt.alloc(), &names)?;
+    for text in names {
+        price(&mut base, text, 7)?;
+    }
+    let rows: [(&[u8], u32); 8] = [
+        (b"#", 1),
+        (b"*1#", 1),
+        (b"*1#2", 2),
+        (b"*2##", 2),
+        (b"*1#*2#*#", 3),
+        (b"*1#*09", 2),
+        (b"*1#*00*00", 1),
+        (b"*3#*1#*3#", 1),
+    ];
+    for (keys, lines) in rows {
+        let mut seat = logged_on(b"1000000001ABCD", &base);
+        assert_eq!(rt; seat.lines(), 0);
+        let _ = keyed(&mut seat, keys, &base);
+        assert_eq!(rt; seat.lines(), lines, "{keys:?}");
+    }
+    Ok(())
+}
+
+/// The charge of the member's first call for frame 1a, at the last moment.
+fn line() -> Option<Line> {
+    Some(Line {
+        serial: 9,
+        number: 0,
+        account: AccountNo::of_number(1_000_000_001)?,
+        name: FrameName::of_text(b"1a")?,
+        price: 99,
+        moment: LAST_MOMENT,
+    })
+}
+
+/// A caller logs on and fetches frame 1a at the last moment.
+fn fetch(seat: &mut Seat, base: &Base) {
+    let _ = keyed(seat, b"1000000001ABCD*1", base);
+    let sight = Sight::new(base, 0, seat.account());
+    let _ = seat.key(b'#', &sight, LAST_MOMENT);
+}
+
+#[test]
+fn a_frame_is_shown_at_the_price_of_its_fetch(rt: HostRuntime) -> Result<(), Fail> {
+    let mut base = base_of(rt.alloc(), &[])?;
+    price(&mut base, b"1a", 99)?;
+    let (mut seat, _) = Seat::dial();
+    fetch(&mut seat, &base);
+    let line = line().ok_or("a line")?;
+    assert!(rt; seat.wish() == Some(Wish::Charge(line)));
+    price(&mut base, b"1a", 5)?;
+    assert!(rt; seat.paid(Paid::Serial(1)) == Step::Quiet);
+    assert!(rt; seat.owes());
+    assert_eq!(rt; seat.lines(), 0);
+    assert!(rt; seat.paid(Paid::Stored) == step_of(Priced(b"1a", 99))?);
+    assert!(rt; !seat.owes());
+    assert_eq!(rt; seat.lines(), 1);
+    assert!(rt; seat.paid(Paid::Stored) == Step::Quiet);
+    let rows: [(&[u8], Sent); 2] = [(b"*00", Priced(b"1a", 99)), (b"*09", Priced(b"1a", 5))];
+    play(&rt, &mut seat, &base, &rows)?;
+    assert_eq!(rt; seat.lines(), 2);
+    Ok(())
+}
+
+#[test]
+fn a_full_centre_charges_nothing(rt: HostRuntime) -> Result<(), Fail> {
+    let mut base = base_of(rt.alloc(), &[])?;
+    price(&mut base, b"1a", 99)?;
+    let (mut seat, _) = Seat::dial();
+    fetch(&mut seat, &base);
+    assert!(rt; seat.wish().is_some());
+    assert!(rt; seat.turned_away() == step_of(Over(Why::Full, Message::PleaseTryLater))?);
+    assert!(rt; !seat.owes());
+    assert!(rt; seat.paid(Paid::Stored) == Step::Quiet);
+    assert_eq!(rt; seat.lines(), 0);
+    Ok(())
 }

@@ -3,6 +3,7 @@ ghost use Rattle.pv_network.specs.declared.event.TheConstants.{PORTS};
 ghost use Rattle.pv_network.specs.Calling.{step_of_dial, step_of_store, step_of_show, step_of_hang};
 ghost use Rattle.pv_network.specs.Standing.{Performs, Presses};
 
+use crate::laws::seats_keep_their_own;
 use crate::network::Network;
 use crate::outcome::Outcome;
 use pv_nodes::a_centre_shows_what_the_list_shows;
@@ -15,6 +16,7 @@ impl Network {
         ensures performs { Performs self.old self.new result (λ w. step_of_dial w centre port) }
         ensures centres { length self.new.centres ≡ length self.old.centres }
     {
+        seats_keep_their_own();
         self.centres[centre].dial(port)
     }
 
@@ -26,7 +28,9 @@ impl Network {
         ensures centres { length self.new.centres ≡ length self.old.centres }
     {
         a_centre_shows_what_the_list_shows();
-        self.centres[centre as usize].press(port, key)
+        seats_keep_their_own();
+        let moment = self.moment.seconds();
+        self.centres[centre as usize].press(port, key, moment)
     }
 
     /// A centre stores what the call at a port owes.
@@ -46,6 +50,7 @@ impl Network {
         ensures performs { Performs self.old self.new result (λ w. step_of_show w centre port) }
         ensures centres { length self.new.centres ≡ length self.old.centres }
     {
+        seats_keep_their_own();
         self.centres[centre].show(port)
     }
 

@@ -2,7 +2,7 @@ ghost use Rattle.std.specs.Prelude.{◌≡◌, ◌<◌, length, replicate, IfOk}
 ghost use Rattle.pv_editor.specs.Say.{new_seat};
 ghost use Rattle.pv_network.specs.declared.event.TheConstants.{EDITORS};
 ghost use Rattle.pv_network.specs.Crashing.{step_of_update_crash, step_of_centre_crash, step_of_crash};
-ghost use Rattle.pv_network.specs.Standing.{IsNode, Performs};
+ghost use Rattle.pv_network.specs.Standing.{IsThere, Performs};
 
 use crate::centre::AS_IT_READS;
 use crate::event::{EDITORS, NodeName};
@@ -14,14 +14,14 @@ use std::alloc::AllocError;
 impl Network {
     /// A node is lost, and opened again from its disk. The only error is that memory ran out for that.
     pub(super) fn crash(&mut self, node: NodeName) -> Result<Outcome, AllocError>
-        requires { IsNode self.old node }
+        requires { IsThere self.old node }
         ensures performs { IfOk result
             (λ outcome. Performs self.old self.new outcome (λ w. step_of_crash w node)) }
         ensures centres { length self.new.centres ≡ length self.old.centres }
     {
         match node {
             NodeName::Udc => self.crash_update(),
-            NodeName::Centre(centre) => self.crash_centre(centre as usize),
+            NodeName::Centre(centre) => self.crash_centre(centre),
         }
     }
 
@@ -35,20 +35,21 @@ impl Network {
         let alloc = *self.centres.allocator();
         self.update.crash(alloc, AS_IT_READS)?;
         self.seats = new_seats();
-        self.links.renew();
+        self.links.renew_down();
         let count = self.update.count();
         Ok(Outcome::Crashed { count })
     }
 
-    /// A centre is lost, and opened again from its disk. Its calls are over.
-    fn crash_centre(&mut self, centre: usize) -> Result<Outcome, AllocError>
+    /// A centre is lost, and opened again from its disk. Its calls are over, and its end, which sends items up, is new.
+    fn crash_centre(&mut self, centre: u8) -> Result<Outcome, AllocError>
         requires { centre < length self.old.centres }
         ensures performs { IfOk result
             (λ outcome. Performs self.old self.new outcome (λ w. step_of_centre_crash w centre)) }
         ensures centres { length self.new.centres ≡ length self.old.centres }
     {
         let alloc = *self.centres.allocator();
-        let outcome = self.centres[centre].crash(alloc)?;
+        let outcome = self.centres[centre as usize].crash(alloc)?;
+        self.links.renew_up(centre);
         Ok(outcome)
     }
 }

@@ -1,8 +1,14 @@
 use Rattle.std.proofs.Common.{◌+◌}
-use Rattle.pv_network.specs.Traffic.{packet_room}
-use Rattle.pv_network.proofs.Carried.{carried_has_all}
+use Rattle.pv_network.specs.Traffic.{no_load, packet_room}
+use Rattle.pv_network.specs.declared.way.Way.TheVariants as ways
+use Rattle.pv_network.proofs.Carried.{carried_has_both}
 use Rattle.pv_network.proofs.laws.a_carried_centre_has_every_record.Goals as goal
 
--- nothing is left to send once the end heard of all, and it heard of no more than the centre has
-pub returns : goal.returns
-returns c = λ w centre records items sound is. carried_has_all centre records items (packet_room w.links + 1) w 0 sound is
+-- Both ends are idle once they heard of all, and they heard of no more than was received.
+pub returns-clause-records : goal.returns-clause-records
+returns-clause-records c = λ w centre records items sound is.
+    (carried_has_both records items centre (packet_room w.links + 1) w ways.Down no_load sound is).0
+
+pub returns-clause-items : goal.returns-clause-items
+returns-clause-items c = λ w centre records items sound is.
+    (carried_has_both records items centre (packet_room w.links + 1) w ways.Down no_load sound is).1

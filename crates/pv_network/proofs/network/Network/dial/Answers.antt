@@ -11,7 +11,7 @@ use Rattle.pv_network.proofs.network.Network.dial.Goals.{After-dial}
 abbrev before : After-dial → State
 before c =
     let n = c.self.inside in
-    record { update = n.update.state; disk = n.update.disk; seats = n.seats; centres = n.centres.items; links = n.links; is_out = n.is_out }
+    record { update = n.update.state; disk = n.update.disk; moment = n.moment; seats = n.seats; centres = n.centres.items; links = n.links; is_out = n.is_out }
 
 -- the call begins in the world too
 done : (c : After-dial) (w : World) → StandsFor (before c) w
@@ -19,7 +19,7 @@ done : (c : After-dial) (w : World) → StandsFor (before c) w
     (step_of_dial w c.args.centre c.args.port).0 × (c.dial.result ≡ (step_of_dial w c.args.centre c.args.port).1)
 done c w stands =
     dials _ w stands c.args.centre c.index_mut.result.now (rw (← c.self.view_is) at c.requires.centre) c.index_mut.ensures.value
-    c.args.port c.dial.new.self c.dial.result c.dial.ensures
+    c.args.port c.dial.new.self c.dial.result c.seats_keep_their_own.ensures c.dial.ensures
 
 pub invariant_of-self : goal.invariant_of-self
 invariant_of-self c =

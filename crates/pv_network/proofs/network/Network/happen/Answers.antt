@@ -49,11 +49,14 @@ returns-clause-performs c = λ w stands.
       | goal.in-Send b ↦
           let done = b.send.ensures.performs w stands in
           (any, rw b.in-Send.is tt, rw (b.in-Send.is, b.self-is) done.0, rw (b.in-Send.is, b.result-is) done.1)
+      | goal.in-Post b ↦
+          let done = b.send-in-Post.ensures.performs w stands in
+          (any, rw b.in-Post.is tt, rw (b.in-Post.is, b.self-is) done.0, rw (b.in-Post.is, b.result-is) done.1)
       | goal.in-Deliver b ↦
-          let done = b.deliver.ensures.performs w stands in
+          let done = b.arrive.ensures.performs w stands in
           (any, rw b.in-Deliver.is tt, rw (b.in-Deliver.is, b.self-is) done.0, rw (b.in-Deliver.is, b.result-is) done.1)
       | goal.in-Back b ↦
-          let done = b.back.ensures.performs w stands in
+          let done = b.arrive-in-Back.ensures.performs w stands in
           (any, rw b.in-Back.is tt, rw (b.in-Back.is, b.self-is) done.0, rw (b.in-Back.is, b.result-is) done.1)
       | goal.in-Carry b ↦
           let done = b.carry.ensures.performs w stands in
@@ -61,6 +64,9 @@ returns-clause-performs c = λ w stands.
       | goal.in-Crash+in_ok-crash-in-Crash b ↦
           let done = b.in_ok-crash-in-Crash.ensures.performs w stands in
           (any, rw b.in-Crash.is tt, rw (b.in-Crash.is, b.self-is) done.0, rw (b.in-Crash.is, b.result-is) done.1)
+      | goal.in-Clock b ↦
+          let done = b.clock.ensures.performs w stands in
+          (any, rw b.in-Clock.is tt, rw (b.in-Clock.is, b.self-is) done.0, rw (b.in-Clock.is, b.result-is) done.1)
       | goal.in-View b ↦
           let done = b.view.ensures w stands in
           (any, rw b.in-View.is tt, rw (b.in-View.is, b.self-is) done.0, rw (b.in-View.is, b.result-is) done.1)
@@ -70,4 +76,10 @@ returns-clause-performs c = λ w stands.
       | goal.in-List b ↦
           let done = b.list.ensures w stands in
           (any, rw b.in-List.is tt, rw (b.in-List.is, b.self-is) done.0, rw (b.in-List.is, b.result-is) done.1)
+      | goal.in-Bill+in_ok-bill-in-Bill b ↦
+          let done = b.in_ok-bill-in-Bill.ensures w stands in
+          (any, rw b.in-Bill.is tt, rw (b.in-Bill.is, b.self-is) done.0, rw (b.in-Bill.is, b.result-is) done.1)
+      | goal.in-Lines+in_ok-lines-in-Lines b ↦
+          let done = b.in_ok-lines-in-Lines.ensures w stands in
+          (any, rw b.in-Lines.is tt, rw (b.in-Lines.is, b.self-is) done.0, rw (b.in-Lines.is, b.result-is) done.1)
     ]

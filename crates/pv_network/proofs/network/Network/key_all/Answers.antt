@@ -52,6 +52,12 @@ loop-byte-preserved-else-is_over c = record {
   centres = c.key-outcome.ensures.centres ∙ c.loop-byte.invariant.centres;
 }
 
+pub loop-byte-preserved-else-is_over-2 : goal.loop-byte-preserved-else-is_over-2
+loop-byte-preserved-else-is_over-2 c = record {
+  taken = goes_on (goal.at.loop-byte-preserved-else-is_over-2 c).After-is_over c.if-is_over.false;
+  centres = c.key-outcome.ensures.centres ∙ c.loop-byte.invariant.centres;
+}
+
 -- the rest is shorter
 pub loop-byte-smaller : goal.loop-byte-smaller
 loop-byte-smaller c = notation_shorter _ _ _ c.in-Some.ensures.found

@@ -5,6 +5,7 @@ use Rattle.pv_network.specs.Centre.{Centre, CentreStands, new_centre}
 use Rattle.pv_network.specs.Link.{new_link}
 use Rattle.pv_network.specs.Standing.{StandsFor}
 use Rattle.pv_network.specs.World.{start}
+use Rattle.pv_network.proofs.Charged.{charged_start}
 use Rattle.pv_network.proofs.Soundness.{sound_start, copy_at}
 use Rattle.pv_network.proofs.network.Network.open.Goals as goal
 use Rattle.pv_network.proofs.network.Network.open.Goals.{In_ok-open-2}
@@ -14,6 +15,7 @@ started : (c : In_ok-open-2) → StandsFor
     (record {
       update = c.in_ok-open.field-0.state;
       disk = c.in_ok-open.field-0.disk;
+      moment = c.of.result;
       seats = c.new.result ∷ c.new.result ∷ c.new.result ∷ c.new.result ∷ [];
       centres = c.in_ok-open_centres.field-0.items;
       links = c.in_ok-open-2.field-0;
@@ -24,8 +26,10 @@ started c =
     let made = c.in_ok-open_centres.ensures in
     record {
       sound = sound_start c.args.centres limits;
+      charged = charged_start c.args.centres limits;
       update = c.in_ok-open.ensures.nothing;
       on_disk = c.in_ok-open.ensures.on_disk;
+      moment = c.of.ensures;
       seats = rw c.new.ensures refl;
       centres = record {
         count = made.count_is ∙ sym (length-replicate c.args.centres new_centre);

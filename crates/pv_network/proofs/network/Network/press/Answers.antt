@@ -13,7 +13,7 @@ use Rattle.pv_network.proofs.network.Network.press.Goals.{After-press}
 abbrev before : After-press → State
 before c =
     let n = c.self.inside in
-    record { update = n.update.state; disk = n.update.disk; seats = n.seats; centres = n.centres.items; links = n.links; is_out = n.is_out }
+    record { update = n.update.state; disk = n.update.disk; moment = n.moment; seats = n.seats; centres = n.centres.items; links = n.links; is_out = n.is_out }
 
 -- the key makes an entry in the world, and does there what it does here
 done : (c : After-press) (w : World) → StandsFor (before c) w
@@ -23,7 +23,8 @@ done : (c : After-press) (w : World) → StandsFor (before c) w
     × (c.press.result ≡ (step_of_press w c.args.centre c.args.port c.args.key entry).1)
 done c w stands =
     presses _ w stands c.args.centre c.index_mut.result.now (rw (← c.self.view_is) at c.requires.centre) c.index_mut.ensures.value
-    c.args.port c.press.new.self c.press.result c.a_centre_shows_what_the_list_shows.ensures.sight c.args.key c.press.ensures
+    c.args.port c.press.new.self c.press.result c.seats_keep_their_own.ensures c.a_centre_shows_what_the_list_shows.ensures.sight c.args.key c.seconds-moment.result
+    (c.seconds-moment.ensures.value ∙ stands.moment) c.press.ensures
 
 pub invariant_of-self : goal.invariant_of-self
 invariant_of-self c =

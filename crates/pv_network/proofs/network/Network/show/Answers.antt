@@ -11,7 +11,7 @@ use Rattle.pv_network.proofs.network.Network.show.Goals.{After-show}
 abbrev before : After-show → State
 before c =
     let n = c.self.inside in
-    record { update = n.update.state; disk = n.update.disk; seats = n.seats; centres = n.centres.items; links = n.links; is_out = n.is_out }
+    record { update = n.update.state; disk = n.update.disk; moment = n.moment; seats = n.seats; centres = n.centres.items; links = n.links; is_out = n.is_out }
 
 -- the caller is shown the same in the world
 done : (c : After-show) (w : World) → StandsFor (before c) w
@@ -19,7 +19,7 @@ done : (c : After-show) (w : World) → StandsFor (before c) w
     (step_of_show w c.args.centre c.args.port).0 × (c.show.result ≡ (step_of_show w c.args.centre c.args.port).1)
 done c w stands =
     shows _ w stands c.args.centre c.index_mut.result.now (rw (← c.self.view_is) at c.requires.centre) c.index_mut.ensures.value
-    c.args.port c.show.new.self c.show.result c.show.ensures
+    c.args.port c.show.new.self c.show.result c.seats_keep_their_own.ensures c.show.ensures
 
 pub invariant_of-self : goal.invariant_of-self
 invariant_of-self c =

@@ -15,7 +15,7 @@ use Rattle.pv_network.proofs.network.Network.take_line.Goals.{After-line}
 abbrev before : After-line → State
 before c =
     let n = c.self.inside in
-    record { update = n.update.state; disk = n.update.disk; seats = n.seats; centres = n.centres.items; links = n.links; is_out = n.is_out }
+    record { update = n.update.state; disk = n.update.disk; moment = n.moment; seats = n.seats; centres = n.centres.items; links = n.links; is_out = n.is_out }
 
 -- the seat
 abbrev here : After-line → EditorSeat

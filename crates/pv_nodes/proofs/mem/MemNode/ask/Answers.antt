@@ -1,9 +1,6 @@
-use Rattle.std.proofs.Common.{◌≡◌, ℕ, List, None, Result, Ok, Err, sym, subst, ◌∙◌}
+use Rattle.std.proofs.Common.{sym, subst, ◌∙◌}
 use Rattle.pv_memory.specs.Medium.{Medium}
-use Rattle.pv_node.specs.Asking.{CarriesOut}
 use Rattle.pv_node.specs.Parts.{Parts}
-use Rattle.pv_node.specs.declared.decision.Told.{Told}
-use Rattle.pv_node.specs.declared.fault.AskFault.TheVariants.{Full}
 use Rattle.pv_nodes.proofs.Asked.{Done, done_ok, done_full}
 use Rattle.pv_nodes.proofs.mem.MemNode.ask.Given.{Over}
 use Rattle.pv_nodes.proofs.mem.MemNode.ask.Goals as goal

@@ -1,4 +1,4 @@
-use Rattle.std.proofs.Common.{◌≡◌, ap, sym, subst, ◌∙◌}
+use Rattle.std.proofs.Common.{sym, subst, ◌∙◌}
 use Rattle.pv_memory.specs.Medium.{Medium, moment_of, IsImage}
 use Rattle.pv_nodes.specs.Nodes.{OpensAgain}
 use Rattle.pv_nodes.proofs.Opened.{image_stands}

@@ -1,8 +1,8 @@
-use Rattle.std.proofs.Common.{rules, IsTrue, ℕ, ◌≡◌, ◌⊎◌, inl, inr, ◌<◌, ◌≤◌, eqb, length, [], get_or, subst, sym, ap, ◌∙◌, arith}
+use Rattle.std.proofs.Common.{rules, IsTrue, ℕ, ◌≡◌, ◌⊎◌, inl, inr, ◌<◌, eqb, length, [], get_or, subst, sym, ap, ◌∙◌, arith}
 use Rattle.std.specs.List.{list_any, position_or_len}
 use Rattle.indexmap.specs.IndexSet.{insert_key, spare}
 use Rattle.pv_post.specs.Boxes.{Boxes, has_box, with_letter}
-use Rattle.pv_post.proofs.Boxes.{has-inserted, has-kept, box_there, box-inserted, empty-inserted, length-inserted, index_of-within}
+use Rattle.pv_post.proofs.Boxes.{box_there, box-inserted, empty-inserted, length-inserted, index_of-within}
 use Rattle.pv_post.proofs.mailboxes.Mailboxes.arrive.Goals as goal
 
 -- there is room for him, as an owner or as one more
@@ -35,6 +35,7 @@ invariant_of-self c =
     let below : position_or_len (eqb c.args.to) c.self.inside.owners.keys < length (insert_key eqb c.self.inside.owners.keys c.args.to) = search rules in
     rw at (record {
       within = rw keys (search (rules, length-inserted c.args.to c.self.inside.owners.keys _ c.self.invariant.within inside));
+      distinct = c.index_for-index.ensures.unique c.self.invariant.distinct;
       reserved = search rules;
       empty = rw keys (empty-inserted [] _ _ c.self.invariant.empty c.args.to _ below);
     })
@@ -54,11 +55,6 @@ returns-clause-letters c = λ account.
     rw (sym c.self.view_is, box, at, keys)
     (box-inserted [] _ _ c.self.invariant.empty c.args.to account (λ letters. with_letter letters c.args.letter.now) inside below)
 
--- he is an owner now, and so is each who was
-pub returns-clause-boxed : goal.returns-clause-boxed
-returns-clause-boxed c = rw c.index_for-index.ensures.owners (has-inserted c.args.to c.self.inside.owners.keys)
-
-pub returns-clause-kept : goal.returns-clause-kept
-returns-clause-kept c = λ account has.
-    let owned = subst (λ (mail : Boxes). IsTrue (has_box mail account)) (sym c.self.view_is) has in
-    rw c.index_for-index.ensures.owners (has-kept account c.args.to c.self.inside.owners.keys owned)
+-- no owner was there twice
+pub returns-clause-distinct : goal.returns-clause-distinct
+returns-clause-distinct c = c.index_for-index.ensures.unique c.self.invariant.distinct

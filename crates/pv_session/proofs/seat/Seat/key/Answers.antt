@@ -8,4 +8,5 @@ use Rattle.pv_session.proofs.seat.Seat.key.Goals as goal
 pub returns-in-Listening-clause-cells : goal.returns-in-Listening-clause-cells
 returns-in-Listening-clause-cells c =
     let call = state_of c.args.self.now in
-    listens_shown (is_spent call) call (state_of c.listen.new.self) c.args.byte (view_of c.args.sight.now) c.listen.result c.listen.ensures
+    listens_shown (is_spent call) call (state_of c.listen-step.new.self) c.args.byte (view_of c.args.sight.now) c.args.moment
+    c.listen-step.result c.listen-step.ensures
