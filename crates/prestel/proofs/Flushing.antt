@@ -38,13 +38,27 @@ module _ (centres : ℕ) (first : World) (a b c : Option (List ℕ)) (kept : Kee
   -- the answers before a bad line stay written
   bad_line_kept : (text : List ℕ) (number : ℕ) → StopsAtBadLine centres first text number a b
       → StopsAtBadLine centres first text number a c
-  bad_line_kept text number p = record { run = p.run; bad = p.bad; later = p.later;
-      lines = p.lines; place = p.place; none = p.none; transcript = transcript_kept p.run p.transcript }
+  bad_line_kept text number p = record {
+    run = p.run;
+    bad = p.bad;
+    later = p.later;
+    lines = p.lines;
+    place = p.place;
+    none = p.none;
+    transcript = transcript_kept p.run p.transcript;
+  }
 
   -- a prefix of the answers stays written
   in_answers_kept : (text : List ℕ) → StopsInAnswers centres first text a b → StopsInAnswers centres first text a c
-  in_answers_kept text p = record { run = p.run; later = p.later; runs = p.runs; lines = p.lines; read = p.read; count = p.count;
-      written = Appends-kept a b c _ p.written kept }
+  in_answers_kept text p = record {
+    run = p.run;
+    later = p.later;
+    runs = p.runs;
+    lines = p.lines;
+    read = p.read;
+    count = p.count;
+    written = Appends-kept a b c _ p.written kept;
+  }
 
   -- the answers of the first lines stay written
   after_line_kept : (text : List ℕ) → StopsAfterLine centres first text a b → StopsAfterLine centres first text a c
