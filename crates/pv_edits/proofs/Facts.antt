@@ -1,10 +1,11 @@
 -- Worked examples, computed from the definitions: small edit lists, and the spellings of small records.
-use Rattle.std.proofs.Common.{◌≡◌, ℕ, ◌∷◌, [], refl}
+use Rattle.std.proofs.Common.{◌≡◌, ℕ, List, ◌∷◌, [], refl}
 use Rattle.std.specs.Prelude.{Some, None}
 use Rattle.pv_outside.specs.declared.clock.TheConstants.{CLOCK_END}
 use Rattle.pv_page.specs.Names.{Name}
 use Rattle.pv_charge.specs.declared.line.TheConstants.{LAST_MOMENT}
 use Rattle.pv_frame.specs.Content.{Content, blank_frame}
+use Rattle.pv_post.specs.Boxes.{WaitingLetter}
 use Rattle.pv_edits.specs.Record.{record_bytes, drop_bytes, lease_bytes}
 use Rattle.pv_edits.specs.Down.{down_bytes}
 use Rattle.pv_edits.specs.Edits.{frame_at, account_at, last_of, operator_profile}
@@ -94,16 +95,30 @@ pub spelling-of_blank : down_bytes Blank ≡ 6 ∷ []
 unfolding down_bytes
 spelling-of_blank = refl
 
--- the operator is at home at centre 0: there he sees what is open to all, and no frame of a group
-pub seen-at_home : (sight_of (Put 0 1 page_1a blank_frame ∷ []) 0 (Some 0)).pages page_1a ≡ Some blank_frame
+-- two letters wait for each account
+abbrev pub letter_under : ℕ → WaitingLetter
+letter_under number = record { number = number; sender = 0; moment = 0; text = [] }
+
+abbrev pub each_waits : ℕ → List WaitingLetter
+each_waits account = letter_under 5 ∷ letter_under 9 ∷ []
+
+-- the operator is at home at centre 0: there he sees his oldest letter, and at another centre none
+pub letter-at_home : (sight_of [] each_waits 0 (Some 0)).letter ≡ Some (letter_under 5)
+letter-at_home = refl
+
+pub no_letter-elsewhere : (sight_of [] each_waits 1 (Some 0)).letter ≡ None
+no_letter-elsewhere = refl
+
+-- he sees what is open to all, and no frame of a group
+pub seen-at_home : (sight_of (Put 0 1 page_1a blank_frame ∷ []) each_waits 0 (Some 0)).pages page_1a ≡ Some blank_frame
 seen-at_home = refl
 
-pub unseen-closed : (sight_of (Put 0 1 page_1a (priced 5) ∷ []) 0 (Some 0)).pages page_1a ≡ None
+pub unseen-closed : (sight_of (Put 0 1 page_1a (priced 5) ∷ []) each_waits 0 (Some 0)).pages page_1a ≡ None
 unseen-closed = refl
 
 -- he sees none at another centre, and neither does a caller without an account
-pub unseen-elsewhere : (sight_of (Put 0 1 page_1a blank_frame ∷ []) 1 (Some 0)).pages page_1a ≡ None
+pub unseen-elsewhere : (sight_of (Put 0 1 page_1a blank_frame ∷ []) each_waits 1 (Some 0)).pages page_1a ≡ None
 unseen-elsewhere = refl
 
-pub unseen-by_nobody : (sight_of (Put 0 1 page_1a blank_frame ∷ []) 0 None).pages page_1a ≡ None
+pub unseen-by_nobody : (sight_of (Put 0 1 page_1a blank_frame ∷ []) each_waits 0 None).pages page_1a ≡ None
 unseen-by_nobody = refl

@@ -9,3 +9,4 @@ mod LastRecord
 mod Leases
 pub mod Lengths
 mod OneSpelling
+mod Seeing

@@ -5,7 +5,7 @@
 //! - [`DownRecord`] is what a centre gets of a record.
 //!
 //! - [`Base`] answers what a list of records means, without going through the list's frames again.
-//! - [`Sight`] is what a centre shows of its base to one caller.
+//! - [`Sight`] is what a centre shows of its base, and of the letters that wait there, to one caller.
 //!
 //! Contracts see a record as its parts. What a list of records means is defined in `specs/`: the frame
 //! of a name, an account, an editor's last number, the owner of a page, and the pages that are open to

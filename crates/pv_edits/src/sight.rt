@@ -1,27 +1,37 @@
 ghost use Rattle.std.specs.Prelude.{◌≡◌, option_copied, IfSome};
 ghost use Rattle.pv_frame.specs.Errors.{IsValid};
-ghost use Rattle.pv_edits.specs.Sight.{sight_of, view_of};
+ghost use Rattle.pv_post.specs.Boxes.{letters_of};
+ghost use Rattle.pv_edits.specs.Sight.{caller_account, sight_of, view_of};
 
 use crate::base::Base;
 use pv_account::Account;
 use pv_frame::Frame;
 use pv_page::{AccountNo, FrameName};
+use pv_post::{Letter, Mailboxes};
 
-/// What a centre shows to one caller: his account, if the centre is its home, and the frames that are
-/// open to it. To a caller without such an account it shows no frame.
+/// What a centre shows to one caller: his account, if the centre is its home, the frames that are open
+/// to it, and its oldest letter. To a caller without such an account it shows no frame and no letter.
 #[derive(Clone, Copy, Debug)]
 pub struct Sight<'a> {
     base: &'a Base,
+    boxes: &'a Mailboxes,
     account: Option<&'a Account>,
 }
 
 impl<'a> Sight<'a> {
-    /// What the centre of this base shows to the caller who gave this account, or none.
-    pub fn new(base: &'a Base, centre: u8, account: Option<AccountNo>) -> Sight<'a>
-        ensures { view_of result ≡ sight_of base.now.records centre account }
+    /// What the centre of this base and these mailboxes shows to the caller who gave this account, or
+    /// none.
+    pub fn new(
+        base: &'a Base,
+        boxes: &'a Mailboxes,
+        centre: u8,
+        account: Option<AccountNo>,
+    ) -> Sight<'a>
+        ensures { view_of result ≡ sight_of base.now.records (letters_of boxes.now) centre account }
     {
         Sight {
             base,
+            boxes,
             account: account_at_home(base, centre, account),
         }
     }
@@ -41,11 +51,19 @@ impl<'a> Sight<'a> {
     {
         self.base.open_to(self.account?, name)
     }
+
+    /// The letter that has waited longest for the caller. `None` exactly when none waits, or he has no
+    /// account here.
+    pub fn letter(&self) -> Option<&'a Letter>
+        ensures { option_copied result ≡ (view_of self.now).letter }
+    {
+        self.boxes.oldest(self.account?.number)
+    }
 }
 
 /// The account that was given, if there is one and its home is the centre.
 fn account_at_home(base: &Base, centre: u8, account: Option<AccountNo>) -> Option<&Account>
-    ensures { option_copied result ≡ (sight_of base.now.records centre account).account }
+    ensures { option_copied result ≡ caller_account base.now.records centre account }
 {
     let account = base.account(account?)?;
     if account.home == centre {

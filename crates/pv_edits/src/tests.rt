@@ -5,7 +5,7 @@ use pv_fields::Out;
 use pv_frame::{CheckedFrame, Frame};
 use pv_outside::Limits;
 use pv_page::{AccountNo, FrameName, PageNo};
-use pv_post::Item;
+use pv_post::{Item, Letter, Mailboxes, TEXT_CELLS};
 use std::test::Fail;
 
 /// A lease of page 12 to account 1000000001, by the operator.
@@ -33,6 +33,16 @@ fn operator() -> Option<AccountNo> {
 
 fn caller() -> Option<AccountNo> {
     AccountNo::of_number(1_000_000_001)
+}
+
+/// The operator's letter.
+fn letter() -> Option<Letter> {
+    Some(Letter {
+        number: 9,
+        sender: operator()?,
+        moment: 1,
+        text: [b'A'; TEXT_CELLS],
+    })
 }
 
 fn name() -> Option<FrameName> {
@@ -220,6 +230,8 @@ fn a_caller_sees_the_pages_open_to_him_at_home_alone(rt: HostRuntime) -> Result<
         )
     );
     assert!(rt; takes(&mut base, &put().ok_or("a put")?));
+    let mut boxes = Mailboxes::open(rt.alloc(), 1)?;
+    boxes.arrive(member.number, &letter().ok_or("a letter")?);
     let rows = [
         (2, Some(member.number), true, true),
         (1, Some(member.number), false, false),
@@ -228,7 +240,7 @@ fn a_caller_sees_the_pages_open_to_him_at_home_alone(rt: HostRuntime) -> Result<
         (2, None, false, false),
     ];
     for (centre, caller, known, shown) in rows {
-        let sight = Sight::new(&base, centre, caller);
+        let sight = Sight::new(&base, &boxes, centre, caller);
         assert_eq!(rt; sight.account().is_some(), known, "{caller:?} at {centre}");
         assert_eq!(rt;
             sight.frame(name).is_some(),
@@ -236,6 +248,7 @@ fn a_caller_sees_the_pages_open_to_him_at_home_alone(rt: HostRuntime) -> Result<
             "{caller:?} at {centre}"
         );
         assert!(rt; sight.frame(missing).is_none());
+        assert_eq!(rt; sight.letter().is_some(), shown, "{caller:?} at {centre}");
     }
     Ok(())
 }

@@ -1,4 +1,5 @@
 mod Applying
+mod ByPlaces
 mod Delivering
 mod Facts
 mod Numbering

@@ -20,7 +20,7 @@ use Rattle.pv_edits.proofs.CallerLemmas.{get_before, get_at_end}
 use Rattle.pv_irc.specs.History.{letter_of_record, letter_of_place}
 
 -- a place above all of a list has none there
-index-above : (place : ℕ) (places : List ℕ) → All (λ other. other < place) places → position_or_len (eqb place) places ≡ length places
+pub index-above : (place : ℕ) (places : List ℕ) → All (λ other. other < place) places → position_or_len (eqb place) places ≡ length places
 index-above place [] below = refl
 index-above place (other ∷ places) below =
     let head = All-head (λ one. one < place) other places below in
@@ -31,7 +31,7 @@ index-above place (other ∷ places) below =
 
 module _ (centre account : ℕ) (edits : List Record) (places : List ℕ) (paired : length places ≡ length edits) where
   -- past the last record there is no letter
-  none-past : (place index : ℕ) (list : List Record) → length list ≤ index → letter_of_record centre account list place index ≡ None
+  pub none-past : (place index : ℕ) (list : List Record) → length list ≤ index → letter_of_record centre account list place index ≡ None
   none-past place index list past =
       ap (λ found. found >>= letter_brought centre account (take index list) place) (slice_get_past list index past)
 
@@ -45,7 +45,7 @@ module _ (centre account : ℕ) (edits : List Record) (places : List ℕ) (paire
       (take-append-le index edits (edit ∷ []) (omega (arith, within)))
 
   -- a place brings what it brought, unless it is the new record's
-  place-before : (edit : Record) (last place : ℕ) → eqb place last ≡ false
+  pub place-before : (edit : Record) (last place : ℕ) → eqb place last ≡ false
       → letter_of_place centre account (edits ++ edit ∷ []) (places ++ last ∷ []) place ≡ letter_of_place centre account edits places place
   place-before edit last place differs =
       ap (letter_of_record centre account (edits ++ edit ∷ []) place) (position_or_len_push (eqb place) places last)
@@ -68,7 +68,7 @@ module _ (centre account : ℕ) (edits : List Record) (places : List ℕ) (paire
           record-before edit place index (omega (arith, most, apart, paired))
 
   -- the new record's place brings its letter
-  place-last : (edit : Record) (place : ℕ) → All (λ other. other < place) places
+  pub place-last : (edit : Record) (place : ℕ) → All (λ other. other < place) places
       → letter_of_place centre account (edits ++ edit ∷ []) (places ++ place ∷ []) place ≡ letter_brought centre account edits place edit
   place-last edit place below =
       let index : position_or_len (eqb place) (places ++ place ∷ []) ≡ length edits =

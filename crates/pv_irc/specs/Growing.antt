@@ -13,7 +13,7 @@ use Rattle.pv_irc.specs.declared.record.CentreRecord.{CentreRecord}
 use Rattle.pv_irc.specs.declared.record.CentreRecord.TheVariants.{Applied, LogOn, Kept, Removed}
 
 -- the places of one thing more that came down
-whole_places-push : (first : ℕ) (downs : List DownRecord) (down : DownRecord)
+pub whole_places-push : (first : ℕ) (downs : List DownRecord) (down : DownRecord)
     → whole_places first (downs ++ down ∷ []) ≡ whole_places first downs ++ place_if_whole (first + length downs) down
 whole_places-push first [] down =
     let here : first ≡ first + 0 = omega arith in

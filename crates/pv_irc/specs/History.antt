@@ -1,5 +1,5 @@
 -- What a list of a centre's records means: what it has applied of the edit list, its items, its log-ons, and the letters that wait.
-use Rattle.std.specs.Prelude.{ℕ, ◌+◌, ◌==◌, Bool, true, false, List, [], ◌∷◌, ◌++◌, length, take, slice_get, Option, Some, None}
+use Rattle.std.specs.Prelude.{◌≡◌, ℕ, ◌+◌, ◌==◌, Bool, true, false, List, [], ◌∷◌, ◌++◌, length, take, slice_get, Option, Some, None}
 use Rattle.std.specs.List.{filter_map, count_by, position_or_len}
 use Rattle.pv_outside.specs.declared.limits.Limits.{Limits}
 use Rattle.pv_fields.specs.Reading.{◌>>=◌}
@@ -127,10 +127,21 @@ abbrev pub letter_of_place : ℕ → ℕ → List Record → List ℕ → ℕ �
 letter_of_place centre account edits places place =
     letter_of_record centre account edits place (position_or_len (λ other. place == other) places)
 
+-- the same by what came down: the letter that the thing of a place brings
+abbrev pub letter_down : ℕ → ℕ → List DownRecord → ℕ → Option WaitingLetter
+letter_down centre account downs place =
+    slice_get downs place >>= whole_in >>= letter_brought centre account (whole_records (take place downs)) place
+
 -- the letters that wait for an account: those that the applied records brought him, less those that were removed
 abbrev pub letters_for : CentreState → ℕ → List WaitingLetter
 letters_for state account =
     waiting_letters (letter_of_place state.centre account state.edits state.places) state.removals account state.applied
+
+-- the state knows this of the edit list: what came down of it
+pub record IsOfDowns (state : CentreState) (downs : List DownRecord) : Type 0 where
+  pub applied : state.applied ≡ length downs
+  pub edits : state.edits ≡ whole_records downs
+  pub places : state.places ≡ whole_places 0 downs
 
 -- ---- with one record more
 

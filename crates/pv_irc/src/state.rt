@@ -53,7 +53,7 @@ impl Model for IrcState {
 
 impl IrcState {
     ghost use Rattle.pv_edits.specs.Sight.{sight_of, view_of};
-    ghost use Rattle.pv_irc.specs.History.{centre_state_of};
+    ghost use Rattle.pv_irc.specs.History.{centre_state_of, letters_for};
 
     /// The state of a centre that has stored nothing. Room for `limits.records` records is reserved.
     pub fn open(alloc: Global, centre: u8, limits: Limits) -> Result<IrcState, AllocError>
@@ -239,9 +239,10 @@ impl IrcState {
 
     /// What the centre shows to the caller who gave this account, or none.
     pub fn sight(&self, account: Option<AccountNo>) -> Sight<'_>
-        ensures { view_of result ≡ sight_of self.now.edits self.now.centre account }
+        ensures { view_of result
+            ≡ sight_of self.now.edits (letters_for self.now) self.now.centre account }
     {
-        Sight::new(&self.base, self.centre, account)
+        Sight::new(&self.base, &self.boxes, self.centre, account)
     }
 }
 

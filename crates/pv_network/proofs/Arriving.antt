@@ -72,7 +72,7 @@ module _ (number : ℕ) (limits : Limits) (centre : Centre) (prefix : List Recor
         places = places i;
         items = centre.calls.items;
         log_ons = centre.calls.log_ons;
-        removals = [];
+        removals = centre.calls.removals;
       })
 
 -- what goes down of a record has room if the record has

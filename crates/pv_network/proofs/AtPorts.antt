@@ -1,9 +1,12 @@
 -- What is done at a centre's ports is done with its calls, and what a wish that is stored makes of both.
 use Rattle.std.proofs.Common.{◌≡◌, ℕ, Bool, true, false, leb, List, length, set, Option, Some, None, Result, Ok, Err, refl, sym, ap, subst, ◌∙◌}
 use Rattle.pv_edits.specs.Sight.{View}
-use Rattle.pv_irc.specs.History.{CentreState, state_count}
+use Rattle.std.specs.Prelude.{◌&&◌}
+use Rattle.pv_post.specs.Boxes.{has_letter}
+use Rattle.pv_irc.specs.History.{CentreState, state_count, letters_for}
 use Rattle.pv_irc.specs.declared.reply.IrcReply.{IrcReply}
 use Rattle.pv_irc.specs.declared.reply.IrcReply.TheVariants as replies
+use Rattle.pv_irc.specs.declared.request.IrcRequest.TheVariants as requests
 use Rattle.pv_session.specs.declared.entry.Entry.{Entry}
 use Rattle.pv_session.specs.declared.step.Paid.{Paid}
 use Rattle.pv_session.specs.declared.step.Step.{Step}
@@ -14,17 +17,17 @@ use Rattle.pv_session.specs.Turns.{storing_turn, full_turn}
 use Rattle.pv_network.specs.declared.outcome.Outcome.{Outcome}
 use Rattle.pv_network.specs.declared.outcome.Outcome.TheVariants as outcomes
 use Rattle.pv_network.specs.Call.{Call, call_of, is_waiting, wish_to_store, key_turn}
-use Rattle.pv_network.specs.Calls.{Calls, calls_with, call_among, call_in, IsDone, turn_at, press_at, show_at, away_answer, wish_or_nothing, wish_at, log_ons_with, items_with, reply_for, store_at}
-use Rattle.pv_network.specs.Centre.{Held, calls_of, request_for, paid_by, asked_of, Asked, Comes}
+use Rattle.pv_network.specs.Calls.{Calls, is_refused, call_among, call_in, IsDone, turn_at, press_at, show_at, away_answer, wish_or_nothing, wish_at, log_ons_with, items_with, removals_with, reply_for, store_at}
+use Rattle.pv_network.specs.Centre.{Held, calls_of, holdings_of, request_for, paid_by, asked_of, Asked, Comes}
 use Rattle.pv_network.proofs.SoundCalls.{none_stored}
 
 -- what is done at the ports is done with the calls
 pub comes_of : (old : Held) (ports : List (Option Call)) (outcome : Outcome) (step : Calls → Calls × Outcome)
     → IsDone old.ports ports outcome step → Comes old (record old { ports = ports }) outcome (step (calls_of old))
 comes_of old ports outcome step done =
-    let here = done old.node.state.log_ons old.node.state.items in
+    let here = done (calls_of old) in
     record {
-      state = λ i. record old.node.state { items = (here.0 i).items; log_ons = (here.0 i).log_ons };
+      state = λ i. record old.node.state { items = (here.0 i).items; log_ons = (here.0 i).log_ons; removals = (here.0 i).removals };
       on_disk = λ is. is;
       ports = ap (λ (calls : Calls). calls.ports) here.0;
       answer = here.1;
@@ -34,9 +37,7 @@ comes_of old ports outcome step done =
 
 -- what a centre makes of what a call at a port owes
 abbrev Stores : Held → Held → ℕ → Outcome → Type 0
-Stores old new port outcome = Comes old new outcome
-    (store_at (leb old.node.state.limits.records (state_count old.node.state)) (state_count old.node.state) (calls_of old) port
-    (call_in (calls_of old) port))
+Stores old new port outcome = Comes old new outcome (store_at (holdings_of old.node.state) (calls_of old) port (call_in (calls_of old) port))
 
 -- a call that is to have a wish stored owes it
 record Owes (found : Option Call) (wish : Wish) : Type 0 where
@@ -53,27 +54,43 @@ owes (Some call) wish is = record { call = call; is = refl; owes = of (wish_to_s
     of (Some other) is = cc
 
 -- what a node with room makes of a wish: it has what the calls have, and its reply is the one that they are told
-record IsWished (state : CentreState) (ports : List (Option Call)) (wish : Wish) : Type 0 where
+record IsWished (here : Held) (wish : Wish) : Type 0 where
   reply : IrcReply
-  told : paid_by reply ≡ Some (reply_for (calls_with state.log_ons state.items ports) wish)
-  replied : (asked_of state (request_for wish)).0 ≡ Ok reply
-  known : (asked_of state (request_for wish)).1 ≡ record state {
-    items = items_with (calls_with state.log_ons state.items ports) wish;
-    log_ons = log_ons_with (calls_with state.log_ons state.items ports) wish;
+  told : paid_by reply ≡ reply_for (calls_of here) wish
+  replied : (asked_of here.node.state (request_for wish)).0 ≡ Ok reply
+  known : (asked_of here.node.state (request_for wish)).1 ≡ record here.node.state {
+    items = items_with (calls_of here) wish;
+    log_ons = log_ons_with (calls_of here) wish;
+    removals = removals_with (holdings_of here.node.state) (calls_of here) wish;
   }
 
-wished : (state : CentreState) (ports : List (Option Call)) (wish : Wish) → leb state.limits.records (state_count state) ≡ false
-    → IsWished state ports wish
-wished state ports (wishes.LogOn account) room =
-    record { reply = replies.Serial state.log_ons; told = refl; replied = rw room refl; known = rw room refl }
-wished state ports (wishes.Charge line) room =
-    record { reply = replies.Kept (length state.items); told = refl; replied = rw room refl; known = rw room refl }
+wished : (here : Held) (wish : Wish) → is_refused (holdings_of here.node.state) wish ≡ false → IsWished here wish
+wished here (wishes.LogOn account) room =
+    record { reply = replies.Serial here.node.state.log_ons; told = refl; replied = rw room refl; known = rw room refl }
+wished here (wishes.Charge line) room =
+    record { reply = replies.Kept (length here.node.state.items); told = refl; replied = rw room refl; known = rw room refl }
+wished here (wishes.Post item) room =
+    record { reply = replies.Kept (length here.node.state.items); told = refl; replied = rw room refl; known = rw room refl }
+wished here (wishes.Remove account number) room = by (has_letter (letters_for here.node.state account) number) refl room
+  where
+    by : (waits : Bool) → has_letter (letters_for here.node.state account) number ≡ waits
+        → (waits && leb here.node.state.limits.records (state_count here.node.state)) ≡ false → IsWished here (wishes.Remove account number)
+    by true waits room = record { reply = replies.Applied; told = refl; replied = rw (waits, room) refl; known = rw (waits, room) refl }
+    by false waits room = record { reply = replies.Nothing; told = refl; replied = rw waits refl; known = rw waits refl }
 
--- a full node turns any wish away
-unwished : (state : CentreState) (wish : Wish) → leb state.limits.records (state_count state) ≡ true
+-- a node without room for its record turns a wish away
+unwished : (state : CentreState) (wish : Wish) → is_refused (holdings_of state) wish ≡ true
     → asked_of state (request_for wish) ≡ (Err (state_count state), state)
 unwished state (wishes.LogOn account) full = rw full refl
 unwished state (wishes.Charge line) full = rw full refl
+unwished state (wishes.Post item) full = rw full refl
+unwished state (wishes.Remove account number) full = by (has_letter (letters_for state account) number) refl full
+  where
+    by : (waits : Bool) → has_letter (letters_for state account) number ≡ waits
+        → (waits && leb state.limits.records (state_count state)) ≡ true
+        → asked_of state (requests.Remove account number) ≡ (Err (state_count state), state)
+    by true waits full = rw (waits, full) refl
+    by false waits full = absurd cc
 
 -- a reply is one reply and no count, and a count is one count
 one_reply : (one other : IrcReply) (result : Result IrcReply ℕ) → result ≡ Ok one → result ≡ Ok other → one ≡ other
@@ -98,56 +115,43 @@ module _ (old asked : Held) (port : ℕ) (wish : Wish) (result : Result IrcReply
   there : call_among asked.ports port ≡ Some owing.call
   there = ap (λ (l : List (Option Call)). call_among l port) was.ports ∙ owing.is
 
-  abbrev is_full : Bool
-  is_full = leb old.node.state.limits.records (state_count old.node.state)
+  abbrev refused : Bool
+  refused = is_refused (holdings_of old.node.state) wish
 
   -- the reply is noted
-  pub noted : (reply : IrcReply) (paid : Paid) → result ≡ Ok reply → paid_by reply ≡ Some paid
+  pub noted : (reply : IrcReply) (paid : Paid) → result ≡ Ok reply → paid ≡ paid_by reply
       → ((call : Call) → call_among asked.ports port ≡ Some call
       → (ports ≡ set asked.ports port (Some (record call { stored = Some paid }))) × (outcome ≡ outcomes.Stored))
       → Done
-  noted reply paid is told notes = by is_full refl
+  noted reply paid is told notes = by refused refl
     where
-      by : (full : Bool) → is_full ≡ full → Done
+      by : (full : Bool) → refused ≡ full → Done
       by true how =
           absurd (no_count reply (state_count old.node.state) result is
           (was.reply ∙ ap (λ (done : Result IrcReply ℕ × CentreState). done.0) (unwished old.node.state wish how)))
       by false how =
-          let done = wished old.node.state old.ports wish how in
+          let done = wished old wish how in
           let reply_is : reply ≡ done.reply = one_reply reply done.reply result is (was.reply ∙ done.replied) in
-          let paid_is : Some paid ≡ Some (reply_for (calls_of old) wish) = sym told ∙ ap paid_by reply_is ∙ done.told in
+          let paid_is : paid ≡ reply_for (calls_of old) wish = told ∙ ap paid_by reply_is ∙ done.told in
           let note = notes owing.call there in
           rw (owing.is, owing.owes, how) (record {
             state = was.state ∙ done.known;
             on_disk = λ is. was.on_disk;
             ports = note.0 ∙ ap (λ (l : List (Option Call)). set l port (Some (record owing.call { stored = Some paid }))) was.ports
-                ∙ ap (λ (stored : Option Paid). set old.ports port (Some (record owing.call { stored = stored }))) paid_is;
+                ∙ ap (λ (reply : Paid). set old.ports port (Some (record owing.call { stored = Some reply }))) paid_is;
             answer = note.1;
           })
-
-  -- each reply to a wish is one that the call is told
-  pub told_of_each : (reply : IrcReply) → result ≡ Ok reply → paid_by reply ≡ None → ⊥
-  told_of_each reply is untold = by is_full refl
-    where
-      by : (full : Bool) → is_full ≡ full → ⊥
-      by true how =
-          no_count reply (state_count old.node.state) result is
-          (was.reply ∙ ap (λ (done : Result IrcReply ℕ × CentreState). done.0) (unwished old.node.state wish how))
-      by false how =
-          let done = wished old.node.state old.ports wish how in
-          let reply_is : reply ≡ done.reply = one_reply reply done.reply result is (was.reply ∙ done.replied) in
-          let told : None ≡ Some (reply_for (calls_of old) wish) = sym untold ∙ ap paid_by reply_is ∙ done.told in absurd cc
 
   -- the caller is turned away
   pub turned_away : (count : ℕ) → result ≡ Err count
       → ((call : Call) → call_among asked.ports port ≡ Some call
       → (ports ≡ set asked.ports port None) × (outcome ≡ away_answer count (full_turn call.seat call.seat.phase).1))
       → Done
-  turned_away count is ends = by is_full refl
+  turned_away count is ends = by refused refl
     where
-      by : (full : Bool) → is_full ≡ full → Done
+      by : (full : Bool) → refused ≡ full → Done
       by false how =
-          let done = wished old.node.state old.ports wish how in absurd (no_count done.reply count result (was.reply ∙ done.replied) is)
+          let done = wished old wish how in absurd (no_count done.reply count result (was.reply ∙ done.replied) is)
       by true how =
           let done = unwished old.node.state wish how in
           let count_is : count ≡ state_count old.node.state =

@@ -20,7 +20,7 @@ use Rattle.pv_network.specs.declared.outcome.Turn.{Turn}
 use Rattle.pv_network.specs.declared.outcome.BillLine.{BillLine}
 use Rattle.pv_network.specs.Call.{Call}
 use Rattle.pv_network.specs.Calling.{calls_at, call_at, view_at, with_calls, step_of_dial, step_of_hang, step_of_press, step_of_store, step_of_show}
-use Rattle.pv_network.specs.Calls.{Calls, no_calls, call_in, show_at, IsEntryOf}
+use Rattle.pv_network.specs.Calls.{Calls, no_calls, call_in, show_at, IsPortEntry}
 use Rattle.pv_network.specs.Centre.{Centre, new_centre}
 use Rattle.pv_network.specs.Charging.{is_of_serial, shown_lines, line_at, lines_in_hand, call_of_line, line_in_hand, with_stops, IsStoppedCall, AreCharged, IsChargedWorld, ShowsFrameOf, SeatLaws}
 use Rattle.pv_network.specs.Crashing.{step_of_lost_calls, step_of_crash}
@@ -151,7 +151,7 @@ module _ (w : World) (c : ℕ) (charged : IsChargedWorld w) where
     charged_dial laws =
         calls_charged _ (dial_charged (calls_at w c) shown Stopped port (sound.calls c) (charged c) laws (call_at w c port) refl)
 
-    pub charged_press : SeatLaws → (key : ℕ) (entry : Option Entry) → IsEntryOf (call_at w c port) key entry
+    pub charged_press : SeatLaws → (key : ℕ) (entry : Option Entry) → IsPortEntry (call_at w c port) key entry
         → IsChargedWorld (step_of_press w c port key entry).0
     charged_press laws key entry says =
         calls_charged _ (press_charged (calls_at w c) shown Stopped port (sound.calls c) (charged c) laws key (view_at w c port) w.moment entry
@@ -159,7 +159,7 @@ module _ (w : World) (c : ℕ) (charged : IsChargedWorld w) where
 
     pub charged_store : IsChargedWorld (step_of_store w c port).0
     charged_store =
-        calls_charged _ (store_charged (calls_at w c) shown Stopped port (sound.calls c) (charged c) _ _ (call_at w c port) refl)
+        calls_charged _ (store_charged (calls_at w c) shown Stopped port (sound.calls c) (charged c) _ (call_at w c port) refl)
 
     pub charged_hang : IsChargedWorld (step_of_hang w c port).0
     charged_hang =
@@ -194,7 +194,7 @@ module _ (laws : SeatLaws) (c port : ℕ) where
       stored : IsChargedWorld (step_of_store w c port).0
       stored = charged_store w c charged port sound
 
-  charged_key : (w : World) (key : KeyedByte) → IsEntryOf (call_at w c port) key.byte key.entry → IsSound w → IsChargedWorld w
+  charged_key : (w : World) (key : KeyedByte) → IsPortEntry (call_at w c port) key.byte key.entry → IsSound w → IsChargedWorld w
       → IsChargedWorld (step_of_key w c port key).0
   charged_key w key says sound charged = choice IsChargedWorld (is_owes (step_of_press w c port key.byte key.entry).1) _ _
       (λ _. charged_payment (step_of_press w c port key.byte key.entry).0 (sound_press w c port sound key.byte key.entry) pressed)

@@ -1,12 +1,13 @@
 -- What an event makes of the charges of a centre's calls.
 use Rattle.std.proofs.Common.{◌≡◌, ◌≢◌, ℕ, zero, suc, ◌+◌, ◌<◌, ◌≤◌, ◌⊎◌, Bool, true, false, cond, List, [], ◌∷◌, ◌++◌, length, get_or, set, Option, Some, None, refl, sym, ap, subst, ◌∙◌, inl, inr, arith}
-use Rattle.std.specs.Prelude.{Contains, IfSome, is_some, option_to_list}
+use Rattle.std.specs.Prelude.{Contains, IfSome, IsSome, is_some, option_to_list}
 use Rattle.std.specs.List.{filter, cons_option}
 use Rattle.std.proofs.lemmas.Bool.Decides.{eqb_tells}
 use Rattle.std.proofs.lemmas.List.{append-nil, length-append, get_or-set_other}
 use Rattle.pv_charge.specs.Line.{Charge}
 use Rattle.pv_edits.specs.Sight.{View}
 use Rattle.pv_fields.specs.Reading.{◌>>=◌}
+use Rattle.pv_post.specs.declared.item.Item.{Item}
 use Rattle.pv_post.specs.declared.item.Item.TheVariants as items
 use Rattle.pv_session.specs.declared.entry.Entry.{Entry}
 use Rattle.pv_session.specs.declared.step.Paid.{Paid}
@@ -17,7 +18,7 @@ use Rattle.pv_session.specs.declared.step.Step.{Step}
 use Rattle.pv_session.specs.declared.step.Step.TheVariants as steps
 use Rattle.pv_session.specs.declared.step.Wish.{Wish}
 use Rattle.pv_session.specs.declared.step.Wish.TheVariants as wishes
-use Rattle.pv_session.specs.Callers.{IsOwn, IsOwnCharge, IsCall}
+use Rattle.pv_session.specs.Callers.{sender_of, IsOwn, IsOwnCharge, IsCall}
 use Rattle.pv_session.specs.Calls.{Keyed, Stored as CallStored, Happens, lines_after, IsSameCaller}
 use Rattle.pv_session.specs.State.{CallState, is_owing, wish_in}
 use Rattle.pv_session.specs.Shown.{ShownFrame}
@@ -25,7 +26,7 @@ use Rattle.pv_session.specs.Turns.{charged_turn, storing_turn}
 use Rattle.pv_network.specs.declared.event.TheConstants.{PORTS}
 use Rattle.pv_network.specs.declared.outcome.Outcome.TheVariants as outcomes
 use Rattle.pv_network.specs.Call.{Call, call_of, first_call, is_waiting, wish_to_store, serial_with, serial_of, key_turn}
-use Rattle.pv_network.specs.Calls.{Calls, call_in, with_call, step_answer, call_after, turn_at, dial_at, hang_at, press_at, with_wish, storing_at, store_at, showing_at, show_at, IsEntryUnlessWaiting, IsEntryOf}
+use Rattle.pv_network.specs.Calls.{Calls, Holdings, is_refused, call_in, with_call, step_answer, call_after, turn_at, dial_at, hang_at, press_at, with_wish, storing_unless, storing_at, store_at, showing_at, show_at, IsEntryUnlessWaiting, IsPortEntry}
 use Rattle.pv_network.specs.Charging.{charge_in, line_in_hand, lines_in_hand, lines_with, is_of_serial, IsInHand, AreOwedLines, HasLines, IsChargedCall, AreCharged, ShowsFrameOf, SeatLaws}
 use Rattle.pv_network.specs.Crashing.{without_calls}
 use Rattle.pv_network.specs.Sound.{serial_in, Answers, OwesItsReply, IsSoundCalls}
@@ -49,6 +50,8 @@ module _ (call : Call) (line : Charge) (seat : IsCall call.seat) (in_hand : line
       charged : (wish : Wish) → IsOwn call.seat wish → charge_in wish ≡ Some line → IsOwnCharge call.seat line
       charged (wishes.LogOn account) own is = absurd cc
       charged (wishes.Charge other) own is = let same : other ≡ line = cc in subst (IsOwnCharge call.seat) same own
+      charged (wishes.Post item) own is = absurd cc
+      charged (wishes.Remove account number) own is = absurd cc
 
       by : (stored : Option Paid) (phase : Phase) → IfSome (wish_in phase) (IsOwn call.seat)
           → cond (is_some stored) (wish_in phase >>= charge_in) None ≡ Some line → IsOwnCharge call.seat line
@@ -68,6 +71,8 @@ module _ (call : Call) (line : Charge) (seat : IsCall call.seat) (in_hand : line
       by (Some (Serial serial)) Listening fits is = absurd cc
       by (Some (Serial serial)) (Owing (wishes.LogOn account)) fits is = absurd cc
       by (Some (Serial serial)) (Owing (wishes.Charge charge)) fits is = absurd fits
+      by (Some (Serial serial)) (Owing (wishes.Post item)) fits is = absurd fits
+      by (Some (Serial serial)) (Owing (wishes.Remove account number)) fits is = absurd fits
       by (Some (Serial serial)) Over fits is = absurd cc
 
   -- what its seat owes is the charge, and what was stored is told so
@@ -82,10 +87,14 @@ module _ (call : Call) (line : Charge) (seat : IsCall call.seat) (in_hand : line
       by (Some Stored) (Owing (wishes.LogOn account)) fits is = absurd cc
       by (Some Stored) (Owing (wishes.Charge charge)) fits is = let same : charge ≡ line = cc in
           (refl, ap (λ (l : Charge). Owing (wishes.Charge l)) same)
+      by (Some Stored) (Owing (wishes.Post item)) fits is = absurd cc
+      by (Some Stored) (Owing (wishes.Remove account number)) fits is = absurd cc
       by (Some Stored) Over fits is = absurd cc
       by (Some (Serial serial)) Listening fits is = absurd cc
       by (Some (Serial serial)) (Owing (wishes.LogOn account)) fits is = absurd cc
       by (Some (Serial serial)) (Owing (wishes.Charge charge)) fits is = absurd fits
+      by (Some (Serial serial)) (Owing (wishes.Post item)) fits is = absurd fits
+      by (Some (Serial serial)) (Owing (wishes.Remove account number)) fits is = absurd fits
       by (Some (Serial serial)) Over fits is = absurd cc
 
   -- the reply to it shows the frame that was kept aside
@@ -215,10 +224,6 @@ module _ (calls after : Calls) (shown now : ℕ → List Charge) (Stopped Gone :
 
 -- ---- a call whose lines stay
 
--- calls with another count of log-ons and another call at a port
-abbrev pub with_count : Calls → ℕ → ℕ → Option Call → Calls
-with_count calls log_ons port call = record calls { log_ons = log_ons; ports = set calls.ports port call }
-
 module _ (calls : Calls) (shown : ℕ → List Charge) (Stopped : ℕ → Type 0) (port : ℕ) (sound : IsSoundCalls calls)
     (charged : AreCharged calls shown Stopped) where
   -- no serial from the count of log-ons on has a line that was shown
@@ -231,21 +236,21 @@ module _ (calls : Calls) (shown : ℕ → List Charge) (Stopped : ℕ → Type 0
         absurd (omega (arith, long, length-append (shown serial) (more.line ∷ [])))
   ]
 
-  -- the call there had nothing in hand, and the one that is there now is charged rightly
-  pub lines_stay : (log_ons : ℕ) (new : Option Call) → calls.log_ons ≤ log_ons
+  -- no line is stored, the call there had none in hand, and the one that is there now is charged rightly
+  pub lines_stay : (after : Calls) (new : Option Call) → after.ports ≡ set calls.ports port new → calls.log_ons ≤ after.log_ons
+      → ((serial : ℕ) → lines_with after.items serial ≡ lines_with calls.items serial)
       → ((call : Call) → call_in calls port ≡ Some call → line_in_hand call ≡ None)
-      → ((call : Call) → new ≡ Some call → IsChargedCall calls.items shown Stopped call)
-      → AreCharged (with_count calls log_ons port new) shown Stopped
-  lines_stay log_ons new more no_hand this =
-      moved calls (with_count calls log_ons port new) shown shown Stopped Stopped port new refl sound charged
+      → ((call : Call) → new ≡ Some call → IsChargedCall after.items shown Stopped call) → AreCharged after shown Stopped
+  lines_stay after new ports more same no_hand this =
+      moved calls after shown shown Stopped Stopped port new ports sound charged
       (λ serial. inr (record {
-        stored = refl;
+        stored = same serial;
         shown_is = refl;
         on = λ gone. gone;
         back = λ gone. gone;
         no_hand = λ call there has. no_hand call there;
       }))
-      (λ serial later. charged.given serial (omega (arith, later, more)))
+      (λ serial later. same serial ∙ charged.given serial (omega (arith, later, more)))
       (λ serial gone. let less = charged.stopped serial gone in omega (arith, less, more)) this
 
 -- ---- a turn of the seat
@@ -255,12 +260,12 @@ no_line : (call : Call) → call.stored ≡ None → line_in_hand call ≡ None
 no_line call none = ap (λ (stored : Option Paid). cond (is_some stored) (wish_in call.seat.phase >>= charge_in) None) none
 
 -- what owes no charge has none in hand
-no_charge : (call : Call) (account : ℕ) → wish_in call.seat.phase ≡ Some (wishes.LogOn account) → line_in_hand call ≡ None
-no_charge call account is = by call.stored
+no_charge : (call : Call) (wish : Wish) → charge_in wish ≡ None → wish_in call.seat.phase ≡ Some wish → line_in_hand call ≡ None
+no_charge call wish none is = by call.stored
   where
     by : (stored : Option Paid) → cond (is_some stored) (wish_in call.seat.phase >>= charge_in) None ≡ None
     by None = refl
-    by (Some reply) = ap (λ (wish : Option Wish). wish >>= charge_in) is
+    by (Some reply) = ap (λ (owed : Option Wish). owed >>= charge_in) is ∙ none
 
 module _ (calls : Calls) (shown : ℕ → List Charge) (Stopped : ℕ → Type 0) (port : ℕ) (sound : IsSoundCalls calls)
     (charged : AreCharged calls shown Stopped) where
@@ -276,7 +281,9 @@ module _ (calls : Calls) (shown : ℕ → List Charge) (Stopped : ℕ → Type 0
 
     -- it is over
     pub call_ends : AreCharged (with_call calls port None) shown Stopped
-    call_ends = lines_stay calls shown Stopped port sound charged calls.log_ons None (omega arith) only_this (λ other is. absurd cc)
+    call_ends =
+        lines_stay calls shown Stopped port sound charged (with_call calls port None) None refl (omega arith) (λ serial. refl) only_this
+        (λ other is. absurd cc)
 
     -- its seat goes on with the same serial and as many lines
     pub seat_goes_on : (turn : CallState × Step) → IsCall turn.0 → turn.0.serial ≡ serial_of call → turn.0.lines ≡ call.seat.lines
@@ -296,8 +303,8 @@ module _ (calls : Calls) (shown : ℕ → List Charge) (Stopped : ℕ → Type 0
         }
 
         on : AreCharged (with_call calls port (Some (call_of seat))) shown Stopped
-        on = lines_stay calls shown Stopped port sound charged calls.log_ons (Some (call_of seat)) (omega arith) only_this
-            (λ other same. let one : call_of seat ≡ other = cc in subst (IsChargedCall calls.items shown Stopped) one now)
+        on = lines_stay calls shown Stopped port sound charged (with_call calls port (Some (call_of seat))) (Some (call_of seat)) refl (omega arith)
+            (λ s. refl) only_this (λ other same. let one : call_of seat ≡ other = cc in subst (IsChargedCall calls.items shown Stopped) one now)
 
         by : (step : Step) → AreCharged (turn_at calls port (seat, step)).0 shown Stopped
         by steps.Quiet = on
@@ -309,7 +316,8 @@ module _ (calls : Calls) (shown : ℕ → List Charge) (Stopped : ℕ → Type 0
 
   pub dial_charged : SeatLaws → (call : Option Call) → call_in calls port ≡ call → AreCharged (dial_at calls port call).0 shown Stopped
   dial_charged laws None is =
-      lines_stay calls shown Stopped port sound charged calls.log_ons (Some first_call) (omega arith)
+      lines_stay calls shown Stopped port sound charged (with_call calls port (Some first_call)) (Some first_call) refl (omega arith)
+      (λ serial. refl)
       (λ call there. let none : None ≡ Some call = sym is ∙ there in absurd cc)
       (λ call same.
       let one : first_call ≡ call = cc in
@@ -317,7 +325,7 @@ module _ (calls : Calls) (shown : ℕ → List Charge) (Stopped : ℕ → Type 0
   dial_charged laws (Some call) is = charged
 
   pub press_charged : SeatLaws → (key : ℕ) (view : View) (moment : ℕ) (entry : Option Entry) (call : Option Call) → call_in calls port ≡ call
-      → IsEntryOf call key entry → AreCharged (press_at calls port key view moment entry call).0 shown Stopped
+      → IsPortEntry call key entry → AreCharged (press_at calls port key view moment entry call).0 shown Stopped
   press_charged laws key view moment entry None is says = charged
   press_charged laws key view moment entry (Some call) is says = by (is_waiting call) refl says
     where
@@ -337,10 +345,11 @@ module _ (calls : Calls) (shown : ℕ → List Charge) (Stopped : ℕ → Type 0
   -- ---- store
 
   -- a log-on is counted, and its serial is that count
-  log_on_charged : (call : Call) (account : ℕ) → call_in calls port ≡ Some call → call.stored ≡ None
-      → wish_in call.seat.phase ≡ Some (wishes.LogOn account) → AreCharged (with_wish calls port call (wishes.LogOn account)) shown Stopped
-  log_on_charged call account is none owes =
-      lines_stay calls shown Stopped port sound charged (calls.log_ons + 1) (Some new) (omega arith) (only_this call is (no_line call none))
+  log_on_charged : (holdings : Holdings) (call : Call) (account : ℕ) → call_in calls port ≡ Some call → call.stored ≡ None
+      → wish_in call.seat.phase ≡ Some (wishes.LogOn account) → AreCharged (with_wish holdings calls port call (wishes.LogOn account)) shown Stopped
+  log_on_charged holdings call account is none owes =
+      lines_stay calls shown Stopped port sound charged (with_wish holdings calls port call (wishes.LogOn account)) (Some new) refl (omega arith)
+      (λ serial. refl) (only_this call is (no_line call none))
       (λ other same. let one : new ≡ other = cc in subst (IsChargedCall calls.items shown Stopped) one now)
     where
       new : Call
@@ -358,7 +367,7 @@ module _ (calls : Calls) (shown : ℕ → List Charge) (Stopped : ℕ → Type 0
       first : HasLines new (lines_with calls.items calls.log_ons) (shown calls.log_ons) (Stopped calls.log_ons)
       first = record {
         lines = charged.given calls.log_ons (omega arith) ∙ sym (ap (λ (l : List Charge). l ++ []) none_yet)
-            ∙ ap (λ (line : Option Charge). shown calls.log_ons ++ option_to_list line) (sym (no_charge new account owes));
+            ∙ ap (λ (line : Option Charge). shown calls.log_ons ++ option_to_list line) (sym (no_charge new (wishes.LogOn account) refl owes));
         count = own.lines unnamed ∙ sym (ap (λ (l : List Charge). length l) none_yet);
         going = λ gone. let less = charged.stopped calls.log_ons gone in absurd (omega (arith, less));
       }
@@ -372,9 +381,9 @@ module _ (calls : Calls) (shown : ℕ → List Charge) (Stopped : ℕ → Type 0
       }
 
   -- the line of a charge is the last of its call's, and in hand
-  charge_charged : (call : Call) (line : Charge) → call_in calls port ≡ Some call → call.stored ≡ None
-      → wish_in call.seat.phase ≡ Some (wishes.Charge line) → AreCharged (with_wish calls port call (wishes.Charge line)) shown Stopped
-  charge_charged call line is none owes =
+  charge_charged : (holdings : Holdings) (call : Call) (line : Charge) → call_in calls port ≡ Some call → call.stored ≡ None
+      → wish_in call.seat.phase ≡ Some (wishes.Charge line) → AreCharged (with_wish holdings calls port call (wishes.Charge line)) shown Stopped
+  charge_charged holdings call line is none owes =
       moved calls after shown shown Stopped Stopped port (Some new) refl sound charged moves
       (λ serial later. kept serial (λ same. let less = below in absurd (omega (arith, later, same, less))) ∙ charged.given serial later)
       charged.stopped
@@ -384,7 +393,7 @@ module _ (calls : Calls) (shown : ℕ → List Charge) (Stopped : ℕ → Type 0
       new = record call { stored = Some Stored }
 
       after : Calls
-      after = with_wish calls port call (wishes.Charge line)
+      after = with_wish holdings calls port call (wishes.Charge line)
 
       was : IsChargedCall calls.items shown Stopped call
       was = charged.each port call is
@@ -458,25 +467,69 @@ module _ (calls : Calls) (shown : ℕ → List Charge) (Stopped : ℕ → Type 0
             };
       }
 
+  -- what is stored for another wish is no line
+  module _ (call : Call) (wish : Wish) (is : call_in calls port ≡ Some call) (none : call.stored ≡ None)
+      (owes : wish_in call.seat.phase ≡ Some wish) (free : charge_in wish ≡ None) where
+    stored_charged : (after : Calls) → after.ports ≡ set calls.ports port (Some (record call { stored = Some Stored }))
+        → calls.log_ons ≤ after.log_ons → ((serial : ℕ) → lines_with after.items serial ≡ lines_with calls.items serial)
+        → AreCharged after shown Stopped
+    stored_charged after ports more same =
+        lines_stay calls shown Stopped port sound charged after (Some new) ports more same (only_this call is (no_line call none))
+        (λ other one. subst (IsChargedCall after.items shown Stopped) (some_is one) now)
+      where
+        new : Call
+        new = record call { stored = Some Stored }
+
+        was : IsChargedCall calls.items shown Stopped call
+        was = charged.each port call is
+
+        now : IsChargedCall after.items shown Stopped new
+        now = record {
+          seat = was.seat;
+          lines = λ serial has.
+              let old = was.lines serial (ap (λ (stored : Option Paid). serial_with stored call.seat.serial) none ∙ has) in
+              record {
+                lines = same serial ∙ old.lines
+                    ∙ ap (λ (l : Option Charge). shown serial ++ option_to_list l) (no_line call none ∙ sym (no_charge new wish free owes));
+                count = old.count;
+                going = old.going;
+              };
+        }
+
+  -- what a caller sends is no line
+  sent_lines : (caller : Option ℕ) (item : Item) → IsSome caller → caller ≡ sender_of item → (serial : ℕ)
+      → lines_with (calls.items ++ item ∷ []) serial ≡ lines_with calls.items serial
+  sent_lines caller (items.Charge line) known sent serial = let never = subst IsSome sent known in absurd cc
+  sent_lines caller (items.Reply reply) known sent serial =
+      lines_with-append calls.items (items.Reply reply ∷ []) serial ∙ append-nil (lines_with calls.items serial)
+  sent_lines caller (items.Mail mail) known sent serial =
+      lines_with-append calls.items (items.Mail mail ∷ []) serial ∙ append-nil (lines_with calls.items serial)
+
   -- any wish is stored
-  wish_charged : (call : Call) (wish : Wish) → call_in calls port ≡ Some call → call.stored ≡ None
-      → wish_in call.seat.phase ≡ Some wish → AreCharged (with_wish calls port call wish) shown Stopped
-  wish_charged call (wishes.LogOn account) = log_on_charged call account
-  wish_charged call (wishes.Charge line) = charge_charged call line
+  wish_charged : (holdings : Holdings) (call : Call) (wish : Wish) → call_in calls port ≡ Some call → call.stored ≡ None
+      → wish_in call.seat.phase ≡ Some wish → AreCharged (with_wish holdings calls port call wish) shown Stopped
+  wish_charged holdings call (wishes.LogOn account) is none owes = log_on_charged holdings call account is none owes
+  wish_charged holdings call (wishes.Charge line) is none owes = charge_charged holdings call line is none owes
+  wish_charged holdings call (wishes.Post item) is none owes =
+      let own = subst (λ (wish : Option Wish). IfSome wish (IsOwn call.seat)) owes (charged.each port call is).seat.owed in
+      stored_charged call (wishes.Post item) is none owes refl (with_wish holdings calls port call (wishes.Post item)) refl (omega arith)
+      (sent_lines call.seat.account item own.1 own.2)
+  wish_charged holdings call (wishes.Remove account number) is none owes =
+      stored_charged call (wishes.Remove account number) is none owes refl (with_wish holdings calls port call (wishes.Remove account number)) refl
+      (omega arith) (λ serial. refl)
 
-  pub store_charged : (is_full : Bool) (count : ℕ) (call : Option Call) → call_in calls port ≡ call
-      → AreCharged (store_at is_full count calls port call).0 shown Stopped
-  store_charged is_full count None is = charged
-  store_charged is_full count (Some call) is = by (wish_to_store call) refl
+  pub store_charged : (holdings : Holdings) (call : Option Call) → call_in calls port ≡ call → AreCharged (store_at holdings calls port call).0 shown Stopped
+  store_charged holdings None is = charged
+  store_charged holdings (Some call) is = by (wish_to_store call) refl
     where
-      full : (is_full : Bool) (wish : Wish) → wish_to_store call ≡ Some wish
-          → AreCharged (storing_at is_full count calls port call (Some wish)).0 shown Stopped
+      full : (refused : Bool) (wish : Wish) → wish_to_store call ≡ Some wish
+          → AreCharged (storing_unless refused holdings calls port call wish).0 shown Stopped
       full true wish owes = call_ends call is (no_line call (to_store call wish owes).0)
-      full false wish owes = let owed = to_store call wish owes in wish_charged call wish is owed.0 owed.1
+      full false wish owes = let owed = to_store call wish owes in wish_charged holdings call wish is owed.0 owed.1
 
-      by : (wish : Option Wish) → wish_to_store call ≡ wish → AreCharged (storing_at is_full count calls port call wish).0 shown Stopped
+      by : (wish : Option Wish) → wish_to_store call ≡ wish → AreCharged (storing_at holdings calls port call wish).0 shown Stopped
       by None owes = charged
-      by (Some wish) owes = full is_full wish owes
+      by (Some wish) owes = full (is_refused holdings wish) wish owes
 
   -- ---- show
 
@@ -517,15 +570,16 @@ module _ (calls : Calls) (shown : ℕ → List Charge) (Stopped : ℕ → Type 0
         storing_serial call.seat call.seat.phase reply (answers_at calls port sound call reply is has)
         ∙ ap (λ (stored : Option Paid). serial_with stored call.seat.serial) (sym has)
 
-    -- the reply to a log-on shows no priced frame
-    log_on_shown : (account serial : ℕ) → call.seat.phase ≡ Owing (wishes.LogOn account) → reply ≡ Serial serial
+    -- the reply to what is no charge shows no priced frame
+    free_shown : (wish : Wish) (told : Paid) → charge_in wish ≡ None → call.seat.phase ≡ Owing wish → reply ≡ told
+        → lines_after (CallStored told) (Owing wish) call.seat.lines ≡ call.seat.lines
         → AreCharged (turn_at calls port (storing_turn call.seat call.seat.phase reply)).0 (shown_with (Some call)) Stopped
-    log_on_shown account serial owes told =
-        let empty = no_charge call account (ap wish_in owes) in
+    free_shown wish told free owes is_told count =
+        let empty = no_charge call wish free (ap wish_in owes) in
         unshown (turn_at calls port (storing_turn call.seat call.seat.phase reply)).0 (Some call) empty
         (seat_goes_on call is empty (storing_turn call.seat call.seat.phase reply) seat_after serial_same
-        (same.lines ∙ ap (λ (r : Paid). lines_after (CallStored r) call.seat.phase call.seat.lines) told
-        ∙ ap (λ (phase : Phase). lines_after (CallStored (Serial serial)) phase call.seat.lines) owes))
+        (same.lines ∙ ap (λ (r : Paid). lines_after (CallStored r) call.seat.phase call.seat.lines) is_told
+        ∙ ap (λ (phase : Phase). lines_after (CallStored told) phase call.seat.lines) owes ∙ count))
 
     -- the reply to a charge shows the frame of the line in hand
     module _ (line : Charge) (in_hand : line_in_hand call ≡ Some line)
@@ -603,7 +657,7 @@ module _ (calls : Calls) (shown : ℕ → List Charge) (Stopped : ℕ → Type 0
             → AreCharged (turn_at calls port (storing_turn call.seat call.seat.phase reply)).0 (shown_with (Some call)) Stopped
         by Listening (Serial serial) owes told never = absurd never
         by Listening Stored owes told never = absurd never
-        by (Owing (wishes.LogOn account)) (Serial serial) owes told answers = log_on_shown account serial owes told
+        by (Owing (wishes.LogOn account)) (Serial serial) owes told answers = free_shown (wishes.LogOn account) (Serial serial) refl owes told refl
         by (Owing (wishes.LogOn account)) Stored owes told never = absurd never
         by (Owing (wishes.Charge line)) (Serial serial) owes told never = absurd never
         by (Owing (wishes.Charge line)) Stored owes told answers =
@@ -611,6 +665,11 @@ module _ (calls : Calls) (shown : ℕ → List Charge) (Stopped : ℕ → Type 0
             ∙ ap (λ (phase : Phase). wish_in phase >>= charge_in) owes)
             (same.lines ∙ ap (λ (r : Paid). lines_after (CallStored r) call.seat.phase call.seat.lines) told
             ∙ ap (λ (phase : Phase). lines_after (CallStored Stored) phase call.seat.lines) owes)
+        by (Owing (wishes.Post item)) (Serial serial) owes told never = absurd never
+        by (Owing (wishes.Post item)) Stored owes told answers = free_shown (wishes.Post item) Stored refl owes told refl
+        by (Owing (wishes.Remove account number)) (Serial serial) owes told never = absurd never
+        by (Owing (wishes.Remove account number)) Stored owes told answers =
+            free_shown (wishes.Remove account number) Stored refl owes told refl
         by Over (Serial serial) owes told never = absurd never
         by Over Stored owes told never = absurd never
 

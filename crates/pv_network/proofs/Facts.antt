@@ -1,9 +1,11 @@
 -- Worked examples of the network's rules, computed from the definitions.
 use Rattle.std.proofs.Common.{lit<, lit≤, ◌≡◌, ℕ, List, [], ◌∷◌, Some, None, codes, refl, length, true, false}
+use Rattle.std.specs.Prelude.{◌==◌, if◌then◌else◌, Option}
 use Rattle.std.specs.Fmt.{digits}
 use Rattle.pv_outside.specs.declared.limits.Limits.{Limits}
 use Rattle.pv_node.specs.declared.decision.Decision.TheVariants.{Answer}
 use Rattle.pv_charge.specs.Line.{Charge}
+use Rattle.pv_post.specs.Boxes.{WaitingLetter}
 use Rattle.pv_post.specs.declared.item.Item.{Item}
 use Rattle.pv_post.specs.declared.item.Item.TheVariants as items
 use Rattle.pv_edits.specs.declared.record.Record.{Record}
@@ -23,7 +25,8 @@ use Rattle.pv_session.specs.declared.step.Wish.TheVariants as wishes
 use Rattle.pv_session.specs.Messages.{screen_of_blank}
 use Rattle.pv_session.specs.State.{new_call}
 use Rattle.pv_network.specs.Call.{Call, call_of, first_call, serial_of}
-use Rattle.pv_network.specs.Calls.{no_calls, call_in, with_call, dial_at, with_wish, store_at}
+use Rattle.pv_network.specs.Calls.{Holdings, no_calls, call_in, with_call, dial_at, with_wish, store_at}
+use Rattle.pv_network.specs.Keying.{is_over}
 use Rattle.pv_network.specs.declared.arrival.Arrival.TheVariants.{Taken, Old, Early, Full}
 use Rattle.pv_network.specs.declared.event.NodeName.TheVariants as nodes
 use Rattle.pv_network.specs.declared.event.TheConstants.{EDITORS}
@@ -148,11 +151,32 @@ pub dials : ((dial_at no_calls 0 None).1 ≡ outcomes.Shown (record { screen = s
     × ((dial_at (dial_at no_calls 0 None).0 0 (call_in (dial_at no_calls 0 None).0 0)).1 ≡ outcomes.Busy)
 dials = (refl, refl)
 
+-- a letter that has waited since place 3
+abbrev letter : WaitingLetter
+letter = record { number = 3; sender = 2; moment = 0; text = [] }
+
+-- a centre that has applied seven records, of this many in all and five at most, where the letter waits for account 1
+abbrev holdings : ℕ → Holdings
+holdings count = record { limit = 5; count = count; applied = 7; letters = λ account. if account == 1 then letter ∷ [] else [] }
+
 -- a log-on raises the count, its serial is the count before it, and a call that owes nothing stores none
-pub serials : ((with_wish no_calls 0 first_call (wishes.LogOn 1)).log_ons ≡ 1)
+pub serials : ((with_wish (holdings 4) no_calls 0 first_call (wishes.LogOn 1)).log_ons ≡ 1)
     × (serial_of (record first_call { stored = Some (Serial 0) }) ≡ Some 0)
-    × ((store_at true 4 no_calls 0 (Some first_call)).1 ≡ outcomes.Nothing)
+    × ((store_at (holdings 5) no_calls 0 (Some first_call)).1 ≡ outcomes.Nothing)
 serials = (refl, refl, refl)
+
+-- the call at a port that owes the removal of a letter
+abbrev removing : ℕ → Option Call
+removing number = Some (call_of (record new_call { phase = Owing (wishes.Remove 1 number); account = Some 1; serial = Some 7 }))
+
+-- A letter that waits is removed at the count of the applied records, and a full centre has no room for that. The removal of one
+-- that does not wait stores nothing, also at a full centre.
+pub removals :
+    ((store_at (holdings 4) no_calls 0 (removing 3)).0.removals ≡ record { account = 1; number = 3; place = 7 } ∷ [])
+    × (is_over (store_at (holdings 5) no_calls 0 (removing 3)).1 ≡ true)
+    × ((store_at (holdings 4) no_calls 0 (removing 2)).0.removals ≡ [])
+    × ((store_at (holdings 5) no_calls 0 (removing 2)).1 ≡ outcomes.Stored)
+removals = (refl, refl, refl, refl)
 
 -- ---- charges
 
@@ -174,10 +198,10 @@ shown_by_call = refl
 
 -- A charge is an item once it is stored, and then it is in hand. It is not before. A full centre stores none.
 pub charge_is_stored :
-    ((store_at false 4 (with_call no_calls 0 (Some owing)) 0 (Some owing)).0.items ≡ items.Charge (line 7 0) ∷ [])
-    × (lines_in_hand (store_at false 4 (with_call no_calls 0 (Some owing)) 0 (Some owing)).0.ports ≡ line 7 0 ∷ [])
+    ((store_at (holdings 4) (with_call no_calls 0 (Some owing)) 0 (Some owing)).0.items ≡ items.Charge (line 7 0) ∷ [])
+    × (lines_in_hand (store_at (holdings 4) (with_call no_calls 0 (Some owing)) 0 (Some owing)).0.ports ≡ line 7 0 ∷ [])
     × (lines_in_hand (Some owing ∷ []) ≡ [])
-    × ((store_at true 4 (with_call no_calls 0 (Some owing)) 0 (Some owing)).0.items ≡ [])
+    × ((store_at (holdings 5) (with_call no_calls 0 (Some owing)) 0 (Some owing)).0.items ≡ [])
 charge_is_stored = (refl, refl, refl, refl)
 
 -- a call that ends with a line in hand was stopped, and one without was not

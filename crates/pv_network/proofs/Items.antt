@@ -10,7 +10,7 @@ use Rattle.pv_session.specs.declared.step.Wish.TheVariants as wishes
 use Rattle.pv_network.specs.declared.outcome.Outcome.{Outcome}
 use Rattle.pv_network.specs.declared.outcome.Outcome.TheVariants as outcomes
 use Rattle.pv_network.specs.Call.{Call, is_waiting, wish_to_store, key_turn}
-use Rattle.pv_network.specs.Calls.{Calls, turn_at, dial_at, hang_at, press_at, with_wish, storing_at, store_at, showing_at, show_at}
+use Rattle.pv_network.specs.Calls.{Calls, Holdings, is_refused, turn_at, dial_at, hang_at, press_at, with_wish, storing_unless, storing_at, store_at, showing_at, show_at}
 
 -- the items are those that were there, and then more
 abbrev pub KeepsItems : Calls → Calls → Type 0
@@ -42,18 +42,24 @@ module _ (calls : Calls) (port : ℕ) where
       by_test (is_waiting call) (calls, outcomes.Owing) (turn_at calls port (key_turn call.seat key view moment entry)) (same_items calls)
       (same_items calls)
 
-  -- a charge is one item more
-  wish_items : (call : Call) (wish : Wish) → KeepsItems calls (with_wish calls port call wish)
-  wish_items call (wishes.LogOn account) = same_items calls
-  wish_items call (wishes.Charge line) = (items.Charge line ∷ [], refl)
+  -- a charge, or what is sent, is one item more
+  wish_items : (holdings : Holdings) (call : Call) (wish : Wish) → KeepsItems calls (with_wish holdings calls port call wish)
+  wish_items holdings call (wishes.LogOn account) = same_items calls
+  wish_items holdings call (wishes.Charge line) = (items.Charge line ∷ [], refl)
+  wish_items holdings call (wishes.Post item) = (item ∷ [], refl)
+  wish_items holdings call (wishes.Remove account number) = same_items calls
 
-  pub store_items : (is_full : Bool) (count : ℕ) (call : Option Call) → KeepsItems calls (store_at is_full count calls port call).0
-  store_items is_full count None = same_items calls
-  store_items is_full count (Some call) = by (wish_to_store call)
+  pub store_items : (holdings : Holdings) (call : Option Call) → KeepsItems calls (store_at holdings calls port call).0
+  store_items holdings None = same_items calls
+  store_items holdings (Some call) = by (wish_to_store call)
     where
-      by : (wish : Option Wish) → KeepsItems calls (storing_at is_full count calls port call wish).0
+      unless : (refused : Bool) (wish : Wish) → KeepsItems calls (storing_unless refused holdings calls port call wish).0
+      unless true wish = same_items calls
+      unless false wish = wish_items holdings call wish
+
+      by : (wish : Option Wish) → KeepsItems calls (storing_at holdings calls port call wish).0
       by None = same_items calls
-      by (Some wish) = by_test is_full _ (with_wish calls port call wish, outcomes.Stored) (same_items calls) (wish_items call wish)
+      by (Some wish) = unless (is_refused holdings wish) wish
 
   pub show_items : (call : Option Call) → KeepsItems calls (show_at calls port call).0
   show_items None = same_items calls

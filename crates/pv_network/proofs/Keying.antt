@@ -10,7 +10,7 @@ use Rattle.pv_session.specs.declared.entry.Entry.{Entry}
 use Rattle.pv_network.specs.declared.outcome.Outcome.{Outcome}
 use Rattle.pv_network.specs.declared.outcome.Turn.{Turn}
 use Rattle.pv_network.specs.Calling.{call_at, step_of_press, step_of_store, step_of_show}
-use Rattle.pv_network.specs.Calls.{Calls, call_in, IsEntryOf}
+use Rattle.pv_network.specs.Calls.{Calls, call_in, IsPortEntry}
 use Rattle.pv_network.specs.Centre.{Held, calls_of}
 use Rattle.pv_network.specs.Keying.{KeyedByte, bytes_of, is_owes, is_storing, step_of_payment, step_of_key, screens_in, is_over, keys_from, TakesAll, turns_answer, keys_refusal, step_of_keys, TakesAllAt}
 use Rattle.pv_network.specs.Standing.{State, StandsFor}
@@ -179,7 +179,7 @@ module _ (c port : ℕ) (text : List ℕ) (before : List Turn) (first : World) w
     taken_all none = ends now turns [] (none_read rest p.later.0 p.later.1 none) tt p.stands (sym (append-nil turns))
 
     module _ (byte : ℕ) (entry : Option Entry) (later : List ℕ) (new : State) (outcome : Outcome) (after : List Turn)
-        (read : notation_at rest ≡ Some (byte, later)) (says : IsEntryOf (call_at p.world c port) byte entry)
+        (read : notation_at rest ≡ Some (byte, later)) (says : IsPortEntry (call_at p.world c port) byte entry)
         (stands : StandsFor new (step_of_key p.world c port (record { byte = byte; entry = entry })).0)
         (is : outcome ≡ (step_of_key p.world c port (record { byte = byte; entry = entry })).1)
         (added : after ≡ turns ++ screens_in outcome) where

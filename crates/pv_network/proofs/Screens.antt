@@ -24,12 +24,12 @@ use Rattle.pv_network.specs.declared.outcome.Outcome.{Outcome}
 use Rattle.pv_network.specs.declared.outcome.Outcome.TheVariants as outcomes
 use Rattle.pv_network.specs.declared.outcome.Turn.{Turn}
 use Rattle.pv_network.specs.Call.{Call, first_call, is_waiting, wish_to_store, key_turn}
-use Rattle.pv_network.specs.Calling.{calls_at, call_at, view_at, with_calls, step_of_dial, step_of_hang, step_of_press, step_of_store, step_of_show}
-use Rattle.pv_network.specs.Calls.{call_in, with_call, step_answer, call_after, turn_at, away_answer, with_wish, dial_at, hang_at, press_at, storing_at, store_at, showing_at, show_at, IsEntryOf, IsEntryUnlessWaiting}
-use Rattle.pv_network.specs.Centre.{Centre, record_count, new_centre}
+use Rattle.pv_network.specs.Calling.{calls_at, call_at, view_at, holdings_at, with_calls, step_of_dial, step_of_hang, step_of_press, step_of_store, step_of_show}
+use Rattle.pv_network.specs.Calls.{Calls, Holdings, is_refused, call_in, with_call, step_answer, call_after, turn_at, away_answer, with_wish, dial_at, hang_at, press_at, storing_unless, storing_at, store_at, showing_at, show_at, IsPortEntry, IsEntryUnlessWaiting}
+use Rattle.pv_network.specs.Centre.{Centre, new_centre}
 use Rattle.pv_network.specs.Crashing.{step_of_centre_crash, step_of_crash}
 use Rattle.pv_network.specs.Keying.{KeyedByte, first_entry, is_owes, is_storing, step_of_payment, step_of_key, screens_in, is_over, keys_from, UnlessOver, TakesAll, turns_answer, keys_refusal, step_of_taken_keys, step_of_keys, TakesAllAt}
-use Rattle.pv_network.specs.Screens.{press_events, store_events, reply_events, show_events, is_full_at, payment_events, key_events, keys_events, taken_events, is_same_port, seat_events, step_turns, steps_turns, turns_in, port_turns, call_events, call_turns, AreChoices}
+use Rattle.pv_network.specs.Screens.{press_events, wish_events, store_events, reply_events, show_events, payment_events, key_events, keys_events, taken_events, is_same_port, seat_events, step_turns, steps_turns, turns_in, port_turns, call_events, call_turns, AreChoices}
 use Rattle.pv_edits.specs.declared.room.TheConstants.{OPERATOR}
 use Rattle.pv_edits.specs.declared.wish.EditWish.TheVariants.{Put}
 use Rattle.pv_udc.specs.Judgement.{next_number}
@@ -240,7 +240,7 @@ module _ (w : World) (c p : ℕ) where
       → call_at (with_calls w c (with_call (calls_at w c) p next)) c p ≡ next
   next_is call is next = calls_here w c p call is (with_call (calls_at w c) p next) ∙ call_here w c p call is next
 
-  press_stretch : (key : ℕ) (entry : Option Entry) (call : Option Call) → call_at w c p ≡ call → IsEntryOf call key entry
+  press_stretch : (key : ℕ) (entry : Option Entry) (call : Option Call) → call_at w c p ≡ call → IsPortEntry call key entry
       → Stretch call (press_events (view_at w c p) w.moment key call)
       (screens_in (press_at (calls_at w c) p key (view_at w c p) w.moment entry call).1)
       (call_at (with_calls w c (press_at (calls_at w c) p key (view_at w c p) w.moment entry call).0) c p)
@@ -260,30 +260,29 @@ module _ (w : World) (c p : ℕ) where
           (sym (next_is call is (call_after turn.0 turn.1)))
           (turn_goes call.seat (Keyed key (view_at w c p) w.moment) turn.0 turn.1 (entry_turns call.seat key (view_at w c p) w.moment entry said))
 
-  store_stretch : (is_full : Bool) (count : ℕ) (call : Option Call) → call_at w c p ≡ call
-      → Stretch call (store_events is_full call) (screens_in (store_at is_full count (calls_at w c) p call).1)
-      (call_at (with_calls w c (store_at is_full count (calls_at w c) p call).0) c p)
-  store_stretch is_full count None is = nothing_done None is
-  store_stretch is_full count (Some call) is = by (wish_to_store call) refl
+  store_stretch : (holdings : Holdings) (call : Option Call) → call_at w c p ≡ call
+      → Stretch call (store_events holdings call) (screens_in (store_at holdings (calls_at w c) p call).1)
+      (call_at (with_calls w c (store_at holdings (calls_at w c) p call).0) c p)
+  store_stretch holdings None is = nothing_done None is
+  store_stretch holdings (Some call) is = by (wish_to_store call) refl
     where
-      full : (is_full : Bool) (wish : Wish) → wish_to_store call ≡ Some wish
-          → Stretch (Some call) (cond is_full (Refused ∷ []) []) (screens_in (storing_at is_full count (calls_at w c) p call (Some wish)).1)
-          (call_at (with_calls w c (storing_at is_full count (calls_at w c) p call (Some wish)).0) c p)
+      full : (refused : Bool) (wish : Wish) → wish_to_store call ≡ Some wish
+          → Stretch (Some call) (cond refused (Refused ∷ []) []) (screens_in (storing_unless refused holdings (calls_at w c) p call wish).1)
+          (call_at (with_calls w c (storing_unless refused holdings (calls_at w c) p call wish).0) c p)
       full true wish owes =
           subst (λ (next : Option Call). Goes call.seat (Refused ∷ [])
-          (screens_in (away_answer count (full_turn call.seat call.seat.phase).1)) next)
-          (sym (next_is call is None)) (full_goes call.seat call.seat.phase count wish refl (to_store call wish owes).1)
+          (screens_in (away_answer holdings.count (full_turn call.seat call.seat.phase).1)) next)
+          (sym (next_is call is None)) (full_goes call.seat call.seat.phase holdings.count wish refl (to_store call wish owes).1)
       full false wish owes =
-          let there = calls_here w c p call is (with_wish (calls_at w c) p call wish) ∙ call_here w c p call is _ in
+          let there = calls_here w c p call is (with_wish holdings (calls_at w c) p call wish) ∙ call_here w c p call is _ in
           subst (λ (next : Option Call). Goes call.seat [] [] next) (sym there)
           (record { steps = []; after = call.seat; are = refl; shown = refl; left = refl })
 
       by : (wish : Option Wish) → wish_to_store call ≡ wish
-          → Stretch (Some call) (cond (is_some wish) (cond is_full (Refused ∷ []) []) [])
-          (screens_in (storing_at is_full count (calls_at w c) p call wish).1)
-          (call_at (with_calls w c (storing_at is_full count (calls_at w c) p call wish).0) c p)
+          → Stretch (Some call) (wish_events holdings wish) (screens_in (storing_at holdings (calls_at w c) p call wish).1)
+          (call_at (with_calls w c (storing_at holdings (calls_at w c) p call wish).0) c p)
       by None owes = nothing_done (Some call) is
-      by (Some wish) owes = full is_full wish owes
+      by (Some wish) owes = full (is_refused holdings wish) wish owes
 
   show_stretch : (call : Option Call) → call_at w c p ≡ call
       → Stretch call (show_events call) (screens_in (show_at (calls_at w c) p call).1)
@@ -305,12 +304,12 @@ payment_stretch : (w : World) (c p : ℕ)
     → Stretch (call_at w c p) (payment_events w c p) (screens_in (step_of_payment w c p).1) (call_at (step_of_payment w c p).0 c p)
 payment_stretch w c p = by (is_storing (step_of_store w c p).1) refl
   where
-    first : Stretch (call_at w c p) (store_events (is_full_at w c) (call_at w c p)) (screens_in (step_of_store w c p).1)
+    first : Stretch (call_at w c p) (store_events (holdings_at w c) (call_at w c p)) (screens_in (step_of_store w c p).1)
         (call_at (step_of_store w c p).0 c p)
-    first = store_stretch w c p (is_full_at w c) (record_count (centre_at w c)) (call_at w c p) refl
+    first = store_stretch w c p (holdings_at w c) (call_at w c p) refl
 
     by : (stored : Bool) → is_storing (step_of_store w c p).1 ≡ stored
-        → Stretch (call_at w c p) (store_events (is_full_at w c) (call_at w c p) ++ cond stored
+        → Stretch (call_at w c p) (store_events (holdings_at w c) (call_at w c p) ++ cond stored
         (show_events (call_at (step_of_store w c p).0 c p)) [])
         (screens_in (cond stored (step_of_show (step_of_store w c p).0 c p) (step_of_store w c p)).1)
         (call_at (cond stored (step_of_show (step_of_store w c p).0 c p) (step_of_store w c p)).0 c p)
@@ -319,13 +318,13 @@ payment_stretch w c p = by (is_storing (step_of_store w c p).1) refl
         let both = stretch_on (call_at w c p) (call_at v c p) (call_at (step_of_show v c p).0 c p) _ (show_events (call_at v c p)) _
         (screens_in (step_of_show v c p).1) first
         (show_stretch v c p (call_at v c p) refl) in
-        subst (λ (l : List Turn). Stretch (call_at w c p) (store_events (is_full_at w c) (call_at w c p) ++ show_events (call_at v c p))
+        subst (λ (l : List Turn). Stretch (call_at w c p) (store_events (holdings_at w c) (call_at w c p) ++ show_events (call_at v c p))
         (l ++ screens_in (step_of_show v c p).1) (call_at (step_of_show v c p).0 c p))
         (stored_nothing_shown (step_of_store w c p).1 is) both
     by false is = stretch_end (call_at w c p) _ _ _ first
 
 -- a key
-key_stretch : (w : World) (c p : ℕ) (key : KeyedByte) → IsEntryOf (call_at w c p) key.byte key.entry
+key_stretch : (w : World) (c p : ℕ) (key : KeyedByte) → IsPortEntry (call_at w c p) key.byte key.entry
     → Stretch (call_at w c p) (key_events w c p key) (screens_in (step_of_key w c p key).1) (call_at (step_of_key w c p key).0 c p)
 key_stretch w c p key says = by (is_owes (step_of_press w c p key.byte key.entry).1) refl
   where
@@ -457,20 +456,20 @@ module _ (w : World) (c p centre port : ℕ) (other : centre ≡ c → port ≡ 
       by true = kept_calls
       by false = changed_call _
 
-  store_elsewhere : (is_full : Bool) (count : ℕ) (call : Option Call)
-      → call_at (with_calls w centre (store_at is_full count (calls_at w centre) port call).0) c p ≡ call_at w c p
-  store_elsewhere is_full count None = kept_calls
-  store_elsewhere is_full count (Some call) = by (wish_to_store call)
+  store_elsewhere : (holdings : Holdings) (call : Option Call)
+      → call_at (with_calls w centre (store_at holdings (calls_at w centre) port call).0) c p ≡ call_at w c p
+  store_elsewhere holdings None = kept_calls
+  store_elsewhere holdings (Some call) = by (wish_to_store call)
     where
-      full : (is_full : Bool) (wish : Wish)
-          → call_at (with_calls w centre (storing_at is_full count (calls_at w centre) port call (Some wish)).0) c p ≡ call_at w c p
+      full : (refused : Bool) (wish : Wish)
+          → call_at (with_calls w centre (storing_unless refused holdings (calls_at w centre) port call wish).0) c p ≡ call_at w c p
       full true wish = changed_call None
-      full false wish = call_elsewhere w c p centre port _ (with_wish (calls_at w centre) port call wish) other refl
+      full false wish = call_elsewhere w c p centre port _ (with_wish holdings (calls_at w centre) port call wish) other refl
 
       by : (wish : Option Wish)
-          → call_at (with_calls w centre (storing_at is_full count (calls_at w centre) port call wish).0) c p ≡ call_at w c p
+          → call_at (with_calls w centre (storing_at holdings (calls_at w centre) port call wish).0) c p ≡ call_at w c p
       by None = kept_calls
-      by (Some wish) = full is_full wish
+      by (Some wish) = full (is_refused holdings wish) wish
 
   show_elsewhere : (call : Option Call) → call_at (with_calls w centre (show_at (calls_at w centre) port call).0) c p ≡ call_at w c p
   show_elsewhere None = kept_calls
@@ -489,7 +488,7 @@ press_other w c p centre port key entry other = press_elsewhere w c p centre por
 
 store_other : (w : World) (c p centre port : ℕ) → (centre ≡ c → port ≡ p → ⊥) → call_at (step_of_store w centre port).0 c p ≡ call_at w c p
 store_other w c p centre port other =
-    store_elsewhere w c p centre port other (is_full_at w centre) (record_count (centre_at w centre)) (call_at w centre port)
+    store_elsewhere w c p centre port other (holdings_at w centre) (call_at w centre port)
 
 show_other : (w : World) (c p centre port : ℕ) → (centre ≡ c → port ≡ p → ⊥) → call_at (step_of_show w centre port).0 c p ≡ call_at w c p
 show_other w c p centre port other = show_elsewhere w c p centre port other (call_at w centre port)
@@ -595,12 +594,12 @@ event_stretch w c p call (events.Dial centre port) choice is chosen =
 event_stretch w c p call (events.Press centre port key) choice is chosen =
     by_port w c p centre port (λ n m. step_of_press w n m key (first_entry choice.keyed)) screens_in _
     (λ one two. press_stretch w c p key (first_entry choice.keyed) (call_at w c p) refl
-    (subst (λ (n : ℕ). IsEntryOf (call_at w n p) key (first_entry choice.keyed)) one
-    (subst (λ (m : ℕ). IsEntryOf (call_at w centre m) key (first_entry choice.keyed)) two chosen)))
+    (subst (λ (n : ℕ). IsPortEntry (call_at w n p) key (first_entry choice.keyed)) one
+    (subst (λ (m : ℕ). IsPortEntry (call_at w centre m) key (first_entry choice.keyed)) two chosen)))
     (press_other w c p centre port key (first_entry choice.keyed))
 event_stretch w c p call (events.Store centre port) choice is chosen =
     by_port w c p centre port (λ n m. step_of_store w n m) screens_in _
-    (λ one two. store_stretch w c p (is_full_at w c) (record_count (centre_at w c)) (call_at w c p) refl) (store_other w c p centre port)
+    (λ one two. store_stretch w c p (holdings_at w c) (call_at w c p) refl) (store_other w c p centre port)
 event_stretch w c p call (events.Show centre port) choice is chosen =
     by_port w c p centre port (λ n m. step_of_show w n m) screens_in _ (λ one two. show_stretch w c p (call_at w c p) refl)
     (show_other w c p centre port)

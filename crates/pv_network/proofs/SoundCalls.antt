@@ -5,6 +5,7 @@ use Rattle.std.proofs.lemmas.List.{length-set}
 use Rattle.pv_fields.specs.Reading.{◌>>=◌}
 use Rattle.pv_edits.specs.Sight.{View}
 use Rattle.pv_post.specs.declared.item.Item.{Item}
+use Rattle.pv_post.specs.declared.removal.Removal.{Removal}
 use Rattle.pv_session.specs.declared.entry.Entry.{Entry}
 use Rattle.pv_session.specs.declared.step.Paid.{Paid}
 use Rattle.pv_session.specs.declared.step.Paid.TheVariants.{Serial, Stored}
@@ -13,13 +14,13 @@ use Rattle.pv_session.specs.declared.step.Phase.TheVariants.{Listening, Owing, O
 use Rattle.pv_session.specs.declared.step.Step.{Step}
 use Rattle.pv_session.specs.declared.step.Step.TheVariants as steps
 use Rattle.pv_session.specs.declared.step.Wish.{Wish}
-use Rattle.pv_session.specs.declared.step.Wish.TheVariants.{LogOn, Charge}
+use Rattle.pv_session.specs.declared.step.Wish.TheVariants.{LogOn, Charge, Post, Remove}
 use Rattle.pv_session.specs.Shown.{ShownFrame}
 use Rattle.pv_session.specs.State.{CallState, is_owing, wish_in}
 use Rattle.pv_session.specs.Turns.{charged_turn, storing_turn}
 use Rattle.pv_network.specs.declared.outcome.Outcome.TheVariants as outcomes
 use Rattle.pv_network.specs.Call.{Call, call_of, first_call, serial_with, serial_of, is_waiting, wish_to_store, key_turn}
-use Rattle.pv_network.specs.Calls.{Calls, call_in, with_call, turn_at, dial_at, hang_at, press_at, items_with, reply_for, with_wish, storing_at, store_at, showing_at, show_at}
+use Rattle.pv_network.specs.Calls.{Calls, Holdings, is_refused, call_in, with_call, turn_at, dial_at, hang_at, press_at, items_with, removals_with, reply_for, with_wish, storing_unless, storing_at, store_at, showing_at, show_at}
 use Rattle.pv_network.specs.Sound.{serial_in, Answers, OwesItsReply, IsSoundCalls}
 use Rattle.pv_network.proofs.KeptSerials.{key_keeps}
 use Rattle.pv_network.proofs.Lists.{set_at}
@@ -55,6 +56,10 @@ storing_serial seat (Owing (Charge line)) Stored answers = by seat.aside
     by : (aside : Option ShownFrame) → (charged_turn seat aside).0.serial ≡ seat.serial
     by None = refl
     by (Some shown) = refl
+storing_serial seat (Owing (Post item)) (Serial serial) never = absurd never
+storing_serial seat (Owing (Post item)) Stored answers = refl
+storing_serial seat (Owing (Remove account number)) (Serial serial) never = absurd never
+storing_serial seat (Owing (Remove account number)) Stored answers = refl
 storing_serial seat Over (Serial serial) never = absurd never
 storing_serial seat Over Stored never = absurd never
 
@@ -62,6 +67,8 @@ storing_serial seat Over Stored never = absurd never
 own_reply : (calls : Calls) (wish : Wish) → Answers (Owing wish) (reply_for calls wish)
 own_reply calls (LogOn account) = tt
 own_reply calls (Charge line) = tt
+own_reply calls (Post item) = tt
+own_reply calls (Remove account number) = tt
 
 reply_answers : (calls : Calls) (phase : Phase) (wish : Wish) → wish_in phase ≡ Some wish → Answers phase (reply_for calls wish)
 reply_answers calls Listening wish is = absurd cc
@@ -76,11 +83,11 @@ module _ (calls : Calls) (port : ℕ) (sound : IsSoundCalls calls) where
   answers_at call reply is has = subst (λ (stored : Option Paid). IfSome stored (Answers call.seat.phase)) has
       (subst (λ (there : Option Call). IfSome there OwesItsReply) is (sound.replies port))
 
-  -- calls stay sound with another call at a port that has its serial or none, whatever the items
-  with_call_sound : (items : List Item) (call : Option Call)
+  -- calls stay sound with another call at a port that has its serial or none, whatever the items and the removals
+  with_call_sound : (items : List Item) (removals : List Removal) (call : Option Call)
       → ((serial : ℕ) → serial_of_any call ≡ Some serial → serial_in calls port ≡ Some serial)
-      → IfSome call OwesItsReply → IsSoundCalls (record calls { items = items; ports = set calls.ports port call })
-  with_call_sound items call kept answers = record {
+      → IfSome call OwesItsReply → IsSoundCalls (record calls { items = items; removals = removals; ports = set calls.ports port call })
+  with_call_sound items removals call kept answers = record {
     ports = length-set calls.ports port call ∙ sound.ports;
     below = set_at (λ k x. (serial : ℕ) → serial_of_any x ≡ Some serial → serial < calls.log_ons) calls.ports port call None sound.below
         (λ serial is. sound.below port serial (kept serial is));
@@ -97,25 +104,25 @@ module _ (calls : Calls) (port : ℕ) (sound : IsSoundCalls calls) where
 
   -- they stay sound without a call there
   without_call_sound : IsSoundCalls (with_call calls port None)
-  without_call_sound = with_call_sound calls.items None (λ serial is. absurd cc) tt
+  without_call_sound = with_call_sound calls.items calls.removals None (λ serial is. absurd cc) tt
 
   -- they stay sound after a turn that keeps the serial
   turn_sound : (turn : CallState × Step) → ((serial : ℕ) → turn.0.serial ≡ Some serial → serial_in calls port ≡ Some serial)
       → IsSoundCalls (turn_at calls port turn).0
-  turn_sound (seat, steps.Quiet) kept = with_call_sound calls.items (Some (call_of seat)) kept tt
-  turn_sound (seat, steps.Show screen) kept = with_call_sound calls.items (Some (call_of seat)) kept tt
-  turn_sound (seat, steps.Owe wish) kept = with_call_sound calls.items (Some (call_of seat)) kept tt
+  turn_sound (seat, steps.Quiet) kept = with_call_sound calls.items calls.removals (Some (call_of seat)) kept tt
+  turn_sound (seat, steps.Show screen) kept = with_call_sound calls.items calls.removals (Some (call_of seat)) kept tt
+  turn_sound (seat, steps.Owe wish) kept = with_call_sound calls.items calls.removals (Some (call_of seat)) kept tt
   turn_sound (seat, steps.Ended why screen) kept = without_call_sound
 
   -- they stay sound as a log-on is stored, since its serial is none of those before it
-  log_on_sound : (call : Call) (account : ℕ) → Answers call.seat.phase (Serial calls.log_ons)
-      → IsSoundCalls (with_wish calls port call (LogOn account))
-  log_on_sound call account answers = record {
+  log_on_sound : (holdings : Holdings) (call : Call) (account : ℕ) → Answers call.seat.phase (Serial calls.log_ons)
+      → IsSoundCalls (with_wish holdings calls port call (LogOn account))
+  log_on_sound holdings call account answers = record {
     ports = length-set calls.ports port (Some new) ∙ sound.ports;
     below = set_at (λ k x. (serial : ℕ) → serial_of_any x ≡ Some serial → serial < calls.log_ons + 1) calls.ports port (Some new) None
         (λ k serial is. let less = sound.below k serial is in omega (arith, less)) (λ serial is. omega (arith, this serial is));
     differ = set_at (λ k x. (other serial : ℕ) → serial_of_any x ≡ Some serial → serial_in
-        (with_wish calls port call (LogOn account)) other ≡ Some serial → k ≡ other)
+        (with_wish holdings calls port call (LogOn account)) other ≡ Some serial → k ≡ other)
         calls.ports port (Some new) None old latest;
     replies = set_at (λ k x. IfSome x OwesItsReply) calls.ports port (Some new) None sound.replies answers;
   }
@@ -127,30 +134,43 @@ module _ (calls : Calls) (port : ℕ) (sound : IsSoundCalls calls) where
       this serial is = cc
 
       old : (k other serial : ℕ) → serial_in calls k ≡ Some serial
-          → serial_in (with_wish calls port call (LogOn account)) other ≡ Some serial → k ≡ other
+          → serial_in (with_wish holdings calls port call (LogOn account)) other ≡ Some serial → k ≡ other
       old k other serial is =
           set_at (λ o x. serial_of_any x ≡ Some serial → k ≡ o) calls.ports port (Some new) None
           (λ o there. sound.differ k o serial is there)
           (λ here. let less = sound.below k serial is in absurd (omega (arith, less, this serial here))) other
 
       latest : (other serial : ℕ) → serial_of_any (Some new) ≡ Some serial
-          → serial_in (with_wish calls port call (LogOn account)) other ≡ Some serial → port ≡ other
+          → serial_in (with_wish holdings calls port call (LogOn account)) other ≡ Some serial → port ≡ other
       latest other serial is =
           set_at (λ o x. serial_of_any x ≡ Some serial → port ≡ o) calls.ports port (Some new) None
           (λ o there. let less = sound.below o serial there in absurd (omega (arith, less, this serial is))) (λ here. refl) other
 
   -- they stay sound as any wish is stored
-  wish_sound : (call : Call) (wish : Wish) → call_in calls port ≡ Some call → call.stored ≡ None
-      → Answers call.seat.phase (reply_for calls wish) → IsSoundCalls (with_wish calls port call wish)
-  wish_sound call (LogOn account) is none answers = log_on_sound call account answers
-  wish_sound call (Charge line) is none answers =
-      with_call_sound (items_with calls (Charge line)) (Some (record call { stored = Some Stored }))
-      (λ serial has. ap serial_of_any is ∙ ap (λ (stored : Option Paid). serial_with stored call.seat.serial) none ∙ has) answers
+  wish_sound : (holdings : Holdings) (call : Call) (wish : Wish) → call_in calls port ≡ Some call → call.stored ≡ None
+      → Answers call.seat.phase (reply_for calls wish) → IsSoundCalls (with_wish holdings calls port call wish)
+  wish_sound holdings call wish is none = by wish
+    where
+      kept : (serial : ℕ) → serial_of (record call { stored = Some Stored }) ≡ Some serial → serial_in calls port ≡ Some serial
+      kept serial has = ap serial_of_any is ∙ ap (λ (stored : Option Paid). serial_with stored call.seat.serial) none ∙ has
+
+      stored : (wish : Wish) → Answers call.seat.phase Stored → IsSoundCalls (record calls {
+        items = items_with calls wish;
+        removals = removals_with holdings calls wish;
+        ports = set calls.ports port (Some (record call { stored = Some Stored }));
+      })
+      stored wish answers = with_call_sound (items_with calls wish) (removals_with holdings calls wish) (Some (record call { stored = Some Stored })) kept answers
+
+      by : (wish : Wish) → Answers call.seat.phase (reply_for calls wish) → IsSoundCalls (with_wish holdings calls port call wish)
+      by (LogOn account) = log_on_sound holdings call account
+      by (Charge line) = stored (Charge line)
+      by (Post item) = stored (Post item)
+      by (Remove account number) = stored (Remove account number)
 
   -- ---- the events
 
   pub dial_sound : (call : Option Call) → IsSoundCalls (dial_at calls port call).0
-  dial_sound None = with_call_sound calls.items (Some first_call) (λ serial is. absurd cc) tt
+  dial_sound None = with_call_sound calls.items calls.removals (Some first_call) (λ serial is. absurd cc) tt
   dial_sound (Some call) = sound
 
   pub hang_sound : (call : Option Call) → IsSoundCalls (hang_at calls port call).0
@@ -169,20 +189,19 @@ module _ (calls : Calls) (port : ℕ) (sound : IsSoundCalls calls) where
           ∙ ap (λ (stored : Option Paid). serial_with stored call.seat.serial) (none_stored (is_owing call.seat.phase) call.stored how)
           ∙ sym (key_keeps call.seat key view moment entry) ∙ kept)
 
-  pub store_sound : (is_full : Bool) (count : ℕ) (call : Option Call) → call_in calls port ≡ call
-      → IsSoundCalls (store_at is_full count calls port call).0
-  store_sound is_full count None is = sound
-  store_sound is_full count (Some call) is = by (wish_to_store call) refl
+  pub store_sound : (holdings : Holdings) (call : Option Call) → call_in calls port ≡ call → IsSoundCalls (store_at holdings calls port call).0
+  store_sound holdings None is = sound
+  store_sound holdings (Some call) is = by (wish_to_store call) refl
     where
-      full : (is_full : Bool) (wish : Wish) → wish_to_store call ≡ Some wish
-          → IsSoundCalls (storing_at is_full count calls port call (Some wish)).0
+      full : (refused : Bool) (wish : Wish) → wish_to_store call ≡ Some wish
+          → IsSoundCalls (storing_unless refused holdings calls port call wish).0
       full true wish owes = without_call_sound
       full false wish owes =
-          let owed = to_store call wish owes in wish_sound call wish is owed.0 (reply_answers calls call.seat.phase wish owed.1)
+          let owed = to_store call wish owes in wish_sound holdings call wish is owed.0 (reply_answers calls call.seat.phase wish owed.1)
 
-      by : (wish : Option Wish) → wish_to_store call ≡ wish → IsSoundCalls (storing_at is_full count calls port call wish).0
+      by : (wish : Option Wish) → wish_to_store call ≡ wish → IsSoundCalls (storing_at holdings calls port call wish).0
       by None owes = sound
-      by (Some wish) owes = full is_full wish owes
+      by (Some wish) owes = full (is_refused holdings wish) wish owes
 
   pub show_sound : (call : Option Call) → call_in calls port ≡ call → IsSoundCalls (show_at calls port call).0
   show_sound None is = sound

@@ -639,8 +639,8 @@ module _ (w : World) (c port : ℕ) (sound : IsSound w) where
       (press_sound (calls_at w c) port (sound.calls c) key (view_at w c port) w.moment entry (call_at w c port) refl)
 
   pub sound_store : IsSound (step_of_store w c port).0
-  sound_store = sound_with_calls w c sound _ (store_items (calls_at w c) port _ _ (call_at w c port))
-      (store_sound (calls_at w c) port (sound.calls c) _ _ (call_at w c port) refl)
+  sound_store = sound_with_calls w c sound _ (store_items (calls_at w c) port _ (call_at w c port))
+      (store_sound (calls_at w c) port (sound.calls c) _ (call_at w c port) refl)
 
   pub sound_show : IsSound (step_of_show w c port).0
   sound_show = sound_told _ _ _ (sound_with_calls w c sound _ (show_items (calls_at w c) port (call_at w c port))

@@ -25,15 +25,16 @@ use Rattle.pv_network.proofs.Lists.{set_both, get_push}
 module _ (u : EditList) (c : ℕ) (here : Held) (centre : Centre) (stands : CentreStands u c here centre) where
   -- its calls are the world's
   pub calls_are : calls_of here ≡ centre.calls
-  calls_are = λ i. record { log_ons = (stands.state i).log_ons; items = (stands.state i).items; ports = stands.ports i }
+  calls_are = λ i. record {
+    log_ons = (stands.state i).log_ons;
+    items = (stands.state i).items;
+    removals = (stands.state i).removals;
+    ports = stands.ports i;
+  }
 
   -- it has as many records in all
   pub held_there : state_count here.node.state ≡ record_count centre
   held_there = ap state_count stands.state ∙ omega arith
-
-  -- it may have as many
-  pub limits_there : here.node.state.limits ≡ u.limits
-  limits_there = ap (λ (state : CentreState). state.limits) stands.state
 
   -- it stands for the same prefix as the list grows
   pub centre_longer : (edit : Record) → CentreStands (with_record u edit) c here centre

@@ -12,10 +12,9 @@ use Rattle.pv_session.specs.declared.step.Step.{Step}
 use Rattle.pv_session.specs.declared.step.Step.TheVariants as steps
 use Rattle.pv_session.specs.declared.step.Why.TheVariants.{Spent}
 use Rattle.pv_session.specs.declared.step.Wish.{Wish}
-use Rattle.pv_session.specs.Entries.{IsEntry}
 use Rattle.pv_session.specs.Fetching.{ending_turn}
 use Rattle.pv_session.specs.State.{CallState, new_call, is_owing, wish_in}
-use Rattle.pv_session.specs.Turns.{is_spent, keys_with, byte_turn}
+use Rattle.pv_session.specs.Turns.{is_spent, IsEntryOf, byte_turn}
 
 -- a call: its seat, and the reply to what was stored for it, if the caller is still to be shown it
 pub record Call : Type 0 where
@@ -62,7 +61,7 @@ key_turn seat byte view moment entry = key_turn_in seat.phase seat byte view mom
 -- a spent call reads no byte; else the entry is what the keys say with the byte, and nothing if they say nothing yet
 abbrev pub IsEntryUnless : Bool → CallState → ℕ → Option Entry → Type 0
 IsEntryUnless true seat byte entry = Unit {0}
-IsEntryUnless false seat byte entry = Exactly (IsEntry seat.mode (keys_with seat byte)) entry
+IsEntryUnless false seat byte entry = Exactly (IsEntryOf seat byte) entry
 
 abbrev pub IsEntryIn : Phase → CallState → ℕ → Option Entry → Type 0
 IsEntryIn Listening seat byte entry = IsEntryUnless (is_spent seat) seat byte entry

@@ -1,10 +1,13 @@
 -- Calls in the world: what each event at a port makes of it.
-use Rattle.std.specs.Prelude.{ℕ, nat_le, [], ◌∷◌, Option}
+use Rattle.std.specs.Prelude.{ℕ, List, [], ◌∷◌, Option}
+use Rattle.pv_post.specs.Boxes.{WaitingLetter}
+use Rattle.pv_post.specs.Waiting.{waiting_letters}
+use Rattle.pv_edits.specs.Letters.{letter_at}
 use Rattle.pv_edits.specs.Sight.{View, sight_of}
 use Rattle.pv_session.specs.declared.entry.Entry.{Entry}
 use Rattle.pv_network.specs.declared.outcome.Outcome.{Outcome}
 use Rattle.pv_network.specs.Call.{Call}
-use Rattle.pv_network.specs.Calls.{Calls, caller_account, call_in, dial_at, hang_at, press_at, store_at, show_at}
+use Rattle.pv_network.specs.Calls.{Calls, Holdings, caller_account, call_in, dial_at, hang_at, press_at, store_at, show_at}
 use Rattle.pv_network.specs.Centre.{record_count}
 use Rattle.pv_network.specs.Charging.{with_shown, with_stops}
 use Rattle.pv_network.specs.World.{World, centre_at, with_centre, page_base}
@@ -34,19 +37,31 @@ step_of_hang w c port =
     let done = at_calls w c (hang_at (calls_at w c) port (call_at w c port)) in
     (with_stops done.0 c (call_at w c port ∷ []), done.1)
 
--- what a centre shows to the caller at a port: what its page base has for his account
+-- the letters that wait at a centre for an account: those that its page base brought him, less those that were removed
+abbrev pub letters_at : World → ℕ → ℕ → List WaitingLetter
+letters_at w c account =
+    waiting_letters (letter_at (page_base w c) c account) (calls_at w c).removals account (centre_at w c).applied
+
+-- what a centre shows to the caller at a port: what its page base has for his account, and the letter that waits
 abbrev pub view_at : World → ℕ → ℕ → View
-view_at w c port = sight_of (page_base w c) c (caller_account (call_at w c port))
+view_at w c port = sight_of (page_base w c) (letters_at w c) c (caller_account (call_at w c port))
 
 -- a key at the moment of the clock, with the entry that it makes
 abbrev pub step_of_press : World → ℕ → ℕ → ℕ → Option Entry → World × Outcome
 step_of_press w c port key entry = at_calls w c (press_at (calls_at w c) port key (view_at w c port) w.moment entry (call_at w c port))
 
--- a centre is full if it has as many records as it may: those that it has applied, its items, and the log-ons
+-- what a centre stores a wish by
+abbrev pub holdings_at : World → ℕ → Holdings
+holdings_at w c = record {
+  limit = w.update.limits.records;
+  count = record_count (centre_at w c);
+  applied = (centre_at w c).applied;
+  letters = letters_at w c;
+}
+
+-- what a call owes is stored
 abbrev pub step_of_store : World → ℕ → ℕ → World × Outcome
-step_of_store w c port =
-    let count = record_count (centre_at w c) in
-    at_calls w c (store_at (nat_le w.update.limits.records count) count (calls_at w c) port (call_at w c port))
+step_of_store w c port = at_calls w c (store_at (holdings_at w c) (calls_at w c) port (call_at w c port))
 
 -- a caller is shown what his call was stored for: the line that it has in hand is now one of a frame that was shown
 abbrev pub step_of_show : World → ℕ → ℕ → World × Outcome

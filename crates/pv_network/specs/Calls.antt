@@ -1,8 +1,10 @@
 -- The calls at a centre's ports: what each event makes of them, and the answer to it.
-use Rattle.std.specs.Prelude.{◌≡◌, ℕ, ◌+◌, Bool, true, false, List, [], ◌∷◌, ◌++◌, replicate, slice_index_or, slice_set, Option, Some, None, Result, Ok, Err, if◌then◌else◌}
+use Rattle.std.specs.Prelude.{◌≡◌, ℕ, ◌+◌, ◌&&◌, nat_le, Bool, true, false, List, [], ◌∷◌, ◌++◌, replicate, slice_index_or, slice_set, Option, Some, None, Result, Ok, Err, if◌then◌else◌}
 use Rattle.pv_edits.specs.Sight.{View}
+use Rattle.pv_post.specs.Boxes.{WaitingLetter, has_letter}
 use Rattle.pv_post.specs.declared.item.Item.{Item}
 use Rattle.pv_post.specs.declared.item.Item.TheVariants as items
+use Rattle.pv_post.specs.declared.removal.Removal.{Removal}
 use Rattle.pv_session.specs.declared.entry.Entry.{Entry}
 use Rattle.pv_session.specs.declared.message.Message.TheVariants.{KeyAccount}
 use Rattle.pv_session.specs.declared.step.Paid.{Paid}
@@ -19,19 +21,17 @@ use Rattle.pv_network.specs.declared.outcome.Outcome.{Outcome}
 use Rattle.pv_network.specs.declared.outcome.Outcome.TheVariants as outcomes
 use Rattle.pv_network.specs.Call.{Call, call_of, first_call, is_waiting, wish_to_store, key_turn, IsEntryAt}
 
--- the calls of a centre: how many of its callers have logged on, the items that it has kept for them, and the call at each port
+-- the calls of a centre: how many of its callers have logged on, the items that it has kept for them, the letters that they have
+-- removed, and the call at each port
 pub record Calls : Type 0 where
   pub log_ons : ℕ
   pub items : List Item
+  pub removals : List Removal
   pub ports : List (Option Call)
-
--- the calls at these ports, of a centre that has counted this many log-ons and kept these items
-abbrev pub calls_with : ℕ → List Item → List (Option Call) → Calls
-calls_with log_ons items ports = record { log_ons = log_ons; items = items; ports = ports }
 
 -- a centre that nobody has called
 abbrev pub no_calls : Calls
-no_calls = record { log_ons = 0; items = []; ports = replicate PORTS None }
+no_calls = record { log_ons = 0; items = []; removals = []; ports = replicate PORTS None }
 
 -- the call at a port; after the last port there is none
 abbrev pub call_among : List (Option Call) → ℕ → Option Call
@@ -49,11 +49,11 @@ caller_account (Some call) = call.seat.account
 abbrev pub with_call : Calls → ℕ → Option Call → Calls
 with_call calls port call = record calls { ports = slice_set calls.ports port call }
 
--- what is done at the ports, and the answer: the same whatever the log-ons and the items, which stay
+-- what is done at the ports, and the answer: the same whatever was stored, which stays
 abbrev pub IsDone : List (Option Call) → List (Option Call) → Outcome → (Calls → Calls × Outcome) → Type 0
-IsDone old new outcome step = (log_ons : ℕ) (items : List Item)
-    → (calls_with log_ons items new ≡ (step (calls_with log_ons items old)).0)
-    × (outcome ≡ (step (calls_with log_ons items old)).1)
+IsDone old new outcome step = (calls : Calls)
+    → (record calls { ports = new } ≡ (step (record calls { ports = old })).0)
+    × (outcome ≡ (step (record calls { ports = old })).1)
 
 -- ---- what a step at a seat does
 
@@ -102,9 +102,9 @@ abbrev pub IsEntryUnlessWaiting : Bool → Call → ℕ → Option Entry → Typ
 IsEntryUnlessWaiting true call key entry = Unit {0}
 IsEntryUnlessWaiting false call key entry = IsEntryAt call.seat key entry
 
-abbrev pub IsEntryOf : Option Call → ℕ → Option Entry → Type 0
-IsEntryOf None key entry = Unit {0}
-IsEntryOf (Some call) key entry = IsEntryUnlessWaiting (is_waiting call) call key entry
+abbrev pub IsPortEntry : Option Call → ℕ → Option Entry → Type 0
+IsPortEntry None key entry = Unit {0}
+IsPortEntry (Some call) key entry = IsEntryUnlessWaiting (is_waiting call) call key entry
 
 -- ---- store, show
 
@@ -117,25 +117,55 @@ abbrev pub wish_at : Option Call → Result Wish Outcome
 wish_at None = Err outcomes.NoCall
 wish_at (Some call) = wish_or_nothing (wish_to_store call)
 
--- how many have logged on, and the items, once a wish is stored: a log-on is counted, and a charge is an item
+-- What a centre stores a wish by: how many records it may have and has, how many of the edit list it has applied, and the letters
+-- that wait there for each account.
+pub record Holdings : Type 0 where
+  pub limit : ℕ
+  pub count : ℕ
+  pub applied : ℕ
+  pub letters : ℕ → List WaitingLetter
+
+-- a record is stored for a wish: for each but the removal of a letter that does not wait
+abbrev pub is_recorded : Holdings → Wish → Bool
+is_recorded holdings (wishes.LogOn account) = true
+is_recorded holdings (wishes.Charge line) = true
+is_recorded holdings (wishes.Post item) = true
+is_recorded holdings (wishes.Remove account number) = has_letter (holdings.letters account) number
+
+-- there is no room for the record of a wish
+abbrev pub is_refused : Holdings → Wish → Bool
+is_refused holdings wish = is_recorded holdings wish && nat_le holdings.limit holdings.count
+
+-- What was stored, once a wish is: a log-on is counted, a charge or what a caller sends is an item, and a removal is one of the
+-- letter at the count of the applied records.
 abbrev pub log_ons_with : Calls → Wish → ℕ
 log_ons_with calls (wishes.LogOn account) = calls.log_ons + 1
-log_ons_with calls (wishes.Charge line) = calls.log_ons
+log_ons_with calls _ = calls.log_ons
 
 abbrev pub items_with : Calls → Wish → List Item
 items_with calls (wishes.LogOn account) = calls.items
 items_with calls (wishes.Charge line) = calls.items ++ items.Charge line ∷ []
+items_with calls (wishes.Post item) = calls.items ++ item ∷ []
+items_with calls (wishes.Remove account number) = calls.items
+
+abbrev pub removals_with : Holdings → Calls → Wish → List Removal
+removals_with holdings calls (wishes.Remove account number) =
+    if has_letter (holdings.letters account) number then
+    calls.removals ++ record { account = account; number = number; place = holdings.applied } ∷ []
+    else calls.removals
+removals_with holdings calls _ = calls.removals
 
 -- the reply: the serial of a call is the count of the log-ons before it
 abbrev pub reply_for : Calls → Wish → Paid
 reply_for calls (wishes.LogOn account) = Serial calls.log_ons
-reply_for calls (wishes.Charge line) = Stored
+reply_for calls _ = Stored
 
 -- a wish of the call at a port is stored, and the reply is to be shown to it
-abbrev pub with_wish : Calls → ℕ → Call → Wish → Calls
-with_wish calls port call wish = record {
+abbrev pub with_wish : Holdings → Calls → ℕ → Call → Wish → Calls
+with_wish holdings calls port call wish = record {
   log_ons = log_ons_with calls wish;
   items = items_with calls wish;
+  removals = removals_with holdings calls wish;
   ports = slice_set calls.ports port (Some (record call { stored = Some (reply_for calls wish) }));
 }
 
@@ -144,17 +174,20 @@ abbrev pub away_answer : ℕ → Step → Outcome
 away_answer count (steps.Ended why screen) = outcomes.StoreFull count screen
 away_answer count _ = outcomes.Nothing
 
--- what a call owes is stored, if the centre has room; a full centre turns the caller away. Nothing is stored for a call that owes
--- nothing, or for which it was stored.
-abbrev pub storing_at : Bool → ℕ → Calls → ℕ → Call → Option Wish → Calls × Outcome
-storing_at is_full count calls port call None = (calls, outcomes.Nothing)
-storing_at is_full count calls port call (Some wish) =
-    if is_full then (with_call calls port None, away_answer count (full_turn call.seat call.seat.phase).1)
-    else (with_wish calls port call wish, outcomes.Stored)
+-- a wish is stored, unless it is refused: then the caller is turned away
+abbrev pub storing_unless : Bool → Holdings → Calls → ℕ → Call → Wish → Calls × Outcome
+storing_unless true holdings calls port call wish =
+    (with_call calls port None, away_answer holdings.count (full_turn call.seat call.seat.phase).1)
+storing_unless false holdings calls port call wish = (with_wish holdings calls port call wish, outcomes.Stored)
 
-abbrev pub store_at : Bool → ℕ → Calls → ℕ → Option Call → Calls × Outcome
-store_at is_full count calls port None = (calls, outcomes.NoCall)
-store_at is_full count calls port (Some call) = storing_at is_full count calls port call (wish_to_store call)
+-- What a call owes is stored, if the centre has room. Nothing is stored for a call that owes nothing, or for which it was stored.
+abbrev pub storing_at : Holdings → Calls → ℕ → Call → Option Wish → Calls × Outcome
+storing_at holdings calls port call None = (calls, outcomes.Nothing)
+storing_at holdings calls port call (Some wish) = storing_unless (is_refused holdings wish) holdings calls port call wish
+
+abbrev pub store_at : Holdings → Calls → ℕ → Option Call → Calls × Outcome
+store_at holdings calls port None = (calls, outcomes.NoCall)
+store_at holdings calls port (Some call) = storing_at holdings calls port call (wish_to_store call)
 
 -- the reply to what was stored is shown
 abbrev pub showing_at : Calls → ℕ → CallState → Option Paid → Calls × Outcome

@@ -5,7 +5,7 @@ use Rattle.pv_edits.specs.Sight.{sight_of}
 use Rattle.pv_edits.specs.declared.down.DownRecord.{DownRecord}
 use Rattle.pv_edits.specs.declared.record.Record.{Record}
 use Rattle.pv_irc.specs.Deciding.{centre_judgement}
-use Rattle.pv_irc.specs.History.{CentreState, state_count, whole_places}
+use Rattle.pv_irc.specs.History.{CentreState, state_count, whole_places, letters_for}
 use Rattle.pv_irc.specs.declared.reply.IrcReply.{IrcReply}
 use Rattle.pv_irc.specs.declared.reply.IrcReply.TheVariants as replies
 use Rattle.pv_irc.specs.declared.request.IrcRequest.{IrcRequest}
@@ -26,7 +26,7 @@ use Rattle.pv_network.specs.declared.arrival.Arrival.{Arrival}
 use Rattle.pv_network.specs.declared.arrival.Arrival.TheVariants.{Taken, Old, Early, Full}
 use Rattle.pv_network.specs.declared.outcome.Outcome.{Outcome}
 use Rattle.pv_network.specs.Call.{Call}
-use Rattle.pv_network.specs.Calls.{Calls, no_calls, calls_with, caller_account, call_in, press_at, IsEntryOf}
+use Rattle.pv_network.specs.Calls.{Calls, Holdings, no_calls, caller_account, call_in, press_at, IsPortEntry}
 
 -- a centre: how many records it has applied, and its calls
 pub record Centre : Type 0 where
@@ -41,9 +41,9 @@ new_centre = record { applied = 0; calls = no_calls }
 abbrev pub with_next : Centre → Centre
 with_next centre = record centre { applied = centre.applied + 1 }
 
--- how many records a centre has: those that it has applied, its items, and its log-ons
+-- how many records a centre has: those that it has applied, its items, its log-ons, and its removals
 abbrev pub record_count : Centre → ℕ
-record_count centre = centre.applied + length centre.calls.items + centre.calls.log_ons
+record_count centre = centre.applied + length centre.calls.items + centre.calls.log_ons + length centre.calls.removals
 
 -- What a node does with what arrives goes by its number: the one that comes next is taken, unless the node has as many records as
 -- it may.
@@ -73,9 +73,23 @@ pub record Held : Type 0 where
   pub node : OnDisk CentreState
   pub ports : List (Option Call)
 
--- its calls: its node has counted the log-ons and keeps the items
+-- its calls: its node has counted the log-ons, and keeps the items and the removals
 abbrev pub calls_of : Held → Calls
-calls_of here = calls_with here.node.state.log_ons here.node.state.items here.ports
+calls_of here = record {
+  log_ons = here.node.state.log_ons;
+  items = here.node.state.items;
+  removals = here.node.state.removals;
+  ports = here.ports;
+}
+
+-- what its node stores a wish by
+abbrev pub holdings_of : CentreState → Holdings
+holdings_of state = record {
+  limit = state.limits.records;
+  count = state_count state;
+  applied = state.applied;
+  letters = letters_for state;
+}
 
 -- the reply, or the count of a full node's records
 abbrev pub reply_in : Result (Told IrcReply) ℕ → Result IrcReply ℕ
@@ -106,12 +120,13 @@ pub record Applies (old new : Held) (number : ℕ) (rec : DownRecord) (result : 
 abbrev pub request_for : Wish → IrcRequest
 request_for (wishes.LogOn account) = requests.LogOn account
 request_for (wishes.Charge line) = requests.Keep (items.Charge line)
+request_for (wishes.Post item) = requests.Keep item
+request_for (wishes.Remove account number) = requests.Remove account number
 
--- what a call is told of the reply to it
-abbrev pub paid_by : IrcReply → Option Paid
-paid_by (replies.Serial serial) = Some (paid.Serial serial)
-paid_by (replies.Kept number) = Some paid.Stored
-paid_by _ = None
+-- what a call is told of the reply to it: the serial of a log-on, and else that it is stored
+abbrev pub paid_by : IrcReply → Paid
+paid_by (replies.Serial serial) = paid.Serial serial
+paid_by _ = paid.Stored
 
 -- the reply to a record that arrives
 abbrev pub reply_to_arrival : Arrival → Centre → Result IrcReply ℕ
@@ -123,7 +138,7 @@ reply_to_arrival Full centre = Err (record_count centre)
 -- ---- what it stands for
 
 -- What the node of a centre knows: what comes down of the prefix of the edit list that the centre has applied, with the places
--- there, its items, and the count of its log-ons. No letter was removed.
+-- there, its items, the count of its log-ons, and its removals.
 abbrev pub state_of_prefix : ℕ → Limits → Centre → List Record → CentreState
 state_of_prefix number limits centre prefix = record {
   centre = number;
@@ -133,7 +148,7 @@ state_of_prefix number limits centre prefix = record {
   places = whole_places 0 (map down_of prefix);
   items = centre.calls.items;
   log_ons = centre.calls.log_ons;
-  removals = [];
+  removals = centre.calls.removals;
 }
 
 abbrev pub node_state : ℕ → EditList → Centre → CentreState
@@ -158,9 +173,10 @@ pub record AreNew (limits : Limits) (count : ℕ) (here : List Held) : Type 0 wh
 
 -- ---- what comes of a call at it
 
--- what is done with its calls, and the answer: its node has counted the log-ons and keeps the items, and knows else what it knew
+-- what is done with its calls, and the answer: its node has what is stored for them, and knows else what it knew
 pub record Comes (old new : Held) (outcome : Outcome) (done : Calls × Outcome) : Type 0 where
-  pub state : new.node.state ≡ record old.node.state { items = done.0.items; log_ons = done.0.log_ons }
+  pub state : new.node.state
+      ≡ record old.node.state { items = done.0.items; log_ons = done.0.log_ons; removals = done.0.removals }
   pub on_disk : CentreIsOnDisk old.node → CentreIsOnDisk new.node
   pub ports : new.ports ≡ done.0.ports
   pub answer : outcome ≡ done.1
@@ -168,8 +184,9 @@ pub record Comes (old new : Held) (outcome : Outcome) (done : Calls × Outcome) 
 -- what a centre makes of a key at a port at a moment
 pub record Pressed (old new : Held) (port key moment : ℕ) (outcome : Outcome) : Type 0 where
   pub entry : Option Entry
-  pub says : IsEntryOf (call_in (calls_of old) port) key entry
+  pub says : IsPortEntry (call_in (calls_of old) port) key entry
   pub comes : Comes old new outcome
       (press_at (calls_of old) port key
-      (sight_of old.node.state.edits old.node.state.centre (caller_account (call_in (calls_of old) port))) moment entry
+      (sight_of old.node.state.edits (letters_for old.node.state) old.node.state.centre
+      (caller_account (call_in (calls_of old) port))) moment entry
       (call_in (calls_of old) port))

@@ -53,6 +53,8 @@ line_at c line = record { centre = c; line = line }
 abbrev pub charge_in : Wish → Option Charge
 charge_in (wishes.LogOn account) = None
 charge_in (wishes.Charge line) = Some line
+charge_in (wishes.Post item) = None
+charge_in (wishes.Remove account number) = None
 
 -- the line that was stored for a call and whose frame the caller is still to be shown
 abbrev pub line_in_hand : Call → Option Charge

@@ -7,7 +7,7 @@ use Rattle.pv_network.specs.declared.outcome.Outcome.TheVariants as outcomes
 use Rattle.pv_network.specs.declared.outcome.Turn.{Turn}
 use Rattle.pv_network.specs.Call.{Call, is_waiting}
 use Rattle.pv_network.specs.Calling.{call_at, step_of_press, step_of_store, step_of_show}
-use Rattle.pv_network.specs.Calls.{IsEntryOf}
+use Rattle.pv_network.specs.Calls.{IsPortEntry}
 use Rattle.pv_network.specs.World.{World}
 
 -- a byte that is keyed, and the entry that it makes, if it makes one
@@ -76,7 +76,7 @@ abbrev pub TakesAll : World → ℕ → ℕ → List KeyedByte → Type 0
 TakesAll w c port [] = Unit {0}
 TakesAll w c port (key ∷ keys) =
     let done = step_of_key w c port key in
-    IsEntryOf (call_at w c port) key.byte key.entry × UnlessOver (is_over done.1) (TakesAll done.0 c port keys)
+    IsPortEntry (call_at w c port) key.byte key.entry × UnlessOver (is_over done.1) (TakesAll done.0 c port keys)
 
 -- the answer to keys: the screens, if they showed one
 abbrev pub turns_answer : List Turn → Outcome

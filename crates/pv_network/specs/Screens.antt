@@ -1,21 +1,22 @@
 -- What a caller is shown from the dial of his call to its end: the steps of his seat, by what happens at his port alone.
-use Rattle.std.specs.Prelude.{ℕ, Bool, ◌&&◌, ◌==◌, nat_le, List, [], ◌∷◌, ◌++◌, is_some, Option, Some, None, if◌then◌else◌}
+use Rattle.std.specs.Prelude.{ℕ, Bool, ◌&&◌, ◌==◌, List, [], ◌∷◌, ◌++◌, Option, Some, None, if◌then◌else◌}
 use Rattle.pv_edits.specs.Sight.{View}
 use Rattle.pv_session.specs.Calls.{CallEvent, Keyed, Stored, Refused}
 use Rattle.pv_session.specs.declared.step.Paid.{Paid}
 use Rattle.pv_session.specs.declared.step.Step.{Step}
 use Rattle.pv_session.specs.declared.step.Step.TheVariants as steps
+use Rattle.pv_session.specs.declared.step.Wish.{Wish}
 use Rattle.pv_network.specs.declared.event.Event.{Event}
 use Rattle.pv_network.specs.declared.event.Event.TheVariants as events
 use Rattle.pv_network.specs.declared.outcome.Outcome.{Outcome}
 use Rattle.pv_network.specs.declared.outcome.Outcome.TheVariants as outcomes
 use Rattle.pv_network.specs.declared.outcome.Turn.{Turn}
 use Rattle.pv_network.specs.Call.{Call, is_waiting, wish_to_store}
-use Rattle.pv_network.specs.Calling.{call_at, view_at, step_of_press, step_of_store}
-use Rattle.pv_network.specs.Centre.{record_count}
+use Rattle.pv_network.specs.Calling.{call_at, view_at, holdings_at, step_of_press, step_of_store}
+use Rattle.pv_network.specs.Calls.{Holdings, is_refused}
 use Rattle.pv_network.specs.Keying.{KeyedByte, is_owes, is_storing, step_of_key, screens_in, is_over, keys_refusal}
 use Rattle.pv_network.specs.Step.{Choice, IsChoice, happens}
-use Rattle.pv_network.specs.World.{World, centre_at}
+use Rattle.pv_network.specs.World.{World}
 
 -- ---- what happens at a seat
 
@@ -24,10 +25,14 @@ abbrev pub press_events : View → ℕ → ℕ → Option Call → List CallEven
 press_events view moment key None = []
 press_events view moment key (Some call) = if is_waiting call then [] else Keyed key view moment ∷ []
 
--- a full centre refuses to store what is owed; if it stores it, the seat does not know it yet
-abbrev pub store_events : Bool → Option Call → List CallEvent
-store_events is_full None = []
-store_events is_full (Some call) = if is_some (wish_to_store call) then (if is_full then Refused ∷ [] else []) else []
+-- a full centre refuses to store what is owed; if it is stored, the seat does not know it yet
+abbrev pub wish_events : Holdings → Option Wish → List CallEvent
+wish_events holdings None = []
+wish_events holdings (Some wish) = if is_refused holdings wish then Refused ∷ [] else []
+
+abbrev pub store_events : Holdings → Option Call → List CallEvent
+store_events holdings None = []
+store_events holdings (Some call) = wish_events holdings (wish_to_store call)
 
 -- the seat gets the reply to what was stored
 abbrev pub reply_events : Option Paid → List CallEvent
@@ -38,15 +43,11 @@ abbrev pub show_events : Option Call → List CallEvent
 show_events None = []
 show_events (Some call) = reply_events call.stored
 
--- a centre has as many records as it may
-abbrev pub is_full_at : World → ℕ → Bool
-is_full_at w c = nat_le w.update.limits.records (record_count (centre_at w c))
-
 -- a payment: the store, and the show of what was stored
 abbrev pub payment_events : World → ℕ → ℕ → List CallEvent
 payment_events w c port =
     let stored = step_of_store w c port in
-    store_events (is_full_at w c) (call_at w c port) ++ (if is_storing stored.1 then show_events (call_at stored.0 c port) else [])
+    store_events (holdings_at w c) (call_at w c port) ++ (if is_storing stored.1 then show_events (call_at stored.0 c port) else [])
 
 -- a key, and the payment of what it owes
 abbrev pub key_events : World → ℕ → ℕ → KeyedByte → List CallEvent
@@ -76,7 +77,7 @@ abbrev pub seat_events : World → ℕ → ℕ → Event → Choice → List Cal
 seat_events w c p (events.Press centre port key) choice =
     if is_same_port centre port c p then press_events (view_at w c p) w.moment key (call_at w c p) else []
 seat_events w c p (events.Store centre port) choice =
-    if is_same_port centre port c p then store_events (is_full_at w c) (call_at w c p) else []
+    if is_same_port centre port c p then store_events (holdings_at w c) (call_at w c p) else []
 seat_events w c p (events.Show centre port) choice = if is_same_port centre port c p then show_events (call_at w c p) else []
 seat_events w c p (events.Keys centre port keys) choice =
     if is_same_port centre port c p then taken_events w c p choice.keyed (keys_refusal (call_at w c p)) else []

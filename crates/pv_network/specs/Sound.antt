@@ -12,7 +12,7 @@ use Rattle.pv_session.specs.declared.step.Paid.{Paid}
 use Rattle.pv_session.specs.declared.step.Paid.TheVariants.{Serial, Stored}
 use Rattle.pv_session.specs.declared.step.Phase.{Phase}
 use Rattle.pv_session.specs.declared.step.Phase.TheVariants.{Owing}
-use Rattle.pv_session.specs.declared.step.Wish.TheVariants.{LogOn, Charge}
+use Rattle.pv_session.specs.declared.step.Wish.TheVariants.{LogOn, Charge, Post, Remove}
 use Rattle.pv_udc.specs.Judgement.{next_number}
 use Rattle.pv_udc.specs.Replies.{down_of}
 use Rattle.pv_network.specs.declared.event.TheConstants.{PORTS}
@@ -48,10 +48,12 @@ pub record GoesAlong (edits : List Record) (c : ℕ) (centre : Centre) (way : Wa
 abbrev pub serial_in : Calls → ℕ → Option ℕ
 serial_in calls port = call_in calls port >>= serial_of
 
--- a reply is the one to what a seat owes: a serial to a log-on, and that it is stored to a charge
+-- a reply is the one to what a seat owes: a serial to a log-on, and else that it is stored
 abbrev pub Answers : Phase → Paid → Type 0
 Answers (Owing (LogOn account)) (Serial serial) = Unit {0}
 Answers (Owing (Charge line)) Stored = Unit {0}
+Answers (Owing (Post item)) Stored = Unit {0}
+Answers (Owing (Remove account number)) Stored = Unit {0}
 Answers _ _ = ⊥
 
 -- a reply that is to be shown is the one to what the seat owes

@@ -12,7 +12,7 @@ use Rattle.pv_editor.specs.declared.seat.EditorSeat.{EditorSeat}
 use Rattle.pv_network.specs.declared.event.TheConstants.{EDITORS, PORTS}
 use Rattle.pv_session.specs.declared.entry.Entry.{Entry}
 use Rattle.pv_network.specs.Calling.{call_at, step_of_press}
-use Rattle.pv_network.specs.Calls.{IsEntryOf}
+use Rattle.pv_network.specs.Calls.{IsPortEntry}
 use Rattle.pv_network.specs.Centre.{Held, CentresStand}
 use Rattle.pv_network.specs.Charging.{IsChargedWorld}
 use Rattle.pv_network.specs.Keying.{KeyedByte, bytes_of, step_of_key, keys_from, TakesAll, step_of_keys, TakesAllAt}
@@ -58,13 +58,13 @@ Performs old new outcome step = (w : World) → StandsFor old w → StandsFor ne
 -- the same of a key at a port, with the entry that it makes in that world
 abbrev pub Presses : State → State → Outcome → ℕ → ℕ → ℕ → Type 0
 Presses old new outcome c port key = (w : World) → StandsFor old w
-    → (entry : Option Entry) × IsEntryOf (call_at w c port) key entry
+    → (entry : Option Entry) × IsPortEntry (call_at w c port) key entry
     × StandsFor new (step_of_press w c port key entry).0 × (outcome ≡ (step_of_press w c port key entry).1)
 
 -- the same of one key, with the store and the show of what it owes
 abbrev pub PaysKey : State → State → Outcome → ℕ → ℕ → ℕ → Type 0
 PaysKey old new outcome c port byte = (w : World) → StandsFor old w
-    → (entry : Option Entry) × IsEntryOf (call_at w c port) byte entry
+    → (entry : Option Entry) × IsPortEntry (call_at w c port) byte entry
     × StandsFor new (step_of_key w c port (record { byte = byte; entry = entry })).0
     × (outcome ≡ (step_of_key w c port (record { byte = byte; entry = entry })).1)
 

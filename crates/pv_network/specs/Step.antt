@@ -26,7 +26,7 @@ use Rattle.pv_network.specs.declared.outcome.Outcome.{Outcome}
 use Rattle.pv_network.specs.declared.outcome.Outcome.TheVariants as outcomes
 use Rattle.pv_network.specs.Bills.{step_of_bill, step_of_lines}
 use Rattle.pv_network.specs.Calling.{call_at, step_of_dial, step_of_press, step_of_store, step_of_show, step_of_hang}
-use Rattle.pv_network.specs.Calls.{IsEntryOf}
+use Rattle.pv_network.specs.Calls.{IsPortEntry}
 use Rattle.pv_network.specs.Crashing.{step_of_crash}
 use Rattle.pv_network.specs.Keying.{KeyedByte, bytes_of, first_entry, step_of_keys, TakesAllAt}
 use Rattle.pv_network.specs.Traffic.{step_of_send, step_of_post, step_of_deliver, step_of_back, step_of_carry}
@@ -111,7 +111,7 @@ pub record Choice : Type 0 where
 -- the caller has keyed in this world.
 abbrev pub IsChoice : World → Event → Choice → Type 0
 IsChoice w (events.Edit port line) choice = Exactly (IsLine line) choice.said
-IsChoice w (events.Press centre port key) choice = IsEntryOf (call_at w centre port) key (first_entry choice.keyed)
+IsChoice w (events.Press centre port key) choice = IsPortEntry (call_at w centre port) key (first_entry choice.keyed)
 IsChoice w (events.Keys centre port keys) choice = ReadsAs keys (bytes_of choice.keyed) × TakesAllAt w centre port choice.keyed
 IsChoice w _ choice = Unit {0}
 

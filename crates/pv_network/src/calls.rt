@@ -9,7 +9,7 @@ ghost use Rattle.pv_network.specs.declared.outcome.Outcome.TheVariants as outcom
 ghost use Rattle.pv_network.specs.Call.{call_of};
 ghost use Rattle.pv_network.specs.Call as Spec;
 ghost use Rattle.pv_network.specs.Keying.{keys_refusal};
-ghost use Rattle.pv_network.specs.Calls.{caller_account, call_among, call_in, IsDone, turn_at, dial_at, hang_at, press_at, show_at, wish_at, away_answer, IsEntryOf};
+ghost use Rattle.pv_network.specs.Calls.{caller_account, call_among, call_in, IsDone, turn_at, dial_at, hang_at, press_at, show_at, wish_at, away_answer, IsPortEntry};
 
 use crate::call::Call;
 use crate::event::PORTS;
@@ -112,7 +112,7 @@ impl Calls {
     pub(crate) fn press(&mut self, port: usize, key: u8, sight: &Sight, moment: u32) -> Outcome
         requires port { port < PORTS }
         requires moment { moment ≤ LAST_MOMENT }
-        ensures pressed { (entry : Option Entry) × IsEntryOf (call_among self.old port) key entry
+        ensures pressed { (entry : Option Entry) × IsPortEntry (call_among self.old port) key entry
             × IsDone self.old self.new result
             (λ calls. press_at calls port key (view_of sight.now) moment entry (call_in calls port)) }
     {

@@ -1,4 +1,4 @@
-ghost use Rattle.std.specs.Prelude.{◌≡◌, ◌<◌, ◌≤◌, Ok, length, nat_le, option_copied, slice_get, IfOk, IfSome, OnErr};
+ghost use Rattle.std.specs.Prelude.{◌≡◌, ◌<◌, ◌≤◌, Ok, length, option_copied, slice_get, IfOk, IfSome, OnErr};
 ghost use Rattle.pv_charge.specs.declared.line.TheConstants.{LAST_MOMENT};
 ghost use Rattle.pv_frame.specs.Errors.{IsValid};
 ghost use Rattle.pv_edits.specs.Edits.{frame_at};
@@ -10,7 +10,7 @@ ghost use Rattle.pv_network.specs.Bills.{bill_answer, stored_lines};
 ghost use Rattle.pv_network.specs.Calls.{call_among, call_in, wish_at, dial_at, hang_at, store_at, show_at};
 ghost use Rattle.pv_network.specs.Crashing.{crash_at};
 ghost use Rattle.pv_network.specs.Keying.{keys_refusal};
-ghost use Rattle.pv_network.specs.Centre.{new_centre, calls_of, arrival_by, request_for, paid_by, Asked, Applies, CentreStands, AreNew, Comes, Pressed};
+ghost use Rattle.pv_network.specs.Centre.{new_centre, calls_of, holdings_of, arrival_by, request_for, paid_by, Asked, Applies, CentreStands, AreNew, Comes, Pressed};
 
 use crate::arrival::Arrival;
 use crate::bills::stored_lines;
@@ -167,12 +167,12 @@ impl Centre {
             .press(port, key, &self.node.state().sight(account), moment)
     }
 
-    /// Stores what the call at a port owes, unless the centre is full.
+    /// Stores what the call at a port owes, unless the centre is full. A full centre has no room for a record, but the
+    /// removal of a letter that does not wait needs none.
     pub(crate) fn store(&mut self, port: usize) -> Outcome
         requires { port < PORTS }
-        ensures { Comes self.old self.new result
-            (store_at (nat_le self.old.node.state.limits.records (state_count self.old.node.state))
-            (state_count self.old.node.state) (calls_of self.old) port (call_in (calls_of self.old) port)) }
+        ensures { Comes self.old self.new result (store_at (holdings_of self.old.node.state)
+            (calls_of self.old) port (call_in (calls_of self.old) port)) }
     {
         match self.calls.wish(port) {
             Ok(wish) => self.store_wish(port, wish),
@@ -184,16 +184,11 @@ impl Centre {
     fn store_wish(&mut self, port: usize, wish: Wish) -> Outcome
         requires port { port < PORTS }
         requires owed { wish_at (call_among self.old.ports port) ≡ Ok wish }
-        ensures { Comes self.old self.new result
-            (store_at (nat_le self.old.node.state.limits.records (state_count self.old.node.state))
-            (state_count self.old.node.state) (calls_of self.old) port (call_in (calls_of self.old) port)) }
+        ensures { Comes self.old self.new result (store_at (holdings_of self.old.node.state)
+            (calls_of self.old) port (call_in (calls_of self.old) port)) }
     {
         match self.ask(&request_of(wish)) {
-            Ok(reply) => match paid_by(&reply) {
-                Some(paid) => self.calls.note(port, paid),
-                // A wish has no other reply.
-                None => Outcome::Nothing,
-            },
+            Ok(reply) => self.calls.note(port, paid_by(&reply)),
             Err(count) => self.calls.turn_away(port, count),
         }
     }
@@ -235,29 +230,25 @@ fn request_of(wish: Wish) -> IrcRequest
     ensures within { IsCentreRequest result }
     ensures request { result ≡ request_for wish }
 {
+    wish.within();
     match wish {
-        Wish::LogOn(account) => {
-            let _number = account.number();
-            IrcRequest::LogOn { account }
-        }
-        Wish::Charge(line) => {
-            line.within();
-            IrcRequest::Keep {
-                item: Item::Charge(line),
-            }
-        }
+        Wish::LogOn(account) => IrcRequest::LogOn { account },
+        Wish::Charge(line) => IrcRequest::Keep {
+            item: Item::Charge(line),
+        },
+        Wish::Post(item) => IrcRequest::Keep { item },
+        Wish::Remove(account, number) => IrcRequest::Remove { account, number },
     }
 }
 
-/// What a call is told of a node's reply to its wish: the serial of a log-on, or that an item is kept. `None` for the
-/// replies to what came down.
-fn paid_by(reply: &IrcReply) -> Option<Paid>
+/// What a call is told of a node's reply to its wish: the serial of a log-on, and else that it is stored. A letter that
+/// does not wait counts as removed.
+fn paid_by(reply: &IrcReply) -> Paid
     ensures { result ≡ paid_by reply.now }
 {
     match reply {
-        IrcReply::Serial(serial) => Some(Paid::Serial(*serial)),
-        IrcReply::Kept(_) => Some(Paid::Stored),
-        _ => None,
+        IrcReply::Serial(serial) => Paid::Serial(*serial),
+        _ => Paid::Stored,
     }
 }
 

@@ -3,8 +3,10 @@
 //! A [`Network`] has one Update Centre, which keeps the list of all edits, and one to four retrieval
 //! centres, each of which has applied a prefix of that list. Editors type lines at four ports, and
 //! what they ask for is judged and stored by the rules of `pv_udc`. Callers dial at the 16 ports of a
-//! centre, and `pv_session` has their seats. An [`Event`] happens to the
-//! network, one at a time, and an [`Outcome`] says what came of it.
+//! centre, and `pv_session` has their seats. Their charges, filled forms and letters are items of their
+//! centre, and a letter waits at the home of its account. An [`Event`] happens to the network, one at
+//! a time, and an [`Outcome`] says what came of it.
+//!
 //! The Update Centre and each centre are nodes of `pv_nodes`: what a node stores is on its disk before it replies.
 //! Records go down to a centre, and its items go up to the Update Centre, each in a packet. The packets of a
 //! centre are numbered from 0 each way, in the order in which they were made; any of them may arrive at any time,

@@ -1,23 +1,26 @@
 -- Charges and replies change nothing that a centre shows.
-use Rattle.std.proofs.Common.{◌≡◌, ◌⊎◌, inl, inr, ℕ, Bool, true, false, List, [], ◌∷◌, ◌++◌, map, Option, Some, None, refl, ap, sym, subst, ◌∙◌}
-use Rattle.std.specs.Prelude.{is_some, if◌then◌else◌}
-use Rattle.std.proofs.lemmas.List.{append-nil, append_assoc, map-append}
+use Rattle.std.proofs.Common.{◌≡◌, ◌⊎◌, inl, inr, ℕ, ◌+◌, ◌-◌, Bool, true, false, cond, take, List, [], ◌∷◌, ◌++◌, map, Option, Some, None, refl, ap, sym, subst, ◌∙◌}
+use Rattle.std.specs.Prelude.{is_some, slice_get, option_map, if◌then◌else◌}
+use Rattle.std.proofs.lemmas.List.{append-nil, append_assoc, map-append, take-map}
 use Rattle.std.proofs.lemmas.List.Elements.{filter_map-append}
+use Rattle.std.proofs.lemmas.Option.{slice_get-map}
 use Rattle.pv_outside.specs.declared.limits.Limits.{Limits}
 use Rattle.pv_page.specs.Names.{Name}
+use Rattle.pv_post.specs.Boxes.{WaitingLetter}
 use Rattle.pv_post.specs.declared.item.Item.{Item}
 use Rattle.pv_post.specs.declared.item.Item.TheVariants.{Charge, Reply, Mail}
 use Rattle.pv_edits.specs.Edits.{names, makes, leases, last_index, last_record, frame_at, account_at, frame_in, account_or_first}
 use Rattle.pv_edits.specs.OpenPages.{open_pages}
 use Rattle.pv_edits.specs.Room.{frames_after, accounts_after, leases_after, frame_count, account_count, lease_count, has_room}
-use Rattle.pv_edits.specs.Sight.{sight_of, if_at_home}
+use Rattle.pv_edits.specs.Letters.{is_home, mail_of, mail_in, letter_to, letter_brought, letter_at}
+use Rattle.pv_edits.specs.Sight.{sight_of, if_at_home, oldest_letter}
 use Rattle.pv_edits.specs.Taken.{TakenUp}
 use Rattle.pv_edits.specs.declared.record.Record.{Record}
 use Rattle.pv_edits.specs.declared.record.Record.TheVariants.{Put, Drop, Account, Lease, Taken}
 use Rattle.pv_edits.proofs.CallerLemmas.{frame_count-push, account_count-push, lease_count-push, last_record-push, has_last-push}
 use Rattle.pv_fields.specs.Reading.{◌>>=◌}
-use Rattle.pv_udc.specs.Replies.{down_of}
-use Rattle.pv_irc.specs.History.{whole_in, whole_records}
+use Rattle.pv_udc.specs.Replies.{down_of, down_of_item}
+use Rattle.pv_irc.specs.History.{whole_in, whole_records, letter_down}
 use Rattle.pv_nodes.specs.Below.{records_below}
 
 -- ---- one record more
@@ -131,7 +134,7 @@ leases_agree records count (Taken taken) = refl
 pub lease_count_below : (records : List Record) → lease_count (records_below records) ≡ lease_count records
 lease_count_below = same_below lease_count leases_after lease_count-push (λ records count taken. refl) leases_agree
 
--- ---- room and sights
+-- ---- room, sights and letters
 
 pub room_below : (limits : Limits) (records : List Record) (edit : Record)
     → has_room limits (records_below records) edit ≡ has_room limits records edit
@@ -148,10 +151,51 @@ room_below limits records (Taken taken) = refl
 pages_below : (records : List Record) (number : ℕ) (name : Name) → open_pages (records_below records) number name ≡ open_pages records number name
 pages_below records number name = rw (account_below records number, frame_below records name) refl
 
-pub sight_below : (records : List Record) (centre : ℕ) (caller : Option ℕ)
-    → sight_of (records_below records) centre caller ≡ sight_of records centre caller
-sight_below records centre None = refl
-sight_below records centre (Some number) = λ i. record {
+pub sight_below : (records : List Record) (letters : ℕ → List WaitingLetter) (centre : ℕ) (caller : Option ℕ)
+    → sight_of (records_below records) letters centre caller ≡ sight_of records letters centre caller
+sight_below records letters centre None = refl
+sight_below records letters centre (Some number) = λ i. record {
   account = account_below records number i >>= if_at_home centre;
   pages = λ name. (account_below records number i >>= if_at_home centre) >>= λ account. pages_below records number name i;
+  letter = (account_below records number i >>= if_at_home centre) >>= λ account. oldest_letter (letters number);
 }
+
+-- the letter that a record brings, by what comes down of it
+module _ (centre account : ℕ) (before : List Record) (place : ℕ) where
+  letter-below_one : (edit : Record) → (whole_in (down_of edit) >>= letter_brought centre account (records_below before) place)
+      ≡ letter_brought centre account before place edit
+  letter-below_one edit = by edit ∙ ap (λ found. cond (is_some (found >>= if_at_home centre)) (mail_in edit >>= letter_to account place) None)
+      (account_below before account)
+    where
+      nothing : Option WaitingLetter
+      nothing = None
+
+      none : (home : Bool) → nothing ≡ cond home nothing nothing
+      none true = refl
+      none false = refl
+
+      of_item : (item : Item) (taken : TakenUp) → taken.item ≡ item
+          → (whole_in (down_of_item item taken) >>= letter_brought centre account (records_below before) place)
+          ≡ cond (is_home (records_below before) centre account) (mail_of item >>= letter_to account place) None
+      of_item (Charge line) taken is = none (is_home (records_below before) centre account)
+      of_item (Reply reply) taken is = none (is_home (records_below before) centre account)
+      of_item (Mail mail) taken is = rw is refl
+
+      by : (edit : Record) → (whole_in (down_of edit) >>= letter_brought centre account (records_below before) place)
+          ≡ letter_brought centre account (records_below before) place edit
+      by (Put editor q name frame) = refl
+      by (Drop editor q name) = refl
+      by (Account editor q profile) = refl
+      by (Lease editor q root lessee) = refl
+      by (Taken taken) = of_item taken.item taken refl
+
+pub letter_below : (records : List Record) (centre account place : ℕ)
+    → letter_down centre account (map down_of records) place ≡ letter_at records centre account place
+letter_below records centre account place =
+    (λ i. slice_get-map down_of records place i >>= whole_in >>= letter_brought centre account (whole_records (take-map down_of place records i)) place)
+    ∙ by (slice_get records place)
+  where
+    by : (found : Option Record) → (option_map down_of found >>= whole_in >>= letter_brought centre account (records_below (take place records)) place)
+        ≡ (found >>= letter_brought centre account (take place records) place)
+    by None = refl
+    by (Some edit) = letter-below_one centre account (take place records) place edit

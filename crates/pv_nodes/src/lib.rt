@@ -34,6 +34,3 @@ pub use cut::{APPEND_CALLS, Cut, GATE_CALLS};
 pub use law::a_centre_shows_what_the_list_shows;
 pub use mem::MemNode;
 pub use update::UpdateNode;
-
-#[cfg(test)]
-mod tests;

@@ -1,4 +1,4 @@
-ghost use Rattle.std.specs.Prelude.{◌≡◌, ◌≤◌, ◌↔◌, [], length, take, flat_map, All, IfOk, IfSome, IsSome};
+ghost use Rattle.std.specs.Prelude.{◌≡◌, ◌<◌, ◌≤◌, ◌↔◌, [], ◌∷◌, ◌++◌, length, take, flat_map, All, IfOk, IfSome, IsSome};
 ghost use Rattle.pv_fields.specs.Out.{Puts};
 ghost use Rattle.pv_fields.specs.Padded.{IsPadded};
 ghost use Rattle.pv_fields.specs.Reading.{Gives, same, times};
@@ -53,6 +53,24 @@ impl Fields {
             count: count as u8,
             places: places_of(list),
         })
+    }
+
+    /// One field.
+    pub fn one(first: Filled) -> Fields
+        ensures { result ≡ first ∷ [] }
+    {
+        let mut places = [Filled::empty(); MAX_FIELDS];
+        places[0] = first;
+        Fields { count: 1, places }
+    }
+
+    /// Adds a field after the others, of which there must be fewer than [`MAX_FIELDS`].
+    pub fn push(&mut self, filled: Filled)
+        requires { length self.old < MAX_FIELDS }
+        ensures { self.new ≡ self.old ++ filled ∷ [] }
+    {
+        self.places[usize::from(self.count)] = filled.copy();
+        self.count += 1;
     }
 
     /// The fields, in order.

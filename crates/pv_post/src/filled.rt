@@ -1,4 +1,4 @@
-ghost use Rattle.std.specs.Prelude.{◌≡◌, ◌≤◌, [], length, take, IfOk, IfSome, IsSome, ◌↔◌, true};
+ghost use Rattle.std.specs.Prelude.{◌≡◌, ◌<◌, ◌≤◌, [], ◌∷◌, ◌++◌, length, take, IfOk, IfSome, IsSome, ◌↔◌, true};
 ghost use Rattle.std.specs.List.{list_all};
 ghost use Rattle.pv_fields.specs.Out.{Puts};
 ghost use Rattle.pv_fields.specs.Padded.{IsPadded};
@@ -67,6 +67,16 @@ impl Filled {
         })
     }
 
+    /// Adds a byte after the others, of which there must be fewer than [`FILLED_BYTES`].
+    pub fn push(&mut self, byte: u8)
+        requires taken { is_field_byte byte ≡ true }
+        requires room { length self.old < FILLED_BYTES }
+        ensures { self.new ≡ self.old ++ byte ∷ [] }
+    {
+        self.bytes[usize::from(self.length)] = byte;
+        self.length += 1;
+    }
+
     /// The bytes that were keyed.
     pub fn text(&self) -> &[u8]
         ensures same { result.now ≡ self.now }
@@ -122,7 +132,7 @@ fn are_field_bytes(text: &[u8]) -> bool
 
 /// Whether some field takes this byte: all that can be printed, but for the keys `*` and `#` with its
 /// other code `_`, and `|` and `\`.
-fn is_field_byte(byte: u8) -> bool
+pub fn is_field_byte(byte: u8) -> bool
     ensures { result ≡ is_field_byte byte }
 {
     matches!(byte, b' '..=b'~') && !matches!(byte, b'*' | b'#' | b'_' | b'|' | b'\\')

@@ -34,7 +34,7 @@ mod removal;
 mod reply;
 
 pub use fields::{Fields, MAX_FIELDS};
-pub use filled::{FILLED_BYTES, Filled};
+pub use filled::{FILLED_BYTES, Filled, is_field_byte};
 pub use item::Item;
 pub use law::no_item_begins_another;
 pub use letter::{Letter, MAX_WAITING};

@@ -71,7 +71,7 @@ impl Grid {
 
     /// A heading, the rows of a body, and a blank row.
     #[tactic(auto, using(crate::proofs::Steps::grids))]
-    pub(crate) fn of_parts(heading: &[u8; COLUMNS], body: &[u8; BODY_CELLS]) -> Self
+    pub fn of_parts(heading: &[u8; COLUMNS], body: &[u8; BODY_CELLS]) -> Self
         requires heading { IsRow heading.now }
         requires body { All IsCell body.now }
         ensures { result ≡ heading.now ∷ body_rows body.now ++ spaces COLUMNS ∷ [] }

@@ -1,17 +1,22 @@
 -- Worked examples, computed from the definitions, and the values of the constants that they cite.
 use Rattle.std.proofs.Common.{◌≡◌, ℕ, true, false, [], ◌∷◌, ◌++◌, replicate, refl}
-use Rattle.std.specs.Prelude.{Some, None, map, codes, flat_map}
+use Rattle.std.specs.Prelude.{Some, None, map, codes, filter, flat_map}
+use Rattle.std.specs.Fmt.{digits}
 use Rattle.pv_charge.specs.Line.{Charge}
 use Rattle.pv_frame.specs.Content.{blank_frame}
+use Rattle.pv_frame.specs.declared.field.Field.{Field}
+use Rattle.pv_frame.specs.declared.field.FieldKind.TheVariants.{Digits, Words}
 use Rattle.pv_session.specs.declared.earlier.TheConstants.{EARLIER}
+use Rattle.pv_session.specs.declared.letters.TheConstants.{LETTER_ROWS}
 use Rattle.pv_session.specs.declared.message.Message.TheVariants.{Welcome, CallRefused}
 use Rattle.pv_session.specs.declared.seat.TheConstants.{TRIES}
 use Rattle.pv_session.specs.declared.step.Step.TheVariants.{Show, Owe}
 use Rattle.pv_session.specs.declared.step.Why.TheVariants.{Refused}
 use Rattle.pv_session.specs.declared.step.Wish.TheVariants as wishes
 use Rattle.pv_session.specs.Charging.{charge_of}
-use Rattle.pv_session.specs.Entries.{AccountMode, PasswordMode, BrowseMode, mode_keys, is_password_character}
+use Rattle.pv_session.specs.Entries.{AccountMode, PasswordMode, BrowseMode, FillMode, QuestionMode, LetterMode, mode_keys, leaves_mode, kept_keys, takes_byte, is_password_character}
 use Rattle.pv_session.specs.Fetching.{names_with, ending_turn, found_turn}
+use Rattle.pv_session.specs.Letters.{account_of_digits, letter_heading}
 use Rattle.pv_session.specs.Messages.{message_row}
 use Rattle.pv_session.specs.Shown.{ShownFrame, first_frame, screen_of_frame}
 use Rattle.pv_session.specs.State.{CallState, new_call}
@@ -86,3 +91,52 @@ second-failure = refl
 
 pub third-failure : failure_turn (record new_call { failed = 2 }) ≡ ending_turn (record new_call { failed = 2 }) Refused CallRefused
 third-failure = refl
+
+-- ---- fields and letters
+
+-- which bytes a field takes
+pub digits-taken : filter (takes_byte Digits) (47 ∷ 48 ∷ 57 ∷ 58 ∷ []) ≡ 48 ∷ 57 ∷ []
+digits-taken = refl
+
+pub words-taken : filter (takes_byte Words) (31 ∷ 32 ∷ 35 ∷ 42 ∷ 92 ∷ 95 ∷ 124 ∷ 126 ∷ 127 ∷ []) ≡ 32 ∷ 126 ∷ []
+words-taken = refl
+
+-- a field of three digits keeps three of them; the key # has two codes there too
+abbrev three_digits : Field
+three_digits = record { row = 3; column = 0; length = 3; kind = Digits }
+
+pub field-keys : flat_map (mode_keys (FillMode three_digits false)) (codes "1_A#*") ≡ codes "1##"
+field-keys = refl
+
+pub field-kept : kept_keys (FillMode three_digits false) (codes "12A345") ≡ codes "123"
+field-kept = refl
+
+-- at the question 1 and 2 count, and at a letter 1 alone
+pub question-keys : flat_map (mode_keys QuestionMode) (codes "0123#") ≡ codes "12"
+question-keys = refl
+
+pub letter-keys : flat_map (mode_keys (LetterMode 5)) (codes "0123#") ≡ codes "1"
+letter-keys = refl
+
+-- * leaves a field and the question, and all but 1 leaves a letter
+pub field-left : filter (leaves_mode (FillMode three_digits false)) (codes "01#*A") ≡ codes "*"
+field-left = refl
+
+pub question-left : filter (leaves_mode QuestionMode) (codes "01#*A") ≡ codes "*"
+question-left = refl
+
+pub letter-left : filter (leaves_mode (LetterMode 5)) (codes "01#*A") ≡ codes "0#*A"
+letter-left = refl
+
+-- ten digits are an account's
+pub accounts-of_digits : map account_of_digits (codes "100000000" ∷ codes "1000000002" ∷ codes "10000000020" ∷ [])
+    ≡ None ∷ Some 1000000002 ∷ None ∷ []
+accounts-of_digits = refl
+
+-- a letter has six rows, and its sender above them
+pub letter-rows : LETTER_ROWS ≡ 6
+letter-rows = refl
+
+pub heading-of_letter : letter_heading 1000000002 ≡ codes "MAIL                     1000000002     "
+unfolding digits
+heading-of_letter = refl

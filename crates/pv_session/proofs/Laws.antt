@@ -1,5 +1,5 @@
 -- What is sent to a caller is a function of his keys and of what he may see at his entries.
-use Rattle.std.proofs.Common.{◌≡◌, ℕ, ◌+◌, Bool, true, false, List, [], ◌∷◌, Option, Some, None, refl, sym, ap, subst, ◌∙◌, inl, inr, arith}
+use Rattle.std.proofs.Common.{◌≡◌, ℕ, ◌+◌, Bool, true, false, List, [], ◌∷◌, Option, Some, None, if◌then◌else◌, refl, sym, ap, subst, ◌∙◌, inl, inr, arith}
 use Rattle.std.proofs.lemmas.Bool.{cases_eq}
 use Rattle.pv_words.specs.Parts.{Exactly}
 use Rattle.pv_edits.specs.Sight.{View}
@@ -8,7 +8,9 @@ use Rattle.pv_session.specs.declared.step.Phase.{Phase}
 use Rattle.pv_session.specs.declared.step.Phase.TheVariants as phases
 use Rattle.pv_session.specs.declared.step.Step.{Step}
 use Rattle.pv_session.specs.State.{CallState}
-use Rattle.pv_session.specs.Turns.{Goes, Listens, IsTurnIn, IsTurn, is_spent, entry_turn, byte_turn, call_at_entry}
+use Rattle.pv_session.specs.Turns.{Goes, Listens, IsTurnIn, IsTurn, is_spent, entry_turn, byte_turn, call_at_entry, reading_call}
+use Rattle.pv_session.specs.Entries.{leaves_mode}
+use Rattle.pv_session.specs.Filling.{browsing_call}
 use Rattle.pv_session.proofs.EachTurn.{entry_holds}
 use Rattle.pv_session.specs.Calls.{CallEvent, Keyed, Stored, Refused, Happens, AreSteps, IsLike, AreStepsOfLike}
 
@@ -19,8 +21,20 @@ pub entry_keeps : (call : CallState) (view : View) (moment : ℕ) (entry : Entry
     → (entry_turn call view moment entry).0.entries ≡ call.entries
 entry_keeps call view moment entry =
     entry_holds (λ c. c.entries ≡ call.entries) (λ turn. turn.0.entries ≡ call.entries) moment (λ _ _ is. is) (λ _ _ is. is)
-    (λ _ _ is. is) (λ _ _ _ is. is) (λ _ _ is. is) (λ _ _ is. is) (λ _ _ _ _ is. is) (λ _ _ _ _ is. is) (λ _ _ is. is)
+    (λ _ _ is. is) (λ _ _ _ is. is) (λ _ _ is. is) (λ _ _ is. is) (λ _ _ _ _ is. is) (λ _ is. is) (λ _ _ _ _ _ is. is) (λ _ _ is. is)
     call view entry refl
+
+-- a byte that leaves a mode changes no count either
+pub reading_keeps : (leaves : Bool) (call : CallState) → (if leaves then browsing_call call else call).entries ≡ call.entries
+reading_keeps true call = refl
+reading_keeps false call = refl
+
+-- so a byte that makes an entry raises the count
+pub byte_raises : (call : CallState) (byte : ℕ) (view : View) (moment : ℕ) (entry : Entry)
+    → (byte_turn call byte view moment (Some entry)).0.entries ≡ call.entries + 1
+byte_raises call byte view moment entry =
+    entry_keeps (call_at_entry (reading_call call byte)) view moment entry
+    ∙ ap (λ n. n + 1) (reading_keeps (leaves_mode call.mode byte) call)
 
 -- ---- a byte that makes no entry
 
@@ -32,7 +46,7 @@ module _ (view other : View) (moment later : ℕ) where
   hears_unseen call after byte step None goes same = record { after_is = goes.after_is; step_is = goes.step_is }
   hears_unseen call after byte step (Some entry) goes same =
       let more : after.entries ≡ call.entries + 1 =
-      ap (λ (c : CallState). c.entries) goes.after_is ∙ entry_keeps (call_at_entry call) view moment entry in
+      ap (λ (c : CallState). c.entries) goes.after_is ∙ byte_raises call byte view moment entry in
       absurd (omega arith)
 
   -- a byte at a seat that takes keys

@@ -2,7 +2,11 @@ mod Callers
 mod Cells
 mod EachTurn
 mod Facts
+mod FieldKeys
+mod Kept
 mod Laws
+mod Leaving
+mod LetterTexts
 mod Plain
 mod Rows
 mod TenDigits

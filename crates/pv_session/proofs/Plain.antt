@@ -1,5 +1,5 @@
 -- What a caller is sent depends neither on his call's serial nor on moments: a call goes on as the plain one does.
-use Rattle.std.proofs.Common.{◌≡◌, ℕ, ◌+◌, Bool, true, false, List, [], ◌∷◌, map, Option, Some, None, if◌then◌else◌, nat_lt, refl, sym, ap, subst, ◌∙◌}
+use Rattle.std.proofs.Common.{◌≡◌, ℕ, ◌+◌, Bool, true, false, List, [], ◌∷◌, ◌++◌, length, take, map, Option, Some, None, if◌then◌else◌, nat_lt, refl, sym, ap, subst, ◌∙◌}
 use Rattle.std.specs.Prelude.{◌==◌, option_map}
 use Rattle.pv_fields.specs.Reading.{◌>>=◌}
 use Rattle.pv_page.specs.Names.{Name}
@@ -7,6 +7,13 @@ use Rattle.pv_charge.specs.Line.{Charge}
 use Rattle.pv_frame.specs.Content.{Content}
 use Rattle.pv_keys.specs.declared.command.Command.{Command}
 use Rattle.pv_keys.specs.declared.command.Command.TheVariants as commands
+use Rattle.pv_frame.specs.declared.kind.Kind.{Kind}
+use Rattle.pv_frame.specs.declared.kind.Kind.TheVariants as kinds
+use Rattle.pv_post.specs.Boxes.{WaitingLetter}
+use Rattle.pv_post.specs.declared.fields.TheConstants.{MAX_FIELDS}
+use Rattle.pv_post.specs.declared.item.Item.{Item}
+use Rattle.pv_post.specs.declared.item.Item.TheVariants as items
+use Rattle.pv_words.specs.Parts.{Exactly}
 use Rattle.pv_edits.specs.Sight.{View}
 use Rattle.pv_session.specs.declared.entry.Entry.{Entry}
 use Rattle.pv_session.specs.declared.entry.Entry.TheVariants as entries
@@ -20,13 +27,15 @@ use Rattle.pv_session.specs.declared.step.Step.{Step}
 use Rattle.pv_session.specs.declared.step.Step.TheVariants as steps
 use Rattle.pv_session.specs.declared.step.Why.TheVariants as whys
 use Rattle.pv_session.specs.declared.step.Wish.TheVariants as wishes
-use Rattle.pv_session.specs.Calls.{CallEvent, Keyed, Stored, Refused, Happens, AreSteps, any_number, plain_charge, plain_wish, plain_phase, plain_call, plain_reply, plain_event, sent_by}
+use Rattle.pv_session.specs.Calls.{CallEvent, Keyed, Stored, Refused, Happens, AreSteps, any_number, plain_charge, plain_item, plain_wish, plain_phase, plain_call, plain_reply, plain_event, sent_by}
 use Rattle.pv_session.specs.Charging.{charge_of}
-use Rattle.pv_session.specs.Entries.{AccountMode}
-use Rattle.pv_session.specs.Fetching.{message_turn, ending_turn, showing_turn, charging_turn, found_turn, fetch_turn, visit_turn, names_with, route_turn, next_turn, back_turn, repeat_turn, fresh_turn, command_turn}
-use Rattle.pv_session.specs.Shown.{ShownFrame, first_frame, route_of_digit}
+use Rattle.pv_session.specs.Entries.{Mode, AccountMode, IsEntry, leaves_mode}
+use Rattle.pv_session.specs.Filling.{browsing_call, asking_turn, item_to_send, sending_turn, removing_turn}
+use Rattle.pv_session.specs.Letters.{account_of_digits, letter_text, item_of}
+use Rattle.pv_session.specs.Fetching.{message_turn, ending_turn, showing_turn, charging_turn, found_turn, fetch_turn, visit_turn, names_with, route_turn, next_turn, back_turn, repeat_turn, fresh_turn, letter_turn, command_turn}
+use Rattle.pv_session.specs.Shown.{ShownFrame, first_frame, route_of_digit, field_mode}
 use Rattle.pv_session.specs.State.{CallState}
-use Rattle.pv_session.specs.Turns.{Goes, Listens, IsTurnIn, is_spent, known_caller, log_on_turn, entry_turn, byte_turn, call_at_entry, charged_turn, storing_turn, full_turn}
+use Rattle.pv_session.specs.Turns.{Goes, Listens, IsTurnIn, is_spent, known_caller, log_on_turn, entry_turn, reading_call, IsEntryOf, keys_with, read_turn, byte_turn, call_at_entry, charged_turn, storing_turn, full_turn}
 
 -- a step, whatever the serial and the moment of what it owes
 abbrev plain_step : Step → Step
@@ -133,6 +142,52 @@ module _ (moment : ℕ) where
   fresh_plain call view None = refl
   fresh_plain call view (Some present) = fetch_plain call present.name (view.pages present.name)
 
+  letter_plain : (call : CallState) (waiting : Option WaitingLetter)
+      → letter_turn (plain_call call) waiting ≡ plain_turn (letter_turn call waiting)
+  letter_plain call None = refl
+  letter_plain call (Some waiting) = refl
+
+  -- what is sent is the plain item
+  addressed_plain : (sender : ℕ) (to : Option ℕ) (text : List ℕ) →
+      option_map items.Mail (to >>= λ a. Some (record { sender = sender; to = a; moment = any_number; text = text }))
+      ≡ option_map plain_item (option_map items.Mail (to >>= λ a. Some (record {
+        sender = sender;
+        to = a;
+        moment = moment;
+        text = text;
+      })))
+  addressed_plain sender None text = refl
+  addressed_plain sender (Some to) text = refl
+
+  item_plain : (kind : Kind) (account : ℕ) (name : Name) (filled : List (List ℕ))
+      → item_of kind account name any_number filled ≡ option_map plain_item (item_of kind account name moment filled)
+  item_plain kinds.Information account name filled = refl
+  item_plain kinds.Response account name [] = refl
+  item_plain kinds.Response account name (text ∷ others) = refl
+  item_plain kinds.Mail account name [] = refl
+  item_plain kinds.Mail account name (to ∷ rows) = addressed_plain account (account_of_digits to) (letter_text rows)
+
+  to_send_plain : (account : Option ℕ) (present : Option ShownFrame) (filled : List (List ℕ))
+      → (account >>= λ a. present >>= λ shown. item_of shown.frame.kind a shown.name any_number filled)
+      ≡ option_map plain_item (account >>= λ a. present >>= λ shown. item_of shown.frame.kind a shown.name moment filled)
+  to_send_plain None present filled = refl
+  to_send_plain (Some account) None filled = refl
+  to_send_plain (Some account) (Some shown) filled = item_plain shown.frame.kind account shown.name filled
+
+  sending_plain : (call : CallState) (item : Option Item)
+      → sending_turn (plain_call call) (option_map plain_item item) ≡ plain_turn (sending_turn call item)
+  sending_plain call None = refl
+  sending_plain call (Some item) = refl
+
+  removing_plain : (call : CallState) (number : ℕ) (account : Option ℕ)
+      → removing_turn (plain_call call) number account ≡ plain_turn (removing_turn call number account)
+  removing_plain call number None = refl
+  removing_plain call number (Some account) = refl
+
+  asking_plain : (call : CallState) (mode : Option Mode) → asking_turn (plain_call call) mode ≡ plain_turn (asking_turn call mode)
+  asking_plain call None = refl
+  asking_plain call (Some mode) = refl
+
   command_plain : (call : CallState) (view : View) (command : Command)
       → command_turn (plain_call call) view any_number command ≡ plain_turn (command_turn call view moment command)
   command_plain call view (commands.Route digit) = route_plain call view (route_of_digit call.present digit)
@@ -141,7 +196,7 @@ module _ (moment : ℕ) where
   command_plain call view commands.Back = back_plain call view call.earlier
   command_plain call view commands.Repeat = repeat_plain call call.present
   command_plain call view commands.Fresh = fresh_plain call view call.present
-  command_plain call view commands.Mail = refl
+  command_plain call view commands.Mail = letter_plain call view.letter
   command_plain call view commands.End = refl
   command_plain call view commands.Cancel = refl
   command_plain call view commands.Slip = refl
@@ -157,11 +212,44 @@ module _ (moment : ℕ) where
   entry_plain call view (entries.Account account) = refl
   entry_plain call view (entries.Password password) = log_on_plain call (known_caller call.account view.account password)
   entry_plain call view (entries.Command command) = command_plain call view command
+  entry_plain call view (entries.Field text) =
+      let filled = take MAX_FIELDS (call.filled ++ text ∷ []) in
+      asking_plain (record call { filled = filled }) (call.present >>= λ shown. field_mode shown.frame (length filled))
+  entry_plain call view entries.Send =
+      ap (λ (item : Option Item). sending_turn (plain_call call) item) (to_send_plain call.account call.present call.filled)
+      ∙ sending_plain call (item_to_send call moment)
+  entry_plain call view entries.Keep = refl
+  entry_plain call view (entries.Delete number) = removing_plain call number call.account
 
-  byte_plain : (call : CallState) (byte : ℕ) (view : View) (entry : Option Entry)
-      → byte_turn (plain_call call) byte view any_number entry ≡ plain_turn (byte_turn call byte view moment entry)
-  byte_plain call byte view None = refl
-  byte_plain call byte view (Some entry) = entry_plain (call_at_entry call) view entry
+  read_plain : (call : CallState) (byte : ℕ) (view : View) (entry : Option Entry)
+      → read_turn (plain_call call) byte view any_number entry ≡ plain_turn (read_turn call byte view moment entry)
+  read_plain call byte view None = refl
+  read_plain call byte view (Some entry) = entry_plain (call_at_entry call) view entry
+
+-- a byte that leaves a mode leaves it in the plain call
+reading_plain : (leaves : Bool) (call : CallState)
+    → (if leaves then browsing_call (plain_call call) else plain_call call) ≡ plain_call (if leaves then browsing_call call else call)
+reading_plain true call = refl
+reading_plain false call = refl
+
+byte_plain : (moment : ℕ) (call : CallState) (byte : ℕ) (view : View) (entry : Option Entry)
+    → byte_turn (plain_call call) byte view any_number entry ≡ plain_turn (byte_turn call byte view moment entry)
+byte_plain moment call byte view entry =
+    ap (λ (c : CallState). read_turn c byte view any_number entry) (reading_plain (leaves_mode call.mode byte) call)
+    ∙ read_plain moment (reading_call call byte) byte view entry
+
+-- so the keys say the same
+says_plain : (call : CallState) (byte : ℕ) (entry : Option Entry) → Exactly (IsEntryOf call byte) entry
+    → Exactly (IsEntryOf (plain_call call) byte) entry
+says_plain call byte entry says =
+    let same = reading_plain (leaves_mode call.mode byte) call in
+    subst (λ (c : CallState). Exactly (IsEntry c.mode (keys_with c byte)) entry) (sym same) says
+
+says_back : (call : CallState) (byte : ℕ) (entry : Option Entry) → Exactly (IsEntryOf (plain_call call) byte) entry
+    → Exactly (IsEntryOf call byte) entry
+says_back call byte entry says =
+    let same = reading_plain (leaves_mode call.mode byte) call in
+    subst (λ (c : CallState). Exactly (IsEntry c.mode (keys_with c byte)) entry) same says
 
 -- what a reply does in the same way
 charged_plain : (call : CallState) (shown : Option ShownFrame)
@@ -176,6 +264,10 @@ storing_plain call (phases.Owing (wishes.LogOn account)) (replies.Serial serial)
 storing_plain call (phases.Owing (wishes.LogOn account)) replies.Stored = refl
 storing_plain call (phases.Owing (wishes.Charge charge)) (replies.Serial serial) = refl
 storing_plain call (phases.Owing (wishes.Charge charge)) replies.Stored = charged_plain call call.aside
+storing_plain call (phases.Owing (wishes.Post item)) (replies.Serial serial) = refl
+storing_plain call (phases.Owing (wishes.Post item)) replies.Stored = refl
+storing_plain call (phases.Owing (wishes.Remove account number)) (replies.Serial serial) = refl
+storing_plain call (phases.Owing (wishes.Remove account number)) replies.Stored = refl
 storing_plain call phases.Over reply = refl
 
 full_plain : (call : CallState) (phase : Phase) → full_turn (plain_call call) (plain_phase phase) ≡ plain_turn (full_turn call phase)
@@ -216,7 +308,7 @@ module _ (moment : ℕ) (view : View) where
   listens_plain true call after byte step goes = goes_plain _ _ after step refl goes
   listens_plain false call after byte step hears = record {
     entry = hears.entry;
-    says = hears.says;
+    says = says_plain call byte hears.entry hears.says;
     goes = goes_plain _ _ after step (byte_plain moment call byte view hears.entry) hears.goes;
   }
 
@@ -232,7 +324,7 @@ module _ (moment : ℕ) (view : View) where
       let back = goes_back _ _ after step (byte_plain moment call byte view hears.entry) hears.goes in record {
         call = back.call;
         its = back.its;
-        is = record { entry = hears.entry; says = hears.says; goes = back.is };
+        is = record { entry = hears.entry; says = says_back call byte hears.entry hears.says; goes = back.is };
         after_is = back.after_is;
         step_is = back.step_is;
       }

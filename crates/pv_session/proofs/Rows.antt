@@ -8,7 +8,7 @@ use Rattle.std.proofs.lemmas.List.Elements.{All-append, All-replicate}
 use Rattle.pv_cells.specs.Row.{IsCell}
 use Rattle.pv_frame.specs.Errors.{is_cell}
 use Rattle.pv_session.specs.declared.message.Message.{Message}
-use Rattle.pv_session.specs.declared.message.Message.TheVariants.{KeyAccount, KeyPassword, NotKnown, CallRefused, Welcome, PageNotAvailable, NoSuchRoute, NoPreviousFrame, KeysNotUnderstood, Blank, CallEnded, PleaseTryLater, NoMessages}
+use Rattle.pv_session.specs.declared.message.Message.TheVariants.{KeyAccount, KeyPassword, NotKnown, CallRefused, Welcome, PageNotAvailable, NoSuchRoute, NoPreviousFrame, KeysNotUnderstood, Blank, CallEnded, PleaseTryLater, KeyToSend, MessageStored, MessageNotSent, NoMessages, MessageRemoved, KeyToDelete}
 use Rattle.pv_session.specs.Messages.{message_words, message_row}
 
 -- bytes that pass the test are cells
@@ -29,7 +29,12 @@ pass KeysNotUnderstood = refl
 pass Blank = refl
 pass CallEnded = refl
 pass PleaseTryLater = refl
+pass KeyToSend = refl
+pass MessageStored = refl
+pass MessageNotSent = refl
 pass NoMessages = refl
+pass MessageRemoved = refl
+pass KeyToDelete = refl
 
 -- so a message's row has cells
 pub message_cells : (message : Message) → All IsCell (message_row message)

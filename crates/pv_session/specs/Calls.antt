@@ -1,6 +1,8 @@
 -- A whole call: what happens at a seat, one after another, and what is done for its caller.
-use Rattle.std.specs.Prelude.{◌≡◌, ◌≢◌, ℕ, ◌+◌, List, [], ◌∷◌, Option, Some, None, IsSome, option_map}
+use Rattle.std.specs.Prelude.{◌≡◌, ◌≢◌, ℕ, ◌+◌, false, List, [], ◌∷◌, Option, Some, None, IsSome, option_map}
 use Rattle.pv_charge.specs.Line.{Charge}
+use Rattle.pv_post.specs.declared.item.Item.{Item}
+use Rattle.pv_post.specs.declared.item.Item.TheVariants as items
 use Rattle.pv_edits.specs.Sight.{View}
 use Rattle.pv_screen.specs.declared.screen.Screen.{Screen}
 use Rattle.pv_session.specs.declared.step.Paid.{Paid}
@@ -12,6 +14,7 @@ use Rattle.pv_session.specs.declared.step.Wish.{Wish}
 use Rattle.pv_session.specs.declared.step.Wish.TheVariants as wishes
 use Rattle.pv_session.specs.declared.step.Step.{Step}
 use Rattle.pv_session.specs.declared.step.Step.TheVariants as steps
+use Rattle.pv_session.specs.Entries.{leaves_mode}
 use Rattle.pv_session.specs.State.{CallState}
 use Rattle.pv_session.specs.Turns.{Goes, IsTurn, storing_turn, full_turn}
 
@@ -34,13 +37,14 @@ AreSteps call (event ∷ events) (step ∷ steps) after =
     (next : CallState) × Happens call event next step × AreSteps next events steps after
 AreSteps _ _ _ _ = ⊥
 
--- a byte is keyed that makes no entry and does not end the call
+-- a byte is keyed that makes no entry, and neither leaves the mode nor ends the call
 pub record IsWaiting (call : CallState) (byte : ℕ) (next : CallState) : Type 0 where
   pub view : View
   pub moment : ℕ
   pub step : Step
   pub turns : IsTurn call byte view moment next step
   pub listening : (call.phase ≡ Listening) × (next.phase ≡ Listening)
+  pub stays : leaves_mode call.mode byte ≡ false
   pub no_entry : next.entries ≡ call.entries
 
 -- bytes are keyed one after another, and none of them makes an entry or ends the call
@@ -92,9 +96,17 @@ any_number = 0
 abbrev pub plain_charge : Charge → Charge
 plain_charge charge = record charge { serial = any_number; moment = any_number }
 
+-- what a caller sends, whatever its moment
+abbrev pub plain_item : Item → Item
+plain_item (items.Charge charge) = items.Charge (plain_charge charge)
+plain_item (items.Reply reply) = items.Reply (record reply { moment = any_number })
+plain_item (items.Mail mail) = items.Mail (record mail { moment = any_number })
+
 abbrev pub plain_wish : Wish → Wish
 plain_wish (wishes.LogOn account) = wishes.LogOn account
 plain_wish (wishes.Charge charge) = wishes.Charge (plain_charge charge)
+plain_wish (wishes.Post item) = wishes.Post (plain_item item)
+plain_wish (wishes.Remove account number) = wishes.Remove account number
 
 abbrev pub plain_phase : Phase → Phase
 plain_phase Listening = Listening

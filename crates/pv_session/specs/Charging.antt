@@ -1,8 +1,9 @@
 -- What a priced frame costs, and whose charge a call owes.
-use Rattle.std.specs.Prelude.{ℕ, Option, Some}
+use Rattle.std.specs.Prelude.{ℕ, ◌<◌, ◌^◌, Option, Some}
 use Rattle.pv_fields.specs.Reading.{◌>>=◌}
 use Rattle.pv_page.specs.Names.{Name, IsAccount}
 use Rattle.pv_charge.specs.Line.{Charge, IsCharge}
+use Rattle.pv_post.specs.Spelling.{IsItem}
 use Rattle.pv_session.specs.declared.step.Step.{Step}
 use Rattle.pv_session.specs.declared.step.Step.TheVariants as steps
 use Rattle.pv_session.specs.declared.step.Wish.{Wish}
@@ -25,6 +26,8 @@ charge_of call name price moment = call.serial >>= λ serial. call.account >>= �
 abbrev pub IsSeatWish : Wish → Type 0
 IsSeatWish (wishes.LogOn account) = IsAccount account
 IsSeatWish (wishes.Charge charge) = IsCharge charge
+IsSeatWish (wishes.Post item) = IsItem item
+IsSeatWish (wishes.Remove account number) = IsAccount account × (number < 2 ^ 64)
 
 -- what a step owes can be stored
 abbrev pub IsStorable : Step → Type 0

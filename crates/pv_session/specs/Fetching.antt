@@ -4,6 +4,7 @@ use Rattle.pv_page.specs.Names.{Name}
 use Rattle.pv_page.specs.declared.frame_name.TheConstants.{LAST_LETTER}
 use Rattle.pv_charge.specs.Line.{Charge}
 use Rattle.pv_frame.specs.Content.{Content}
+use Rattle.pv_post.specs.Boxes.{WaitingLetter}
 use Rattle.pv_edits.specs.Sight.{View}
 use Rattle.pv_keys.specs.declared.command.Command.{Command}
 use Rattle.pv_keys.specs.declared.command.Command.TheVariants as commands
@@ -17,8 +18,10 @@ use Rattle.pv_session.specs.declared.step.Wish.TheVariants as wishes
 use Rattle.pv_session.specs.declared.step.Step.{Step}
 use Rattle.pv_session.specs.declared.step.Step.TheVariants as steps
 use Rattle.pv_session.specs.Charging.{charge_of}
+use Rattle.pv_session.specs.Entries.{LetterMode}
+use Rattle.pv_session.specs.Letters.{screen_of_letter}
 use Rattle.pv_session.specs.Messages.{screen_of_row, screen_of_blank}
-use Rattle.pv_session.specs.Shown.{ShownFrame, screen_of_frame, route_of_digit, first_frame}
+use Rattle.pv_session.specs.Shown.{ShownFrame, screen_of_frame, route_of_digit, first_frame, mode_at}
 use Rattle.pv_session.specs.State.{CallState}
 
 -- a message in row 24
@@ -35,9 +38,12 @@ ending_turn call why message = (record call { phase = Over }, steps.Ended why (s
 
 -- ---- frames
 
--- a frame becomes the present one and is shown
+-- a frame becomes the present one and is shown, and the caller is asked for its first field if it has one
 abbrev pub showing_turn : CallState → ShownFrame → CallState × Step
-showing_turn call shown = (record call { present = Some shown }, steps.Show (screen_of_frame shown))
+showing_turn call shown = (
+  record call { present = Some shown; mode = mode_at shown.frame; keyed = []; filled = [] },
+  steps.Show (screen_of_frame shown),
+)
 
 -- a frame is kept aside, and its charge is owed; a caller who cannot be charged has no page
 abbrev pub charging_turn : CallState → ShownFrame → Option Charge → CallState × Step
@@ -90,12 +96,18 @@ back_turn call view moment (name ∷ earlier) = fetch_turn (record call { earlie
 -- the present frame as it was shown, which costs nothing
 abbrev pub repeat_turn : CallState → Option ShownFrame → CallState × Step
 repeat_turn call None = blank_turn call Welcome
-repeat_turn call (Some present) = (call, steps.Show (screen_of_frame present))
+repeat_turn call (Some present) = showing_turn call present
 
 -- the present frame as it is now
 abbrev pub fresh_turn : CallState → View → ℕ → Option ShownFrame → CallState × Step
 fresh_turn call view moment None = blank_turn call Welcome
 fresh_turn call view moment (Some present) = fetch_turn call moment present.name (view.pages present.name)
+
+-- the letter that has waited longest, and whether it is to be deleted
+abbrev pub letter_turn : CallState → Option WaitingLetter → CallState × Step
+letter_turn call None = message_turn call NoMessages
+letter_turn call (Some letter) =
+    (record call { mode = LetterMode letter.number; keyed = [] }, steps.Show (screen_of_letter letter))
 
 -- what each command does
 abbrev pub command_turn : CallState → View → ℕ → Command → CallState × Step
@@ -105,7 +117,7 @@ command_turn call view moment (commands.Go page) = visit_turn call moment (first
 command_turn call view moment commands.Back = back_turn call view moment call.earlier
 command_turn call view moment commands.Repeat = repeat_turn call call.present
 command_turn call view moment commands.Fresh = fresh_turn call view moment call.present
-command_turn call view moment commands.Mail = message_turn call NoMessages
+command_turn call view moment commands.Mail = letter_turn call view.letter
 command_turn call view moment commands.End = ending_turn call Finished CallEnded
 command_turn call view moment commands.Cancel = message_turn call Blank
 command_turn call view moment commands.Slip = message_turn call KeysNotUnderstood

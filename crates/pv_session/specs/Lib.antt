@@ -8,6 +8,8 @@ pub mod State
 pub mod Charging
 pub mod Callers
 pub mod Seat
+pub mod Letters
 pub mod Fetching
+pub mod Filling
 pub mod Turns
 pub mod Calls

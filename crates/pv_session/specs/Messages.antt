@@ -6,7 +6,7 @@ use Rattle.pv_screen.specs.declared.grid.TheConstants.{ROWS, COLUMNS}
 use Rattle.pv_screen.specs.declared.screen.Screen.{Screen}
 use Rattle.pv_screen.specs.declared.screen.Screen.TheVariants.{Whole, Row}
 use Rattle.pv_session.specs.declared.message.Message.{Message}
-use Rattle.pv_session.specs.declared.message.Message.TheVariants.{KeyAccount, KeyPassword, NotKnown, CallRefused, Welcome, PageNotAvailable, NoSuchRoute, NoPreviousFrame, KeysNotUnderstood, Blank, CallEnded, PleaseTryLater, NoMessages}
+use Rattle.pv_session.specs.declared.message.Message.TheVariants.{KeyAccount, KeyPassword, NotKnown, CallRefused, Welcome, PageNotAvailable, NoSuchRoute, NoPreviousFrame, KeysNotUnderstood, Blank, CallEnded, PleaseTryLater, KeyToSend, MessageStored, MessageNotSent, NoMessages, MessageRemoved, KeyToDelete}
 
 -- the words of a message
 abbrev pub message_words : Message → List ℕ
@@ -22,7 +22,12 @@ message_words KeysNotUnderstood = codes "KEYS NOT UNDERSTOOD"
 message_words Blank = []
 message_words CallEnded = codes "CALL ENDED"
 message_words PleaseTryLater = codes "PLEASE TRY LATER"
+message_words KeyToSend = codes "KEY 1 TO SEND, 2 NOT TO SEND"
+message_words MessageStored = codes "MESSAGE STORED"
+message_words MessageNotSent = codes "MESSAGE NOT SENT"
 message_words NoMessages = codes "NO MESSAGES WAITING"
+message_words MessageRemoved = codes "MESSAGE REMOVED"
+message_words KeyToDelete = codes "KEY 1 TO DELETE"
 
 -- the words fill a row from its left, with spaces after them
 unfoldable pub message_row : Message → List ℕ

@@ -1,8 +1,14 @@
 -- What a seat stands for.
+use Rattle.std.specs.Prelude.{ℕ, List, [], Option, Some, None}
 use Rattle.pv_session.specs.declared.seat.Seat.{Seat}
 use Rattle.pv_session.specs.Earlier.{names_of}
 use Rattle.pv_session.specs.Reading.{mode_of, keys_so_far}
 use Rattle.pv_session.specs.State.{CallState}
+
+-- what was filled in, if anything was
+abbrev pub fields_of : Option (List (List ℕ)) → List (List ℕ)
+fields_of None = []
+fields_of (Some fields) = fields
 
 -- the call at a seat
 abbrev pub state_of : Seat → CallState
@@ -16,6 +22,7 @@ state_of seat = record {
   lines = seat.lines;
   aside = seat.aside;
   present = seat.present;
+  filled = fields_of seat.filled;
   earlier = names_of seat.earlier;
   bytes = seat.bytes;
   entries = seat.entries;

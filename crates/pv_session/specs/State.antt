@@ -6,7 +6,7 @@ use Rattle.pv_session.specs.Shown.{ShownFrame}
 use Rattle.pv_session.specs.declared.step.Phase.{Phase}
 use Rattle.pv_session.specs.declared.step.Phase.TheVariants.{Listening, Owing, Over}
 use Rattle.pv_session.specs.declared.step.Wish.{Wish}
-use Rattle.pv_session.specs.declared.step.Wish.TheVariants.{LogOn, Charge}
+use Rattle.pv_session.specs.declared.step.Wish.TheVariants.{LogOn, Charge, Post, Remove}
 
 -- something is to be stored
 abbrev pub is_owing : Phase → Bool
@@ -25,11 +25,13 @@ abbrev pub charges_in : Phase → ℕ
 charges_in Listening = 0
 charges_in (Owing (LogOn account)) = 0
 charges_in (Owing (Charge line)) = 1
+charges_in (Owing (Post item)) = 0
+charges_in (Owing (Remove account number)) = 0
 charges_in Over = 0
 
 -- a call: what the caller is asked for, and what he has keyed of it; how many of his log-ons failed; his account and the call's
 -- serial; how many priced frames he was shown, and the one that is kept aside until its charge is stored; the frame that he is
--- shown, and the names of those before it, the last one first; and how much he has keyed in all
+-- shown, what he has filled in of it, and the names of those before it, the last one first; and how much he has keyed in all
 pub record CallState : Type 0 where
   pub phase : Phase
   pub mode : Mode
@@ -40,6 +42,7 @@ pub record CallState : Type 0 where
   pub lines : ℕ
   pub aside : Option ShownFrame
   pub present : Option ShownFrame
+  pub filled : List (List ℕ)
   pub earlier : List Name
   pub bytes : ℕ
   pub entries : ℕ
@@ -56,6 +59,7 @@ new_call = record {
   lines = 0;
   aside = None;
   present = None;
+  filled = [];
   earlier = [];
   bytes = 0;
   entries = 0;

@@ -7,7 +7,7 @@ use Rattle.pv_edits.specs.Sight.{View}
 use Rattle.pv_screen.specs.Showing.{HasCells}
 use Rattle.pv_session.specs.declared.entry.Entry.{Entry}
 use Rattle.pv_session.specs.declared.entry.Entry.TheVariants as entries
-use Rattle.pv_session.specs.declared.message.Message.TheVariants.{KeyPassword, NotKnown, CallRefused, Welcome, CallEnded, PleaseTryLater}
+use Rattle.pv_session.specs.declared.message.Message.TheVariants.{KeyPassword, NotKnown, CallRefused, Welcome, CallEnded, PleaseTryLater, MessageStored, MessageRemoved}
 use Rattle.pv_session.specs.declared.seat.TheConstants.{MAX_BYTES, MAX_ENTRIES, TRIES}
 use Rattle.pv_session.specs.declared.step.Phase.{Phase}
 use Rattle.pv_session.specs.declared.step.Phase.TheVariants as phases
@@ -17,8 +17,9 @@ use Rattle.pv_session.specs.declared.step.Why.TheVariants.{Refused, Spent, Full}
 use Rattle.pv_session.specs.declared.step.Wish.TheVariants as wishes
 use Rattle.pv_session.specs.declared.step.Step.{Step}
 use Rattle.pv_session.specs.declared.step.Step.TheVariants as steps
-use Rattle.pv_session.specs.Entries.{AccountMode, PasswordMode, BrowseMode, IsEntry, mode_keys}
+use Rattle.pv_session.specs.Entries.{AccountMode, PasswordMode, BrowseMode, IsEntry, mode_keys, leaves_mode, kept_keys}
 use Rattle.pv_session.specs.Fetching.{message_turn, blank_turn, ending_turn, showing_turn, command_turn}
+use Rattle.pv_session.specs.Filling.{browsing_call, field_turn, item_to_send, sending_turn, keeping_turn, removing_turn}
 use Rattle.pv_session.specs.Shown.{ShownFrame}
 use Rattle.pv_session.specs.State.{CallState}
 
@@ -56,6 +57,10 @@ abbrev pub entry_turn : CallState → View → ℕ → Entry → CallState × St
 entry_turn call view moment (entries.Account account) = account_turn call account
 entry_turn call view moment (entries.Password password) = log_on_turn call (known_caller call.account view.account password)
 entry_turn call view moment (entries.Command command) = command_turn call view moment command
+entry_turn call view moment (entries.Field text) = field_turn call text
+entry_turn call view moment entries.Send = sending_turn call (item_to_send call moment)
+entry_turn call view moment entries.Keep = keeping_turn call
+entry_turn call view moment (entries.Delete number) = removing_turn call number call.account
 
 -- the call has had as many bytes or entries as it may have
 abbrev pub is_spent : CallState → Bool
@@ -65,14 +70,27 @@ is_spent call = nat_le MAX_BYTES call.bytes || nat_le MAX_ENTRIES call.entries
 abbrev pub keys_with : CallState → ℕ → List ℕ
 keys_with call byte = call.keyed ++ mode_keys call.mode byte
 
+-- the call at which a byte is read: one that leaves its mode is the first of a command
+abbrev pub reading_call : CallState → ℕ → CallState
+reading_call call byte = if leaves_mode call.mode byte then browsing_call call else call
+
+-- what the keys say with a byte
+abbrev pub IsEntryOf : CallState → ℕ → Entry → Type 0
+IsEntryOf call byte entry = IsEntry (reading_call call byte).mode (keys_with (reading_call call byte) byte) entry
+
 -- the call after a byte that makes an entry
 abbrev pub call_at_entry : CallState → CallState
 call_at_entry call = record call { keyed = []; bytes = call.bytes + 1; entries = call.entries + 1 }
 
--- a byte that makes no entry is kept if it counts, and one that makes an entry takes all keys with it
+-- a byte that is read makes no entry, and is kept if it counts; or it makes one, which takes all keys with it
+abbrev pub read_turn : CallState → ℕ → View → ℕ → Option Entry → CallState × Step
+read_turn call byte view moment None =
+    (record call { keyed = kept_keys call.mode (keys_with call byte); bytes = call.bytes + 1 }, steps.Quiet)
+read_turn call byte view moment (Some entry) = entry_turn (call_at_entry call) view moment entry
+
+-- a byte, with the entry that it makes
 abbrev pub byte_turn : CallState → ℕ → View → ℕ → Option Entry → CallState × Step
-byte_turn call byte view moment None = (record call { keyed = keys_with call byte; bytes = call.bytes + 1 }, steps.Quiet)
-byte_turn call byte view moment (Some entry) = entry_turn (call_at_entry call) view moment entry
+byte_turn call byte view moment entry = read_turn (reading_call call byte) byte view moment entry
 
 -- what comes of something: the seat after, and the step
 pub record Goes (turn : CallState × Step) (after : CallState) (step : Step) : Type 0 where
@@ -83,7 +101,7 @@ pub record Goes (turn : CallState × Step) (after : CallState) (step : Step) : T
 pub record Hears (call : CallState) (byte : ℕ) (view : View) (moment : ℕ) (after : CallState) (step : Step) : Type 0 where
   -- what all the keys since the last entry say; it is `None` if they are not whole
   pub entry : Option Entry
-  pub says : Exactly (IsEntry call.mode (keys_with call byte)) entry
+  pub says : Exactly (IsEntryOf call byte) entry
   pub goes : Goes (byte_turn call byte view moment entry) after step
 
 -- a byte is heard unless the call is spent, which ends it
@@ -123,6 +141,12 @@ storing_turn call (phases.Owing (wishes.LogOn account)) (replies.Serial serial) 
 storing_turn call (phases.Owing (wishes.LogOn account)) replies.Stored = (call, steps.Quiet)
 storing_turn call (phases.Owing (wishes.Charge charge)) (replies.Serial serial) = (call, steps.Quiet)
 storing_turn call (phases.Owing (wishes.Charge charge)) replies.Stored = charged_turn call call.aside
+storing_turn call (phases.Owing (wishes.Post item)) (replies.Serial serial) = (call, steps.Quiet)
+storing_turn call (phases.Owing (wishes.Post item)) replies.Stored =
+    message_turn (record (browsing_call call) { phase = phases.Listening }) MessageStored
+storing_turn call (phases.Owing (wishes.Remove account number)) (replies.Serial serial) = (call, steps.Quiet)
+storing_turn call (phases.Owing (wishes.Remove account number)) replies.Stored =
+    message_turn (record (browsing_call call) { phase = phases.Listening }) MessageRemoved
 storing_turn call phases.Listening reply = (call, steps.Quiet)
 storing_turn call phases.Over reply = (call, steps.Quiet)
 

@@ -45,7 +45,8 @@ impl<const N: usize> Gathered<N> {
         }
     }
 
-    /// Takes a byte, which is added if it counts. With the last one all `N` are returned, and none is kept.
+    /// Takes a byte, which is added if it counts. With the last one all `N` are returned, and none
+    /// is kept.
     pub(crate) fn take(&mut self, byte: u8, counts: bool) -> Option<[u8; N]>
         ensures whole { Exactly (λ bytes. (length bytes ≡ N)
             × (self.old ++ key_if counts byte ≡ bytes)) result }

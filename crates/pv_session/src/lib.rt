@@ -1,18 +1,20 @@
 //! A caller's seat: the keys that a caller sends, and the screens that he is sent.
 //!
-//! A caller keys his account number and his password. Then he asks for pages. A page with a price is shown once its
-//! charge is stored.
+//! A caller keys his account number and his password. Then he asks for pages. A page with a price
+//! is shown once its charge is stored. He fills in response frames and letters, and sends them. The
+//! letters that wait for him are shown one by one, and he deletes them.
 //!
-//! - [`Seat`] is where the keys arrive. [`Seat::dial`] begins a call, and [`Seat::key`] returns the [`Step`] of a byte.
-//! - [`Wish`] is what a seat asks its centre to store. [`Seat::paid`] goes on once it is stored, and
-//!   [`Seat::turned_away`] ends the call if the centre is full.
+//! - [`Seat`] is where the keys arrive. [`Seat::dial`] begins a call, and [`Seat::key`] returns the
+//!   [`Step`] of a byte.
+//! - [`Wish`] is what a seat asks its centre to store. [`Seat::paid`] goes on once it is stored,
+//!   and [`Seat::turned_away`] ends the call if the centre is full.
 //! - [`Message`] is what row 24 says.
 //!
-//! No call allocates, and every byte is accepted. A port hands in a byte with the sight of [`Seat::account`] and the
-//! moment, and does the step:
+//! No call allocates, and every byte is accepted. A port hands in a byte with the sight of
+//! [`Seat::account`] and the moment, and does the step:
 //!
 //! ```text
-//! match seat.key(byte, &Sight::new(&base, centre, seat.account()), moment) {
+//! match seat.key(byte, &Sight::new(&base, &boxes, centre, seat.account()), moment) {
 //!     Step::Quiet => {}
 //!     Step::Show(screen) => send(&screen),
 //!     Step::Owe(wish) => store(wish),
@@ -20,15 +22,17 @@
 //! }
 //! ```
 //!
-//! Contracts see a seat by `state_of` of `specs/Seat.antt`. `IsTurn` of `specs/Turns.antt` is a whole turn: the entry
-//! that all keys since the last one make, and what the seat does with it.
+//! Contracts see a seat by `state_of` of `specs/Seat.antt`. `IsTurn` of `specs/Turns.antt` is a
+//! whole turn: the entry that all keys since the last one make, and what the seat does with it.
 #![tactic(auto)]
 
 mod digits;
 mod earlier;
 mod entry;
+mod field;
 mod gathered;
 mod law;
+mod letters;
 mod message;
 mod names;
 mod password;

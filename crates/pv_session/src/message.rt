@@ -33,8 +33,18 @@ pub enum Message {
     CallEnded,
     /// The centre is full, and the call is over.
     PleaseTryLater,
+    /// All fields of a frame are filled in.
+    KeyToSend,
+    /// What the caller sent is stored.
+    MessageStored,
+    /// The caller does not send what he filled in.
+    MessageNotSent,
     /// No letter waits.
     NoMessages,
+    /// The letter that was shown is removed.
+    MessageRemoved,
+    /// A letter is shown.
+    KeyToDelete,
 }
 
 impl Message {
@@ -56,7 +66,12 @@ impl Message {
             Message::Blank => b"",
             Message::CallEnded => b"CALL ENDED",
             Message::PleaseTryLater => b"PLEASE TRY LATER",
+            Message::KeyToSend => b"KEY 1 TO SEND, 2 NOT TO SEND",
+            Message::MessageStored => b"MESSAGE STORED",
+            Message::MessageNotSent => b"MESSAGE NOT SENT",
             Message::NoMessages => b"NO MESSAGES WAITING",
+            Message::MessageRemoved => b"MESSAGE REMOVED",
+            Message::KeyToDelete => b"KEY 1 TO DELETE",
         }
     }
 

@@ -3,6 +3,7 @@ ghost use Rattle.pv_session.specs.declared.seat.TheConstants.{TRIES};
 ghost use Rattle.pv_session.specs.State.{charges_in};
 
 mod browse;
+mod fill;
 
 use crate::digits::DigitReader;
 use crate::earlier::Earlier;
@@ -17,6 +18,7 @@ use pv_account::AccountNo;
 use pv_charge::LAST_MOMENT;
 use pv_edits::Sight;
 use pv_keys::KeyReader;
+use pv_post::Fields;
 use pv_screen::Screen;
 
 /// How many bytes a call has at most.
@@ -39,6 +41,7 @@ pub struct Seat {
     lines: u32,
     aside: Option<Present>,
     present: Option<Present>,
+    filled: Option<Fields>,
     earlier: Earlier,
     bytes: u32,
     entries: u16,
@@ -70,6 +73,7 @@ impl Seat {
             lines: 0,
             aside: None,
             present: None,
+            filled: None,
             earlier: Earlier::new(),
             bytes: 0,
             entries: 0,
@@ -77,8 +81,8 @@ impl Seat {
         (seat, Message::KeyAccount.on_blank())
     }
 
-    /// Takes a byte at a moment, in seconds since 1970. The sight is that of [`Seat::account`]. A seat that owes
-    /// something or whose call is over takes no byte, and returns [`Step::Quiet`].
+    /// Takes a byte at a moment, in seconds since 1970. The sight is that of [`Seat::account`]. A
+    /// seat that owes something or whose call is over takes no byte, and returns [`Step::Quiet`].
     pub fn key(&mut self, byte: u8, sight: &Sight, moment: u32) -> Step
         requires { moment ≤ LAST_MOMENT }
         ensures turn { IsTurn (state_of self.old) byte (view_of sight.now) moment
@@ -98,7 +102,8 @@ impl Seat {
         }
     }
 
-    /// Goes on after the centre stored what the seat owes. If it owes nothing or this is another reply, nothing changes.
+    /// Goes on after the centre stored what the seat owes. If it owes nothing or this is another
+    /// reply, nothing changes.
     pub fn paid(&mut self, reply: Paid) -> Step
         ensures turn { Goes (storing_turn (state_of self.old) (state_of self.old).phase reply)
             (state_of self.new) result }
@@ -112,12 +117,16 @@ impl Seat {
                 Step::Show(Message::Welcome.on_blank())
             }
             (Phase::Owing(Wish::Charge(_)), Paid::Stored) => self.charged(),
+            (Phase::Owing(Wish::Post(_)), Paid::Stored) => self.done(Message::MessageStored),
+            (Phase::Owing(Wish::Remove(_, _)), Paid::Stored) => {
+                self.done(Message::MessageRemoved)
+            }
             _ => Step::Quiet,
         }
     }
 
-    /// Ends the call, since the centre is full and does not store what the seat owes. If it owes nothing, nothing
-    /// changes.
+    /// Ends the call, since the centre is full and does not store what the seat owes. If it owes
+    /// nothing, nothing changes.
     pub fn turned_away(&mut self) -> Step
         ensures turn { Goes (full_turn (state_of self.old) (state_of self.old).phase)
             (state_of self.new) result }
@@ -129,7 +138,8 @@ impl Seat {
         }
     }
 
-    /// The account that was keyed. `None` exactly until ten digits were keyed, and after each log-on that failed.
+    /// The account that was keyed. `None` exactly until ten digits were keyed, and after each
+    /// log-on that failed.
     pub fn account(&self) -> Option<AccountNo>
         ensures { result ≡ (state_of self.now).account }
     {
@@ -182,8 +192,8 @@ impl Seat {
     fn listen(&mut self, byte: u8, sight: &Sight, moment: u32) -> Step
         requires listens { self.old.phase ≡ Phase.Listening }
         requires moment { moment ≤ LAST_MOMENT }
-        ensures { Listens (is_spent (state_of self.old)) (state_of self.old) byte (view_of sight.now) moment
-            (state_of self.new) result }
+        ensures { Listens (is_spent (state_of self.old)) (state_of self.old) byte
+            (view_of sight.now) moment (state_of self.new) result }
     {
         if self.is_spent() {
             self.end(Why::Spent, Message::CallEnded)
@@ -201,6 +211,7 @@ impl Seat {
             (state_of self.new) result }
     {
         self.bytes += 1;
+        self.leave(byte);
         match self.reading.take(byte) {
             Some(entry) => {
                 self.entries += 1;
@@ -219,7 +230,8 @@ impl Seat {
 
     /// Ends the call with a message.
     fn end(&mut self, why: Why, message: Message) -> Step
-        ensures turn { Goes (ending_turn (state_of self.old) why message) (state_of self.new) result }
+        ensures turn { Goes (ending_turn (state_of self.old) why message)
+            (state_of self.new) result }
         ensures cells { CanBeShown result }
     {
         self.phase = Phase::Over;
@@ -243,6 +255,10 @@ impl Seat {
                 self.log_on(known_caller(self.account, sight.account(), &password))
             }
             Entry::Command(command) => self.obey(command, sight, moment),
+            Entry::Field(text) => self.fill(text),
+            Entry::Send => self.send(moment),
+            Entry::Keep => self.keep(),
+            Entry::Delete(number) => self.delete(number),
         }
     }
 

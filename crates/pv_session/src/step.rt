@@ -2,6 +2,7 @@ ghost use Rattle.pv_session.specs.Charging.{IsSeatWish, IsStorable};
 
 use pv_account::AccountNo;
 use pv_charge::Line;
+use pv_post::Item;
 use pv_screen::Screen;
 
 /// What a seat asks its centre to store.
@@ -11,6 +12,10 @@ pub enum Wish {
     LogOn(AccountNo),
     /// This charge, for a priced frame.
     Charge(Line),
+    /// What the caller sends.
+    Post(Item),
+    /// That the letter of this number is removed from this account's box.
+    Remove(AccountNo, u64),
 }
 
 /// What the centre stored.
@@ -61,7 +66,7 @@ pub enum Phase {
 
 impl Wish {
     /// Its parts are within their ranges, by their types. This does nothing.
-    pub(crate) fn within(&self)
+    pub fn within(&self)
         ensures { IsSeatWish self.now }
     {
         match self {
@@ -69,6 +74,10 @@ impl Wish {
                 let _ = account.number();
             }
             Wish::Charge(line) => line.within(),
+            Wish::Post(item) => item.within(),
+            Wish::Remove(account, number) => {
+                let _ = (account.number(), *number);
+            }
         }
     }
 }

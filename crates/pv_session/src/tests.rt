@@ -2,18 +2,35 @@ use crate::{MAX_BYTES, MAX_ENTRIES, Message, Paid, Seat, Step, Why, Wish};
 use pv_account::{Account, AccountNo, Groups, LAST_CENTRE, digest};
 use pv_charge::{LAST_MOMENT, Line};
 use pv_edits::{Base, Record, Sight};
-use pv_frame::{CheckedFrame, Frame};
+use pv_frame::{CheckedFrame, Field, FieldKind, Frame, Kind};
 use pv_outside::Limits;
 use pv_page::{FrameName, PageNo};
+use pv_post::Mailboxes;
 use pv_screen::{Screen, compose};
 use std::alloc::Global;
 use std::process::Abort;
 use std::test::Fail;
 
+mod filling;
+
 const LIMITS: Limits = Limits {
     frames: 40,
     records: 60,
 };
+
+/// A centre: its base, and the letters that wait at it.
+#[derive(Drop)]
+struct Centre {
+    base: Base,
+    boxes: Mailboxes,
+}
+
+impl Centre {
+    /// What it shows to a caller.
+    fn sight(&self, account: Option<AccountNo>) -> Sight {
+        Sight::new(&self.base, &self.boxes, 0, account)
+    }
+}
 
 /// What a caller is sent, in short.
 #[derive(Clone, Copy, Debug)]
@@ -63,13 +80,38 @@ fn new_account(account: Option<Account>) -> Result<Record, Fail> {
     })
 }
 
-/// A frame with a route 2 to page 2. Page 70 is closed to all but group 7.
+/// A field at the left of a row.
+fn field(row: u8, length: u8, kind: FieldKind) -> Field {
+    Field {
+        row,
+        column: 0,
+        length,
+        kind,
+    }
+}
+
+/// A frame with a route 2 to page 2. Page 70 is closed to all but group 7. Page 7 is a response
+/// frame, and page 8 a letter that is to be written.
 fn priced_frame(name: FrameName, price: u16) -> Result<CheckedFrame, Fail> {
     let mut frame = Frame::blank();
     frame.price = price;
     frame.routes[2] = PageNo::of_number(2);
-    if name.page.number() == 70 {
-        frame.group = 7;
+    match name.page.number() {
+        7 => {
+            frame.kind = Kind::Response;
+            frame.add_field(field(3, 3, FieldKind::Digits));
+            frame.add_field(field(5, 5, FieldKind::Words));
+        }
+        8 => {
+            frame.kind = Kind::Mail;
+            frame.add_field(field(3, 10, FieldKind::Digits));
+            frame.add_field(field(5, 40, FieldKind::Words));
+            frame.add_field(field(6, 40, FieldKind::Words));
+        }
+        70 => {
+            frame.group = 7;
+        }
+        _ => {}
     }
     Ok(CheckedFrame::of(frame)?)
 }
@@ -82,7 +124,7 @@ fn absorb(base: &mut Base, record: &Record) {
 }
 
 /// Gives a frame a price.
-fn price(base: &mut Base, text: &[u8], price: u16) -> Result<(), Fail> {
+fn price(base: &mut Centre, text: &[u8], price: u16) -> Result<(), Fail> {
     let name = name(text)?;
     let put = Record::Put {
         editor: number(0)?,
@@ -90,13 +132,13 @@ fn price(base: &mut Base, text: &[u8], price: u16) -> Result<(), Fail> {
         name,
         frame: priced_frame(name, price)?,
     };
-    absorb(base, &put);
+    absorb(&mut base.base, &put);
     Ok(())
 }
 
-/// A base with a member of group 7 and a stranger at home at centre 0, another account at home at centre 1, and these
-/// frames.
-fn base_of(alloc: Global, names: &[&[u8]]) -> Result<Base, Fail> {
+/// A base with a member of group 7 and a stranger at home at centre 0, another account at home at
+/// centre 1, and these frames.
+fn base_of(alloc: Global, names: &[&[u8]]) -> Result<Centre, Fail> {
     let mut base = Base::open(alloc, LIMITS)?;
     absorb(&mut base, &new_account(account(1_000_000_001, 0, &[7]))?);
     absorb(&mut base, &new_account(account(1_000_000_002, 0, &[]))?);
@@ -111,22 +153,26 @@ fn base_of(alloc: Global, names: &[&[u8]]) -> Result<Base, Fail> {
         };
         absorb(&mut base, &put);
     }
-    Ok(base)
+    Ok(Centre {
+        base,
+        boxes: Mailboxes::open(alloc, 4)?,
+    })
 }
 
 /// The reply to what was stored: the serial of each call is 9.
 fn reply_to(wish: Wish) -> Paid {
     match wish {
         Wish::LogOn(_) => Paid::Serial(9),
-        Wish::Charge(_) => Paid::Stored,
+        Wish::Charge(_) | Wish::Post(_) | Wish::Remove(_, _) => Paid::Stored,
     }
 }
 
-/// Keys bytes at centre 0, one after another. What is owed is stored at once. The step is the last one that is not quiet.
-fn keyed(seat: &mut Seat, keys: &[u8], base: &Base) -> Step {
+/// Keys bytes at centre 0, one after another. What is owed is stored at once. The step is the last
+/// one that is not quiet.
+fn keyed(seat: &mut Seat, keys: &[u8], base: &Centre) -> Step {
     let mut last = Step::Quiet;
     for key in keys {
-        let sight = Sight::new(base, 0, seat.account());
+        let sight = base.sight(seat.account());
         let mut step = seat.key(*key, &sight, 0);
         if let Some(wish) = seat.wish() {
             step = seat.paid(reply_to(wish));
@@ -139,7 +185,7 @@ fn keyed(seat: &mut Seat, keys: &[u8], base: &Base) -> Step {
 }
 
 /// A seat whose caller has logged on.
-fn logged_on(keys: &[u8], base: &Base) -> Seat {
+fn logged_on(keys: &[u8], base: &Centre) -> Seat {
     let (mut seat, _) = Seat::dial();
     let _ = keyed(&mut seat, keys, base);
     seat
@@ -165,7 +211,12 @@ fn step_of(sent: Sent) -> Result<Step, Fail> {
 }
 
 /// Keys the first of each row at one seat, and compares what is sent with the second.
-fn play(rt: &impl Abort, seat: &mut Seat, base: &Base, rows: &[(&[u8], Sent)]) -> Result<(), Fail> {
+fn play(
+    rt: &impl Abort,
+    seat: &mut Seat,
+    base: &Centre,
+    rows: &[(&[u8], Sent)],
+) -> Result<(), Fail> {
     for (keys, sent) in rows {
         let step = keyed(seat, keys, base);
         assert!(rt;
@@ -352,7 +403,7 @@ fn a_log_on_is_stored_first(rt: HostRuntime) -> Result<(), Fail> {
     let (mut seat, _) = Seat::dial();
     let _ = keyed(&mut seat, b"1000000001ABC", &base);
     let caller = number(1_000_000_001)?;
-    let sight = Sight::new(&base, 0, Some(caller));
+    let sight = base.sight(Some(caller));
     assert!(rt; seat.key(b'D', &sight, 0) == Step::Owe(Wish::LogOn(caller)));
     assert!(rt; seat.owes());
     assert!(rt; seat.key(b'1', &sight, 0) == Step::Quiet);
@@ -368,6 +419,17 @@ fn a_log_on_is_stored_first(rt: HostRuntime) -> Result<(), Fail> {
     Ok(())
 }
 
+/// Keys this many spaces, and returns whether each of them is answered by nothing.
+fn are_quiet(seat: &mut Seat, sight: &Sight, count: u32) -> bool {
+    for _ in 0..count {
+        let step = seat.key(b' ', sight, 0);
+        if !matches!(step, Step::Quiet) {
+            return false;
+        }
+    }
+    true
+}
+
 #[test]
 fn a_call_has_a_last_entry_and_a_last_byte(rt: HostRuntime) -> Result<(), Fail> {
     let base = base_of(rt.alloc(), &[])?;
@@ -379,9 +441,7 @@ fn a_call_has_a_last_entry_and_a_last_byte(rt: HostRuntime) -> Result<(), Fail> 
     assert_eq!(rt; seat.entries(), MAX_ENTRIES);
     play(&rt, &mut seat, &base, &[spent, (b"1", Nothing)])?;
     let (mut silent, _) = Seat::dial();
-    for _ in 0..MAX_BYTES {
-        assert!(rt; silent.key(b' ', &Sight::new(&base, 0, None), 0) == Step::Quiet);
-    }
+    assert!(rt; are_quiet(&mut silent, &base.sight(None), MAX_BYTES));
     play(&rt, &mut silent, &base, &[spent])
 }
 
@@ -424,9 +484,9 @@ fn line() -> Option<Line> {
 }
 
 /// A caller logs on and fetches frame 1a at the last moment.
-fn fetch(seat: &mut Seat, base: &Base) {
+fn fetch(seat: &mut Seat, base: &Centre) {
     let _ = keyed(seat, b"1000000001ABCD*1", base);
-    let sight = Sight::new(base, 0, seat.account());
+    let sight = base.sight(seat.account());
     let _ = seat.key(b'#', &sight, LAST_MOMENT);
 }
 
@@ -458,7 +518,8 @@ fn a_full_centre_charges_nothing(rt: HostRuntime) -> Result<(), Fail> {
     price(&mut base, b"1a", 99)?;
     let (mut seat, _) = Seat::dial();
     fetch(&mut seat, &base);
-    assert!(rt; seat.wish().is_some());
+    let line = line().ok_or("a line")?;
+    assert!(rt; seat.wish() == Some(Wish::Charge(line)));
     assert!(rt; seat.turned_away() == step_of(Over(Why::Full, Message::PleaseTryLater))?);
     assert!(rt; !seat.owes());
     assert!(rt; seat.paid(Paid::Stored) == Step::Quiet);

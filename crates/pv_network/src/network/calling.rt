@@ -6,6 +6,7 @@ ghost use Rattle.pv_network.specs.Standing.{Performs, Presses};
 use crate::laws::seats_keep_their_own;
 use crate::network::Network;
 use crate::outcome::Outcome;
+use pv_irc::letters_wait_by_places;
 use pv_nodes::a_centre_shows_what_the_list_shows;
 
 impl Network {
@@ -28,6 +29,7 @@ impl Network {
         ensures centres { length self.new.centres ≡ length self.old.centres }
     {
         a_centre_shows_what_the_list_shows();
+        letters_wait_by_places();
         seats_keep_their_own();
         let moment = self.moment.seconds();
         self.centres[centre as usize].press(port, key, moment)
@@ -40,6 +42,8 @@ impl Network {
         ensures performs { Performs self.old self.new result (λ w. step_of_store w centre port) }
         ensures centres { length self.new.centres ≡ length self.old.centres }
     {
+        a_centre_shows_what_the_list_shows();
+        letters_wait_by_places();
         self.centres[centre].store(port)
     }
 

@@ -11,10 +11,11 @@ use super::Seat;
 use crate::message::Message;
 use crate::names::{first_frame, main_index};
 use crate::present::Present;
+use crate::reading::Reading;
 use crate::step::{Phase, Step, Why, Wish};
 use pv_charge::{LAST_MOMENT, Line};
 use pv_edits::Sight;
-use pv_keys::Command;
+use pv_keys::{Command, KeyReader};
 use pv_page::{FrameName, PageNo};
 
 /// What the commands of a caller do.
@@ -33,7 +34,7 @@ impl Seat {
             Command::Back => self.back(sight, moment),
             Command::Repeat => self.repeat(),
             Command::Fresh => self.fresh(sight, moment),
-            Command::Mail => Step::Show(Message::NoMessages.alone()),
+            Command::Mail => self.letter(sight),
             Command::End => self.end(Why::Finished, Message::CallEnded),
             Command::Cancel => Step::Show(Message::Blank.alone()),
             Command::Slip => Step::Show(Message::KeysNotUnderstood.alone()),
@@ -57,8 +58,8 @@ impl Seat {
     fn next(&mut self, sight: &Sight, moment: u32) -> Step
         requires uncharged { self.old.lines < self.old.entries }
         requires moment { moment ≤ LAST_MOMENT }
-        ensures { Goes (next_turn (state_of self.old) (view_of sight.now) moment (state_of self.old).present)
-            (state_of self.new) result }
+        ensures { Goes (next_turn (state_of self.old) (view_of sight.now) moment
+            (state_of self.old).present) (state_of self.new) result }
     {
         let name = match &self.present {
             Some(present) => present.name().next_letter(),
@@ -92,8 +93,8 @@ impl Seat {
     fn back(&mut self, sight: &Sight, moment: u32) -> Step
         requires uncharged { self.old.lines < self.old.entries }
         requires moment { moment ≤ LAST_MOMENT }
-        ensures { Goes (back_turn (state_of self.old) (view_of sight.now) moment (state_of self.old).earlier)
-            (state_of self.new) result }
+        ensures { Goes (back_turn (state_of self.old) (view_of sight.now) moment
+            (state_of self.old).earlier) (state_of self.new) result }
     {
         match self.earlier.pop() {
             Some(name) => self.fetch(name, sight, moment),
@@ -102,11 +103,12 @@ impl Seat {
     }
 
     /// Shows the present frame as it was fetched.
-    fn repeat(&self) -> Step
-        ensures { result ≡ (repeat_turn (state_of self.now) (state_of self.now).present).1 }
+    fn repeat(&mut self) -> Step
+        ensures { Goes (repeat_turn (state_of self.old) (state_of self.old).present)
+            (state_of self.new) result }
     {
-        match &self.present {
-            Some(present) => Step::Show(present.screen()),
+        match self.present {
+            Some(present) => self.show(present),
             None => Step::Show(Message::Welcome.on_blank()),
         }
     }
@@ -115,8 +117,8 @@ impl Seat {
     fn fresh(&mut self, sight: &Sight, moment: u32) -> Step
         requires uncharged { self.old.lines < self.old.entries }
         requires moment { moment ≤ LAST_MOMENT }
-        ensures { Goes (fresh_turn (state_of self.old) (view_of sight.now) moment (state_of self.old).present)
-            (state_of self.new) result }
+        ensures { Goes (fresh_turn (state_of self.old) (view_of sight.now) moment
+            (state_of self.old).present) (state_of self.new) result }
     {
         match self.present {
             Some(present) => self.fetch(present.name(), sight, moment),
@@ -155,7 +157,8 @@ impl Seat {
         requires uncharged { self.old.lines < self.old.entries }
         requires moment { moment ≤ LAST_MOMENT }
         ensures { Goes (charging_turn (state_of self.old) shown
-            (charge_of (state_of self.old) shown.name shown.frame.price moment)) (state_of self.new) result }
+            (charge_of (state_of self.old) shown.name shown.frame.price moment))
+            (state_of self.new) result }
     {
         match self.line(&shown, moment) {
             Some(line) => {
@@ -170,7 +173,8 @@ impl Seat {
     /// The charge for a frame. `None` exactly when the caller has not logged on.
     fn line(&self, shown: &Present, moment: u32) -> Option<Line>
         requires { moment ≤ LAST_MOMENT }
-        ensures { result ≡ charge_of (state_of self.now) shown.now.name shown.now.frame.price moment }
+        ensures { result ≡ charge_of (state_of self.now) shown.now.name shown.now.frame.price
+            moment }
     {
         let number = self.lines;
         Some(Line {
@@ -186,7 +190,8 @@ impl Seat {
     /// Shows the frame that was kept aside, since its charge is stored.
     pub(super) fn charged(&mut self) -> Step
         requires { self.old.lines < self.old.entries }
-        ensures { Goes (charged_turn (state_of self.old) (state_of self.old).aside) (state_of self.new) result }
+        ensures { Goes (charged_turn (state_of self.old) (state_of self.old).aside)
+            (state_of self.new) result }
     {
         match self.aside {
             Some(shown) => {
@@ -204,6 +209,11 @@ impl Seat {
         ensures { Goes (showing_turn (state_of self.old) shown) (state_of self.new) result }
     {
         self.present = Some(shown);
+        self.filled = None;
+        self.reading = match shown.field(0) {
+            Some(reader) => Reading::Fill(reader),
+            None => Reading::Browse(KeyReader::new()),
+        };
         Step::Show(shown.screen())
     }
 

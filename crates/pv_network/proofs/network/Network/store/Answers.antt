@@ -19,7 +19,8 @@ done : (c : After-store) (w : World) → StandsFor (before c) w
     (step_of_store w c.args.centre c.args.port).0 × (c.store.result ≡ (step_of_store w c.args.centre c.args.port).1)
 done c w stands =
     stores _ w stands c.args.centre c.index_mut.result.now (rw (← c.self.view_is) at c.requires.centre) c.index_mut.ensures.value
-    c.args.port c.store.new.self c.store.result c.store.ensures
+    c.args.port c.store.new.self c.store.result c.letters_wait_by_places.ensures c.a_centre_shows_what_the_list_shows.ensures.letter
+    c.store.ensures
 
 pub invariant_of-self : goal.invariant_of-self
 invariant_of-self c =
