@@ -8,6 +8,9 @@ use Rattle.pv_words.specs.Lines.{lines_of}
 use Rattle.pv_network.specs.World.{World}
 use Rattle.pv_files.specs.declared.standard.StandardOutput.{StandardOutput}
 use Rattle.pv_files.specs.Output.{written_bytes, flushed_bytes, buffered_bytes}
+use Rattle.pv_network.specs.Step.{Choice}
+use Rattle.pv_script.specs.declared.grammar.Command.{Command}
+use Rattle.pv_script.specs.Evening.{IsEvening, summary_of}
 use Rattle.pv_script.specs.Play.{longest_script, IsReadWhole, IsTranscript, StopsAtBadLine, StopsInAnswers, StopsAfterLine}
 
 -- How it may end that a text of the program is written: the writer itself has the whole of it, and nothing is in the buffer, or
@@ -16,6 +19,13 @@ abbrev pub WritesText : {W : Type 0} → (W → Option (List ℕ)) → List ℕ 
 WritesText contents text before now Done = Appends (written_bytes contents before) (flushed_bytes contents now) text × (buffered_bytes now ≡ [])
 WritesText contents text before now WriteFault = (count : ℕ) × Appends (written_bytes contents before) (written_bytes contents now) (take count text)
 WritesText contents text before now _ = ⊥
+
+-- How it may end that the evening of a number is played: its summary is written as any text of the program is, or memory ran out,
+-- and nothing was written.
+abbrev pub WritesSummary : {W : Type 0} → (W → Option (List ℕ)) → ℕ → StandardOutput W → StandardOutput W → Status → Type 0
+WritesSummary contents number before now Memory = written_bytes contents now ≡ written_bytes contents before
+WritesSummary contents number before now status =
+    (runs : List (Command × Choice)) × IsEvening number runs × WritesText contents (summary_of runs) before now status
 
 -- What a run made of the text that it read, by the status that it ended with. Done says that the writer itself has the whole
 -- transcript, and a bad line that it has all answers of the lines before; nothing is in the buffer then. A fault of the output

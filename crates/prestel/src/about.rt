@@ -7,12 +7,16 @@ const VERSION: &str = "prestel 0.1.0\n";
 /// How the program is used.
 const HELP: &str = "usage: prestel play N < SCRIPT
        prestel gen N > SCRIPT
+       prestel evening N
        prestel --help
        prestel --version
 
 play runs the script on standard input on a viewdata network of N retrieval
 centres, 1 to 4, and writes an answer to each event.
 gen writes the script that is made by rule for the number N, 1 to 999.
+evening plays that script on one centre, and writes what came of it in one
+line: the records of the Update Centre, the screens, the charge lines, and
+the pence of the bill.
 
 Exit status:
   0  everything was done

@@ -1,5 +1,5 @@
-//! The program: `prestel play N` runs a script on a viewdata network of N retrieval centres, 1 to 4, and `prestel gen N`
-//! writes the script that is made by rule for the number N.
+//! The program: `prestel play N` runs a script on a viewdata network of N retrieval centres, 1 to 4. `prestel gen N`
+//! writes the script that is made by rule for the number N, and `prestel evening N` plays it and sums it up.
 //!
 //! A script comes in by standard input, and what is written goes out by standard output; a fault is one
 //! line on standard error, and the exit status says which. All that the program does is
@@ -36,7 +36,7 @@ fn end<R: Eprint>(rt: &R, status: Status) -> ExitCode
     let _ = match status {
         Status::Done => Ok(()),
         Status::Usage => eprintln!(rt;
-            "prestel: usage: prestel play N < SCRIPT, N 1 to 4, or prestel gen N, N 1 to 999"
+            "prestel: usage: prestel play N < SCRIPT, N 1 to 4, or prestel gen N or evening N, N 1 to 999"
         ),
         _ => eprintln!(rt; "prestel: {status}"),
     };

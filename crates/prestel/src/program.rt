@@ -2,20 +2,21 @@ ghost use Rattle.std.specs.Prelude.{◌≡◌, ◌≢◌, ℕ, ◌≤◌, ◌↔
 ghost use Rattle.pv_outside.specs.Counts.{Rose};
 ghost use Rattle.prestel.specs.About.{about_words, about_text};
 ghost use Rattle.pv_gen.specs.Script.{script_of};
+ghost use Rattle.pv_script.specs.Evening.{AskForEvening, AskNoEvening};
 ghost use Rattle.pv_script.specs.Generating.{AskToGenerate, AskNoScript};
 ghost use Rattle.pv_script.specs.Play.{AskToPlay, AskNoPlay, first_world, HasRead, IsNotRun};
-ghost use Rattle.prestel.specs.Program.{WritesText, IsRunOf};
+ghost use Rattle.prestel.specs.Program.{WritesText, WritesSummary, IsRunOf};
 ghost use Rattle.prestel.specs.declared.about.About.{About};
 
 use crate::about::About;
 use pv_files::StandardOutput;
 use pv_outside::{Failed, Sink, Source, Status};
-use pv_script::{generate, play};
+use pv_script::{evening, generate, play};
 use std::alloc::Global;
 use std::io::Write;
 
-/// Does what the words ask for: prints the help or the version, writes a generated script, or plays the script.
-/// All that the program does is this.
+/// Does what the words ask for: prints the help or the version, writes a generated script or sums
+/// up its evening, or plays the script. All that the program does is this.
 pub fn run_program<S: Source, W: Write + Drop>(
     alloc: Global,
     words: &[String],
@@ -30,6 +31,10 @@ pub fn run_program<S: Source, W: Write + Drop>(
     ensures generates { (number : ℕ) → AskToGenerate (map string_bytes words.now) number
         → WritesText W.contents (script_of number) out.old out.new result × (script.new ≡ script.old) }
 
+    // So is the summary of the evening that they ask for.
+    ensures sums_up { (number : ℕ) → AskForEvening (map string_bytes words.now) number
+        → WritesSummary W.contents number out.old out.new result × (script.new ≡ script.old) }
+
     // If they ask for a play, what was read is a text, and what the writer has now is what a run of that text
     // makes of it.
     ensures runs { (centres : ℕ) → AskToPlay (map string_bytes words.now) centres → (text : List ℕ)
@@ -39,7 +44,7 @@ pub fn run_program<S: Source, W: Write + Drop>(
     // The words are refused exactly when they are none of those, and then nothing is read.
     ensures usage { (result ≡ Status.Usage)
         ↔ (AskNoPlay (map string_bytes words.now) × AskNoScript (map string_bytes words.now)
-        × ((about : About) → map string_bytes words.now ≢ about_words about)) }
+        × AskNoEvening (map string_bytes words.now) × ((about : About) → map string_bytes words.now ≢ about_words about)) }
     ensures unread { result ≡ Status.Usage → script.new ≡ script.old }
 
     // Nothing is run, and nothing written, if the words, the reading or the length is at fault.
@@ -55,7 +60,10 @@ pub fn run_program<S: Source, W: Write + Drop>(
     match About::asked(words) {
         Some(about) => write_about(about, out),
         None => match generate_out(words, out) {
-            Status::Usage => play_out(alloc, words, script, out),
+            Status::Usage => match evening_out(alloc, words, out) {
+                Status::Usage => play_out(alloc, words, script, out),
+                status => status,
+            },
             status => status,
         },
     }
@@ -95,6 +103,36 @@ fn generate_out<W: Write + Drop>(words: &[String], out: &mut StandardOutput<W>) 
             Ok(()) => Status::Done,
             Err(Failed) => Status::WriteFault,
         },
+        status => status,
+    }
+}
+
+/// Plays an evening, and flushes its summary if that is still in the buffer.
+fn evening_out<W: Write + Drop>(
+    alloc: Global,
+    words: &[String],
+    out: &mut StandardOutput<W>,
+) -> Status
+    // If the words ask for an evening, the writer itself has the whole summary, or the output
+    // failed after a prefix, or memory ran out.
+    ensures sums_up { (number : ℕ) → AskForEvening (map string_bytes words.now) number
+        → WritesSummary W.contents number out.old out.new result }
+
+    // The words are refused exactly when they ask for no evening, and then nothing is written.
+    ensures usage { (result ≡ Status.Usage) ↔ AskNoEvening (map string_bytes words.now) }
+    ensures unwritten { result ≡ Status.Usage → out.new ≡ out.old }
+
+    // A fault of the outside comes only if its count rose.
+    ensures write_fault { result ≡ Status.WriteFault → Rose out.old.faults out.new.faults }
+    ensures counted { out.old.faults ≤ out.new.faults }
+{
+    match evening(alloc, words, out).status {
+        Status::Done => {
+            if out.flush().is_err() {
+                return Status::WriteFault;
+            }
+            Status::Done
+        }
         status => status,
     }
 }

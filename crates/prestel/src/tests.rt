@@ -1,6 +1,8 @@
 mod calls;
 mod charges;
+mod evenings;
 mod generated;
+mod letters;
 
 use crate::about::About;
 use crate::program::run_program;
@@ -65,6 +67,43 @@ fn texts(alloc: Global, words: &[&str]) -> Result<Vec<String>, Fail> {
 fn comes_to(alloc: Global, script: &[u8], wanted: Status, written: &[u8]) -> Result<bool, Fail> {
     Trial::of(script).ends(alloc, &["play", "1"], wanted, written)
 }
+
+/// These texts, one after another.
+fn joined(alloc: Global, texts: &[&[u8]]) -> Result<Vec<u8>, Fail> {
+    let mut whole = Vec::new(alloc);
+    for text in texts {
+        whole.extend_from_slice(text)?;
+    }
+    Ok(whole)
+}
+
+/// A text, repeated.
+fn repeated(alloc: Global, text: &[u8], count: u32) -> Result<Vec<u8>, Fail> {
+    let mut whole = Vec::new(alloc);
+    for _ in 0..count {
+        whole.extend_from_slice(text)?;
+    }
+    Ok(whole)
+}
+
+/// An account, which is carried to its centre, and a caller who logs on.
+const LOG_ON: &[u8] = b"edit 0 LOGON 0000000000 0000
+edit 0 ACCOUNT 1 1000000001 ABCD 0 -
+carry 0
+dial 0 0
+keys 0 0 1000000001ABCD
+";
+
+/// What is written when somebody dials.
+const DIALLED: &[u8] =
+    b"screen \\0c\\0d\\0a\\0d\\0a\\0d\\0a\\0d\\0a\\0d\\0a\\0d\\0a\\0d\\0a\\0d\\0a\\0d\\0a\\0d\\0a\\0d\\0a\\0d\\0a\\0d\\0a\\0d\\0a\\0d\\0a\\0d\\0a\\0d\\0a\\0d\\0a\\0d\\0a\\0d\\0a\\0d\\0a\\0d\\0a\\0d\\0aKEY YOUR ACCOUNT NUMBER\n";
+
+/// What is written then for [`LOG_ON`]: the first answers, and those after the first screen.
+const ACCOUNT_MADE: &[u8] = b"OK\nOK 0\ncarried 1 0\n";
+
+const WELCOMED: &[u8] = b"screen \\1e\\0bKEY YOUR PASSWORD                       
+screen \\0c\\0d\\0a\\0d\\0a\\0d\\0a\\0d\\0a\\0d\\0a\\0d\\0a\\0d\\0a\\0d\\0a\\0d\\0a\\0d\\0a\\0d\\0a\\0d\\0a\\0d\\0a\\0d\\0a\\0d\\0a\\0d\\0a\\0d\\0a\\0d\\0a\\0d\\0a\\0d\\0a\\0d\\0a\\0d\\0a\\0d\\0aWELCOME
+";
 
 /// The 22 row ends, in notation, that come after the row of a frame that has one.
 const ROW_ENDS: &[u8] =

@@ -3,11 +3,19 @@ use Rattle.std.proofs.Common.{lit≤, ◌≡◌, [], ◌∷◌, ◌*◌, true, S
 use Rattle.std.specs.Fmt.{digits}
 use Rattle.pv_network.specs.declared.event.Event.TheVariants.{Send, Deliver}
 use Rattle.pv_network.specs.declared.event.TheConstants.{MAX_CENTRES}
+use Rattle.pv_network.specs.declared.outcome.BillLine.{BillLine}
 use Rattle.pv_network.specs.declared.outcome.Outcome.TheVariants.{Turns, SentRecord, SentItem, Taken, Old, Carried, Clock, NotHeld, Applied, Records, Bill}
+use Rattle.pv_network.specs.declared.outcome.Outcome.TheVariants.{Shown, Quiet}
+use Rattle.pv_network.specs.declared.outcome.Turn.{Turn}
+use Rattle.pv_screen.specs.Grid.{blank_grid}
+use Rattle.pv_screen.specs.declared.screen.Screen.TheVariants.{Whole}
+use Rattle.pv_gen.specs.declared.writing.TheConstants.{LAST_NUMBER}
 use Rattle.pv_script.specs.declared.grammar.Command.TheVariants.{Nothing, Do}
 use Rattle.pv_script.specs.declared.grammar.TheConstants.{COMMENT}
 use Rattle.pv_script.specs.declared.word.CallWord.TheVariants as calling
 use Rattle.pv_script.specs.declared.word.Word.TheVariants as words
+use Rattle.pv_script.specs.Evening.{AskForEvening, summary_text}
+use Rattle.pv_script.specs.Tally.{outcomes_of, tally_of}
 use Rattle.pv_script.specs.Play.{AskToPlay, first_world, longest_script, play_limits}
 use Rattle.pv_network.specs.Step.{Choice}
 use Rattle.pv_session.specs.declared.step.Why.TheVariants.{Finished}
@@ -55,21 +63,22 @@ pub lines : (answer_text (SentRecord 3 17) ≡ codes "sent 3 record 17\n")
 unfolding digits
 lines = (refl, refl, refl, refl, refl, refl, refl, refl, refl)
 
+-- a charge of 9 pence
+abbrev charge : BillLine
+charge = record {
+  centre = 1;
+  line = record {
+    serial = 2;
+    number = 0;
+    account = 1000000001;
+    name = record { page = 20; letter = 97 };
+    price = 9;
+    moment = 315532800;
+  };
+}
+
 -- a bill: a line for each charge, and the sum
-pub bill : answer_text
-    (Bill
-    (record {
-      centre = 1;
-      line = record {
-        serial = 2;
-        number = 0;
-        account = 1000000001;
-        name = record { page = 20; letter = 97 };
-        price = 9;
-        moment = 315532800;
-      };
-    }
-    ∷ []) 9) ≡ codes "line 1 2 0 20a 9 315532800\nsum 9\n"
+pub bill : answer_text (Bill (charge ∷ []) 9) ≡ codes "line 1 2 0 20a 9 315532800\nsum 9\n"
 unfolding digits
 bill = refl
 
@@ -89,3 +98,28 @@ any = record { kept = true; said = None; keyed = [] }
 -- on a new network nothing is there to send or to deliver, and a comment has no answer
 pub new_network : answers (first_world 1) ((Do (Send 0), any) ∷ (Nothing, any) ∷ (Do (Deliver 0 0), any) ∷ []) ≡ codes "idle\nno packet\n"
 new_network = refl
+
+-- ---- evenings
+
+-- the words write the number of an evening, of which 999 is the last
+pub words_of_an_evening : AskForEvening (codes "evening" ∷ codes "999" ∷ []) 999 × (LAST_NUMBER ≡ 999)
+unfolding digits
+words_of_an_evening = (record { some = lit≤ tt; few = lit≤ tt; asked = refl }, refl)
+
+-- a screen that is shown, whatever it is
+abbrev shown : Turn
+shown = record { screen = Whole blank_grid; ended = None }
+
+-- what is shown and billed is counted, and nothing else
+pub tally : tally_of (Shown shown ∷ Quiet ∷ Turns (shown ∷ shown ∷ []) ∷ Bill (charge ∷ charge ∷ []) 18 ∷ Records 4 ∷ [])
+    ≡ record { screens = 3; lines = 2; pence = 18 }
+tally = refl
+
+-- the summary names each number
+pub summary : summary_text 4 (record { screens = 5; lines = 2; pence = 16 }) ≡ codes "records 4 screens 5 lines 2 pence 16\n"
+unfolding digits
+summary = refl
+
+-- a comment has no outcome
+pub no_outcome : outcomes_of (first_world 1) ((Nothing, any) ∷ []) ≡ []
+no_outcome = refl

@@ -1,9 +1,14 @@
 pub mod CallerLemmas
+pub mod Counting
 pub mod Ending
 pub mod Facts
+pub mod Forms
+pub mod Generated
 pub mod Happening
 pub mod Limits
 pub mod Nodes
 pub mod Notation
+pub mod Plain
 pub mod Reading
 pub mod Running
+pub mod Summing

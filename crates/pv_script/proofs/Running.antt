@@ -4,6 +4,7 @@ use Rattle.std.specs.Io.KnownBytes.{Appends}
 use Rattle.std.proofs.lemmas.List.{append-nil, length-append}
 use Rattle.std.proofs.Math.Seq.{take-append-add}
 use Rattle.pv_words.specs.Lines.{lines_of}
+use Rattle.pv_network.specs.declared.outcome.Outcome.{Outcome}
 use Rattle.pv_network.specs.World.{World}
 use Rattle.pv_network.specs.Step.{Choice}
 use Rattle.pv_network.specs.Standing.{State, StandsFor}
@@ -11,11 +12,14 @@ use Rattle.pv_script.specs.declared.ends.AnswerEnd.TheVariants as answering
 use Rattle.pv_script.specs.declared.ends.RunEnd.{RunEnd}
 use Rattle.pv_script.specs.declared.ends.RunEnd.TheVariants.{BadLine, Unanswered}
 use Rattle.pv_script.specs.declared.grammar.Command.{Command}
-use Rattle.pv_script.specs.Ends.{HasRun, IsLineEnd, IsRunEnd}
+use Rattle.pv_script.specs.declared.tally.Tally.{Tally}
+use Rattle.pv_script.specs.Ends.{HasRun, IsTallied, IsLineEnd, IsRunEnd}
 use Rattle.pv_script.specs.Grammar.{ReadsLine, HasNoForm, IsCommandChoice}
-use Rattle.pv_script.specs.Play.{IsTranscript, IsPlayed, StopsAfterLine}
+use Rattle.pv_script.specs.Play.{IsTranscript, StopsAfterLine}
+use Rattle.pv_script.specs.Tally.{outcomes_of, tally_of, AddsOutcomes}
 use Rattle.pv_script.specs.Transcript.{AreRead, answer_to, answers, world_after_command, world_after_all}
 use Rattle.pv_script.proofs.CallerLemmas.{Appends-none, Appends-more}
+use Rattle.pv_script.proofs.Counting.{outcomes_of-push, adds_none, adds_more, adds_all}
 
 -- ---- one command more
 
@@ -46,51 +50,60 @@ read-push w centres number at (l ∷ ls) (c ∷ cs) line run is read reads choic
 -- ---- the run so far
 
 module _ (centres : ℕ) (first : World) (text : List ℕ) (before : Option (List ℕ)) where
-  -- the lines before the rest were run, the network stands for the world after them, and their answers were written
-  pub record Progress (rest : List ℕ) (number : ℕ) (network : State) (now : Option (List ℕ)) : Type 0 where
+  -- the lines before the rest were run, the network stands for the world after them, their answers were written, and what came of
+  -- them was counted
+  pub record Progress (rest : List ℕ) (number : ℕ) (network : State) (now : Option (List ℕ)) (tally : Tally) : Type 0 where
     pub done : List (List ℕ)
     pub lines : lines_of text ≡ done ++ lines_of rest
     pub count : length done ≡ number
     pub transcript : IsTranscript centres first done before now
     pub stands : StandsFor network (world_after_all first transcript.runs)
+    pub counted : AddsOutcomes (tally_of []) tally (outcomes_of first transcript.runs)
 
   -- no line has no answer
   nothing_written : IsTranscript centres first [] before before
   nothing_written = record { runs = []; read = tt; written = Appends-none before }
 
-  -- before the first line nothing was run or written
-  pub begins : (network : State) → StandsFor network first → Progress text 0 network before
+  -- before the first line nothing was run, written or counted
+  pub begins : (network : State) → StandsFor network first → Progress text 0 network before (tally_of [])
   unfolding nothing_written
-  begins network stands = record { done = []; lines = refl; count = refl; transcript = nothing_written; stands = stands }
+  begins network stands =
+      record { done = []; lines = refl; count = refl; transcript = nothing_written; stands = stands; counted = adds_none (tally_of []) }
 
   -- nothing was run yet
   pub stops_at_once : StopsAfterLine centres first text before before
   stops_at_once = record { run = []; later = lines_of text; lines = refl; transcript = nothing_written }
 
   -- no line is left
-  pub all_played : (rest : List ℕ) (number : ℕ) (network : State) (now : Option (List ℕ)) → Progress rest number network now → length rest ≡ 0 → IsPlayed centres first text network before now
-  all_played (byte ∷ rest) number network now p none = absurd (omega (arith, none))
-  all_played [] number network now p none =
+  pub all_played : (rest : List ℕ) (number : ℕ) (network : State) (now : Option (List ℕ)) (tally : Tally)
+      → Progress rest number network now tally → length rest ≡ 0 → IsTallied centres first text network before now tally
+  all_played (byte ∷ rest) number network now tally p none = absurd (omega (arith, none))
+  all_played [] number network now tally p none =
       let t = p.transcript in
       let all : p.done ≡ lines_of text = sym (append-nil p.done) ∙ sym p.lines in
       record {
-        transcript = record { runs = t.runs; read = subst (λ (l : List (List ℕ)). AreRead first centres 1 l t.runs) all t.read; written = t.written };
-        stands = p.stands;
-        one_list = p.stands.sound.law;
-        owed = λ c serial. (p.stands.charged c).owed serial;
+        played = record {
+          transcript = record { runs = t.runs; read = subst (λ (l : List (List ℕ)). AreRead first centres 1 l t.runs) all t.read; written = t.written };
+          stands = p.stands;
+          one_list = p.stands.sound.law;
+          owed = λ c serial. (p.stands.charged c).owed serial;
+        };
+        counted = adds_all tally (outcomes_of first t.runs) p.counted;
       }
 
-  module _ (rest line later : List ℕ) (number : ℕ) (old : State) (mid now : Option (List ℕ)) (p : Progress rest number old mid) (is : lines_of rest ≡ line ∷ lines_of later) where
+  module _ (rest line later : List ℕ) (number : ℕ) (old : State) (mid now : Option (List ℕ)) (from : Tally) (p : Progress rest number old mid from)
+      (is : lines_of rest ≡ line ∷ lines_of later) where
     -- the lines with the next one
     longer : lines_of text ≡ (p.done ++ line ∷ []) ++ lines_of later
     longer = p.lines ∙ ap (λ (l : List (List ℕ)). p.done ++ l) is ∙ sym (append_assoc p.done (line ∷ []) (lines_of later))
 
     -- one line more was run
-    pub goes_on : (new : State) → HasRun centres (number + 1 == 1) line old new mid now → Progress later (number + 1) new now
-    goes_on new run =
+    pub goes_on : (new : State) (to : Tally) → HasRun centres (number + 1 == 1) line old new mid now from to → Progress later (number + 1) new now to
+    goes_on new to run =
         let runs = p.transcript.runs in
         let step = run.2 (world_after_all first runs) p.stands in
         let next : Command × Choice = (run.0, step.0) in
+        let counted = adds_more _ from to _ _ p.counted step.4 in
         record {
           done = p.done ++ line ∷ [];
           lines = longer;
@@ -101,6 +114,7 @@ module _ (centres : ℕ) (first : World) (text : List ℕ) (before : Option (Lis
             written = subst (λ (l : List ℕ). Appends before now l) (sym (answers-push first runs next)) (Appends-more before mid now (answers first runs) _ p.transcript.written step.3);
           };
           stands = subst (λ (w : World). StandsFor new w) (sym (world_after_command-push first runs next)) step.2;
+          counted = subst (λ (l : List Outcome). AddsOutcomes (tally_of []) to l) (sym (outcomes_of-push first runs next)) counted;
         }
 
     -- the next line was not run

@@ -16,7 +16,9 @@ use Rattle.pv_script.specs.declared.ends.RunEnd.TheVariants.{BadLine, Unanswered
 use Rattle.pv_script.specs.declared.grammar.Command.{Command}
 use Rattle.pv_script.specs.Grammar.{ReadsLine, HasNoForm, IsCommandChoice}
 use Rattle.pv_script.specs.Transcript.{answer_to, world_after_command}
-use Rattle.pv_script.specs.Play.{longest_script, StopsAtBadLine, StopsInAnswers, StopsAfterLine}
+use Rattle.pv_script.specs.declared.tally.Tally.{Tally}
+use Rattle.pv_script.specs.Play.{longest_script, IsPlayed, StopsAtBadLine, StopsInAnswers, StopsAfterLine}
+use Rattle.pv_script.specs.Tally.{outcomes_to, outcomes_of, tally_of, AddsOutcomes}
 
 -- the status of a play whose script was not read to its end
 abbrev pub read_status : ReadEnd → Status
@@ -36,10 +38,12 @@ IsReadEnd text faults_before faults_now reads.TooLong = length text ≡ longest_
 IsReadEnd text faults_before faults_now reads.Fault = (length text ≤ longest_script) × Rose faults_before faults_now
 IsReadEnd text faults_before faults_now reads.Memory = text ≡ []
 
--- a command was run: for each world that the network stood for it stands for the next, and the answer was written
-abbrev pub GivesAnswer : Command → State → State → Option (List ℕ) → Option (List ℕ) → Type 0
-GivesAnswer command old new before now = (w : World) → StandsFor old w → (choice : Choice) × IsCommandChoice w command choice
+-- a command was run: for each world that the network stood for it stands for the next, the answer was written, and what came of
+-- it was added to the tally
+abbrev pub GivesAnswer : Command → State → State → Option (List ℕ) → Option (List ℕ) → Tally → Tally → Type 0
+GivesAnswer command old new before now from to = (w : World) → StandsFor old w → (choice : Choice) × IsCommandChoice w command choice
     × StandsFor new (world_after_command w command choice) × Appends before now (answer_to w command choice)
+    × AddsOutcomes from to (outcomes_to w command choice)
 
 -- a command was begun: for each world that the network stood for a prefix of the answer was written
 abbrev pub HasBegun : Command → State → Option (List ℕ) → Option (List ℕ) → Type 0
@@ -52,14 +56,20 @@ IsAnswerEnd command old before now faults_before faults_now answering.Fault = Ro
 IsAnswerEnd command old before now faults_before faults_now answering.Memory = now ≡ before
 
 -- a line was run: it reads as a command that was run
-abbrev pub HasRun : ℕ → Bool → List ℕ → State → State → Option (List ℕ) → Option (List ℕ) → Type 0
-HasRun centres first line old new before now = (command : Command) × ReadsLine centres first line command × GivesAnswer command old new before now
+abbrev pub HasRun : ℕ → Bool → List ℕ → State → State → Option (List ℕ) → Option (List ℕ) → Tally → Tally → Type 0
+HasRun centres first line old new before now from to =
+    (command : Command) × ReadsLine centres first line command × GivesAnswer command old new before now from to
 
 -- why a line was not run
 abbrev pub IsLineEnd : ℕ → List ℕ → ℕ → State → Option (List ℕ) → Option (List ℕ) → ℕ → ℕ → RunEnd → Type 0
 IsLineEnd centres line number old before now faults_before faults_now (BadLine bad) = (bad ≡ number) × HasNoForm centres (number == 1) line × (now ≡ before)
 IsLineEnd centres line number old before now faults_before faults_now (Unanswered end) =
     (command : Command) × ReadsLine centres (number == 1) line command × IsAnswerEnd command old before now faults_before faults_now end
+
+-- all lines of a text were run, and the tally is that of what came of them
+pub record IsTallied (centres : ℕ) (first : World) (text : List ℕ) (network : State) (before now : Option (List ℕ)) (tally : Tally) : Type 0 where
+  pub played : IsPlayed centres first text network before now
+  pub counted : tally ≡ tally_of (outcomes_of first played.transcript.runs)
 
 -- why a text's lines were not all run
 abbrev pub IsRunEnd : ℕ → World → List ℕ → Option (List ℕ) → Option (List ℕ) → ℕ → ℕ → RunEnd → Type 0

@@ -1,8 +1,10 @@
 pub mod Asking
 pub mod Ends
+pub mod Evening
 pub mod Generating
 pub mod Grammar
 pub mod Play
 pub mod Readers
+pub mod Tally
 pub mod Transcript
 pub mod Words

@@ -1,5 +1,5 @@
 -- How a play may end, and what then was read and written.
-use Rattle.std.specs.Prelude.{◌≡◌, ℕ, ◌+◌, ◌≤◌, ◌==◌, Bool, IsTrue, List, [], ◌∷◌, ◌++◌, length, take, Option, Some, None, IsSomeAnd, codes}
+use Rattle.std.specs.Prelude.{◌≡◌, ℕ, ◌+◌, ◌≤◌, ◌==◌, Bool, IsTrue, List, ◌∷◌, ◌++◌, length, take, Option, Some, None, IsSomeAnd, codes}
 use Rattle.std.specs.Io.KnownBytes.{Appends, Consumes}
 use Rattle.std.proofs.Common.{lit<, lit≤}
 use Rattle.pv_outside.specs.declared.limits.Limits.{Limits}

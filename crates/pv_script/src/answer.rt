@@ -1,7 +1,9 @@
 ghost use Rattle.std.specs.Prelude.{◌≡◌, ◌++◌, OnOk, codes, decimal};
 ghost use Rattle.pv_page.specs.Names.{name_text};
+ghost use Rattle.pv_script.specs.Evening.{summary_text};
 ghost use Rattle.pv_script.specs.Transcript.{answer_text, charge_text, charges_text, turn_text, turns_text, limits_text, ack_text, end_text, newline};
 
+use crate::tally::Tally;
 use itoa::Buffer;
 use pv_cells::push_notation;
 use pv_network::{BillLine, Outcome, Turn, Why};
@@ -83,6 +85,18 @@ pub fn push_limits(text: &mut Vec<u8>, limits: Limits) -> Result<(), AllocError>
     push_words(text, b"\n")
 }
 
+/// Appends the line that sums up an evening: how many records the Update Centre has, and the tally
+/// of what came of it.
+pub fn push_summary(text: &mut Vec<u8>, records: u64, tally: Tally) -> Result<(), AllocError>
+    ensures { OnOk result (text.new.items ≡ text.old.items ++ summary_text records tally) }
+{
+    push_number(text, b"records ", records)?;
+    push_sum(text, b" screens ", tally.screens)?;
+    push_sum(text, b" lines ", tally.lines)?;
+    push_sum(text, b" pence ", tally.pence)?;
+    push_words(text, b"\n")
+}
+
 /// Appends words.
 fn push_words(text: &mut Vec<u8>, words: &[u8]) -> Result<(), AllocError>
     ensures { OnOk result (text.new.items ≡ text.old.items ++ words.now) }
@@ -96,6 +110,14 @@ fn push_number(text: &mut Vec<u8>, words: &[u8], number: u64) -> Result<(), Allo
 {
     text.extend_from_slice(words)?;
     text.extend_from_slice(Buffer::new().format(number).as_bytes())
+}
+
+/// Appends words and then a sum in decimal.
+fn push_sum(text: &mut Vec<u8>, words: &[u8], sum: u128) -> Result<(), AllocError>
+    ensures { OnOk result (text.new.items ≡ text.old.items ++ (words.now ++ decimal sum)) }
+{
+    text.extend_from_slice(words)?;
+    text.extend_from_slice(Buffer::new().format(sum).as_bytes())
 }
 
 /// Appends a line of words and then a number in decimal.

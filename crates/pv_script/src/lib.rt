@@ -12,20 +12,27 @@
 //! view 0 1a          ->  screen \0c ..
 //! ```
 //!
-//! The lines are defined in `specs/Grammar.antt`, a row for each, the answers in `specs/Transcript.antt`, and how a play
-//! may end in `specs/Play.antt`.
+//! [`generate`] writes the script that is made by rule for a number, and [`evening`] plays it and
+//! writes one line of what came of it: the records of the Update Centre, the screens, the charge
+//! lines and the sum of the bill.
+//!
+//! The lines are defined in `specs/Grammar.antt`, a row for each, the answers in `specs/Transcript.antt`, how a play
+//! may end in `specs/Play.antt`, and an evening in `specs/Evening.antt`.
 #![tactic(auto)]
 
 mod answer;
 mod asking;
 mod ends;
+mod evenings;
 mod generating;
 mod grammar;
 mod playing;
 mod readers;
 mod script;
+mod tally;
 mod word;
 
+pub use evenings::evening;
 pub use generating::generate;
 pub use grammar::{Command, parse};
 pub use playing::{FRAMES, Played, RECORDS, play};

@@ -1,17 +1,19 @@
-ghost use Rattle.std.specs.Prelude.{◌≡◌, ℕ, ◌+◌, ◌<◌, ◌≤◌, ◌==◌, ◌↔◌, List, [], ◌∷◌, map, length, Some, None, IfOk, IfErr, IfSome, OnOk, IsSome, string_bytes};
+ghost use Rattle.std.specs.Prelude.{◌≡◌, ℕ, ◌+◌, ◌^◌, ◌<◌, ◌≤◌, ◌==◌, ◌↔◌, List, [], ◌∷◌, map, length, Some, None, IfOk, IfErr, IfSome, OnOk, IsSome, string_bytes};
 ghost use Rattle.pv_outside.specs.Counts.{Rose};
 ghost use Rattle.pv_network.specs.declared.event.TheConstants.{MAX_CENTRES};
 ghost use Rattle.pv_network.specs.Standing.{StandsFor, IsPossible};
 ghost use Rattle.pv_script.specs.declared.grammar.Command.TheVariants.{Do};
 ghost use Rattle.pv_script.specs.declared.grammar.Command.TheVariants as commands;
-ghost use Rattle.pv_script.specs.Ends.{GivesAnswer, HasRun, IsAnswerEnd, IsLineEnd, IsRunEnd};
-ghost use Rattle.pv_script.specs.Play.{AskToPlay, AskNoPlay, HasRead, IsPlayOf, IsPlayed, IsNotRun, first_world};
+ghost use Rattle.pv_script.specs.Ends.{GivesAnswer, HasRun, IsAnswerEnd, IsTallied, IsLineEnd, IsRunEnd};
+ghost use Rattle.pv_script.specs.Play.{AskToPlay, AskNoPlay, HasRead, IsPlayOf, IsNotRun, first_world};
+ghost use Rattle.pv_script.specs.Tally.{tally_of, IsTallyWithin};
 
 use crate::answer::{push_answer, push_limits};
 use crate::asking::number_asked;
 use crate::ends::{AnswerEnd, RunEnd};
 use crate::grammar::{Command, parse};
 use crate::script::{LONGEST_SCRIPT, read_script};
+use crate::tally::Tally;
 use pv_network::{Event, MAX_CENTRES, Network};
 use pv_outside::{Limits, Sink, Source, Status};
 use pv_words::first_line;
@@ -71,7 +73,7 @@ pub fn play<S: Source, K: Sink>(
         Err(end) => return ended(end.status()),
     };
     match run(alloc, centres, &text, out) {
-        Ok(network) => Played {
+        Ok((network, _)) => Played {
             status: Status::Done,
             network: Some(network),
         },
@@ -80,7 +82,7 @@ pub fn play<S: Source, K: Sink>(
 }
 
 /// A play that ended without a network.
-fn ended(status: Status) -> Played
+pub(crate) fn ended(status: Status) -> Played
     ensures status { result.status ≡ status }
     ensures network { result.network ≡ None }
 {
@@ -101,15 +103,20 @@ fn centres_asked(words: &[String]) -> Option<u8>
     }
 }
 
-/// Runs a script's text on a new network.
-fn run<K: Sink>(alloc: Global, centres: u8, text: &[u8], out: &mut K) -> Result<Network, RunEnd>
+/// Runs a script's text on a new network, and counts what came of it.
+pub(crate) fn run<K: Sink>(
+    alloc: Global,
+    centres: u8,
+    text: &[u8],
+    out: &mut K,
+) -> Result<(Network, Tally), RunEnd>
     requires short { length text.now ≤ LONGEST_SCRIPT }
     requires some { 1 ≤ centres }
     requires few { centres ≤ MAX_CENTRES }
 
     // The whole text was played; or the play ended before, for the reason that is returned.
-    ensures ok { IfOk result (λ network. IsPlayed centres (first_world centres) text.now network
-        (K.written out.old) (K.written out.new)) }
+    ensures ok { IfOk result (λ played. IsTallied centres (first_world centres) text.now played.0
+        (K.written out.old) (K.written out.new) played.1) }
     ensures err { IfErr result (IsRunEnd centres (first_world centres) text.now
         (K.written out.old) (K.written out.new) (K.write_faults out.old) (K.write_faults out.new)) }
     ensures counted { K.write_faults out.old ≤ K.write_faults out.new }
@@ -121,18 +128,27 @@ fn run<K: Sink>(alloc: Global, centres: u8, text: &[u8], out: &mut K) -> Result<
     let Ok(mut network) = Network::open(alloc, centres, limits) else {
         return Err(RunEnd::Unanswered(AnswerEnd::Memory));
     };
-    run_lines(alloc, centres, text, &mut network, out)?;
-    Ok(network)
+    let tally = run_lines(alloc, centres, text, &mut network, out)?;
+    Ok((network, tally))
 }
 
-/// Runs the lines of a text, one after another.
+/// The answers of a play so far.
+#[derive(Drop)]
+struct Answers {
+    /// The text of the last one.
+    text: Vec<u8>,
+    /// What all of them add up to.
+    tally: Tally,
+}
+
+/// Runs the lines of a text, one after another, and counts what came of them.
 fn run_lines<K: Sink>(
     alloc: Global,
     centres: u8,
     text: &[u8],
     network: &mut Network,
     out: &mut K,
-) -> Result<(), RunEnd>
+) -> Result<Tally, RunEnd>
     requires short { length text.now ≤ LONGEST_SCRIPT }
     requires centres { length network.old.centres ≡ centres }
     requires some { 1 ≤ centres }
@@ -140,22 +156,25 @@ fn run_lines<K: Sink>(
     requires new { StandsFor network.old (first_world centres) }
 
     // Every line was played; or the play ended at one, for the reason that is returned.
-    ensures ok { OnOk result (IsPlayed centres (first_world centres) text.now network.new
-        (K.written out.old) (K.written out.new)) }
+    ensures ok { IfOk result (λ tally. IsTallied centres (first_world centres) text.now network.new
+        (K.written out.old) (K.written out.new) tally) }
     ensures err { IfErr result (IsRunEnd centres (first_world centres) text.now
         (K.written out.old) (K.written out.new) (K.write_faults out.old) (K.write_faults out.new)) }
     ensures counted { K.write_faults out.old ≤ K.write_faults out.new }
 {
-    let mut answer = Vec::new(alloc);
+    let mut answers = Answers {
+        text: Vec::new(alloc),
+        tally: Tally::new(),
+    };
     let mut rest = text;
     let mut number = 0;
     while !rest.is_empty() {
         let (line, later) = first_line(rest);
         number += 1;
-        run_line(alloc, centres, line, number, network, &mut answer, out)?;
+        run_line(alloc, centres, line, number, network, &mut answers, out)?;
         rest = later;
     }
-    Ok(())
+    Ok(answers.tally)
 }
 
 /// Runs one line, of this number, in a play of this many centres.
@@ -165,31 +184,34 @@ fn run_line<K: Sink>(
     line: &[u8],
     number: u32,
     network: &mut Network,
-    answer: &mut Vec<u8>,
+    answers: &mut Answers,
     out: &mut K,
 ) -> Result<(), RunEnd>
     requires centres { length network.old.centres ≡ centres }
     requires some { 1 ≤ centres }
     requires few { centres ≤ MAX_CENTRES }
+    requires room { IsTallyWithin answers.old.tally number }
 
     // The line was played; or the play ends at it, for the reason that is returned.
     ensures ok { OnOk result (HasRun centres (number == 1) line.now network.old network.new
-        (K.written out.old) (K.written out.new)) }
+        (K.written out.old) (K.written out.new) answers.old.tally answers.new.tally) }
     ensures err { IfErr result (IsLineEnd centres line.now number network.old
         (K.written out.old) (K.written out.new) (K.write_faults out.old) (K.write_faults out.new)) }
     ensures counted { K.write_faults out.old ≤ K.write_faults out.new }
     ensures centres { length network.new.centres ≡ length network.old.centres }
+    ensures within { (count : ℕ) → IsTallyWithin answers.old.tally count
+        → IsTallyWithin answers.new.tally (count + 1) }
 {
     match parse(line, number == 1, centres) {
         None => Err(RunEnd::BadLine { line: number }),
         Some(Command::Nothing) => Ok(()),
         Some(Command::Limits(limits)) => {
-            match begin_again(alloc, centres, limits, network, answer, out) {
+            match begin_again(alloc, centres, limits, network, answers, out) {
                 Ok(()) => Ok(()),
                 Err(end) => Err(RunEnd::Unanswered(end)),
             }
         }
-        Some(Command::Do(event)) => match run_event(&event, network, answer, out) {
+        Some(Command::Do(event)) => match run_event(&event, network, answers, out) {
             Ok(()) => Ok(()),
             Err(end) => Err(RunEnd::Unanswered(end)),
         },
@@ -202,7 +224,7 @@ fn begin_again<K: Sink>(
     centres: u8,
     limits: Limits,
     network: &mut Network,
-    answer: &mut Vec<u8>,
+    answers: &mut Answers,
     out: &mut K,
 ) -> Result<(), AnswerEnd>
     requires centres { length network.old.centres ≡ centres }
@@ -211,49 +233,54 @@ fn begin_again<K: Sink>(
 
     // The answer is written; or memory ran out, or the write failed.
     ensures ok { OnOk result (GivesAnswer (commands.Limits limits) network.old network.new (K.written out.old)
-        (K.written out.new)) }
+        (K.written out.new) answers.old.tally answers.new.tally) }
     ensures err { IfErr result (IsAnswerEnd (commands.Limits limits) network.old
         (K.written out.old) (K.written out.new) (K.write_faults out.old) (K.write_faults out.new)) }
     ensures counted { K.write_faults out.old ≤ K.write_faults out.new }
     ensures centres { length network.new.centres ≡ length network.old.centres }
+    ensures tally { answers.new.tally ≡ answers.old.tally }
 {
     let Ok(fresh) = Network::open(alloc, centres, limits) else {
         return Err(AnswerEnd::Memory);
     };
     *network = fresh;
-    answer.clear();
-    if push_limits(answer, limits).is_err() {
+    answers.text.clear();
+    if push_limits(&mut answers.text, limits).is_err() {
         return Err(AnswerEnd::Memory);
     }
-    if out.write_all(answer).is_err() {
+    if out.write_all(&answers.text).is_err() {
         return Err(AnswerEnd::Fault);
     }
     Ok(())
 }
 
-/// Lets an event happen, and writes the answer by one write.
+/// Lets an event happen, counts what came of it, and writes the answer by one write.
 fn run_event<K: Sink>(
     event: &Event,
     network: &mut Network,
-    answer: &mut Vec<u8>,
+    answers: &mut Answers,
     out: &mut K,
 ) -> Result<(), AnswerEnd>
-    requires { IsPossible network.old event.now }
+    requires possible { IsPossible network.old event.now }
+    requires room { IsTallyWithin answers.old.tally (2 ^ 32) }
     ensures ok { OnOk result (GivesAnswer (Do event.now) network.old network.new (K.written out.old)
-        (K.written out.new)) }
+        (K.written out.new) answers.old.tally answers.new.tally) }
     ensures err { IfErr result (IsAnswerEnd (Do event.now) network.old
         (K.written out.old) (K.written out.new) (K.write_faults out.old) (K.write_faults out.new)) }
     ensures counted { K.write_faults out.old ≤ K.write_faults out.new }
     ensures centres { length network.new.centres ≡ length network.old.centres }
+    ensures within { (count : ℕ) → IsTallyWithin answers.old.tally count
+        → IsTallyWithin answers.new.tally (count + 1) }
 {
     let Ok(outcome) = network.step(event) else {
         return Err(AnswerEnd::Memory);
     };
-    answer.clear();
-    if push_answer(answer, &outcome).is_err() {
+    answers.tally.add(&outcome);
+    answers.text.clear();
+    if push_answer(&mut answers.text, &outcome).is_err() {
         return Err(AnswerEnd::Memory);
     }
-    if out.write_all(answer).is_err() {
+    if out.write_all(&answers.text).is_err() {
         return Err(AnswerEnd::Fault);
     }
     Ok(())

@@ -1,26 +1,6 @@
-use super::{Trial, comes_to};
+use super::{ACCOUNT_MADE, DIALLED, LOG_ON, Trial, WELCOMED, comes_to, joined, repeated};
 use pv_outside::Status;
-use std::alloc::Global;
 use std::test::Fail;
-
-/// An account, which is carried to its centre, and a caller who logs on.
-const LOG_ON: &[u8] = b"edit 0 LOGON 0000000000 0000
-edit 0 ACCOUNT 1 1000000001 ABCD 0 -
-carry 0
-dial 0 0
-keys 0 0 1000000001ABCD
-";
-
-/// What is written when somebody dials.
-const DIALLED: &[u8] =
-    b"screen \\0c\\0d\\0a\\0d\\0a\\0d\\0a\\0d\\0a\\0d\\0a\\0d\\0a\\0d\\0a\\0d\\0a\\0d\\0a\\0d\\0a\\0d\\0a\\0d\\0a\\0d\\0a\\0d\\0a\\0d\\0a\\0d\\0a\\0d\\0a\\0d\\0a\\0d\\0a\\0d\\0a\\0d\\0a\\0d\\0a\\0d\\0aKEY YOUR ACCOUNT NUMBER\n";
-
-/// What is written then for [`LOG_ON`]: the first answers, and those after the first screen.
-const ACCOUNT_MADE: &[u8] = b"OK\nOK 0\ncarried 1 0\n";
-
-const WELCOMED: &[u8] = b"screen \\1e\\0bKEY YOUR PASSWORD                       
-screen \\0c\\0d\\0a\\0d\\0a\\0d\\0a\\0d\\0a\\0d\\0a\\0d\\0a\\0d\\0a\\0d\\0a\\0d\\0a\\0d\\0a\\0d\\0a\\0d\\0a\\0d\\0a\\0d\\0a\\0d\\0a\\0d\\0a\\0d\\0a\\0d\\0a\\0d\\0a\\0d\\0a\\0d\\0a\\0d\\0a\\0d\\0aWELCOME
-";
 
 /// What is written if there is no main index.
 const NOT_AVAILABLE: &[u8] = b"screen \\1e\\0bPAGE NOT AVAILABLE                      \n";
@@ -28,24 +8,6 @@ const NOT_AVAILABLE: &[u8] = b"screen \\1e\\0bPAGE NOT AVAILABLE                
 /// What is written at the next byte of a call that had all that it may have; and then there is no call.
 const SPENT: &[u8] =
     b"screen \\1e\\0bCALL ENDED                              \nended spent\nno call\n";
-
-/// These texts, one after another.
-fn joined(alloc: Global, texts: &[&[u8]]) -> Result<Vec<u8>, Fail> {
-    let mut whole = Vec::new(alloc);
-    for text in texts {
-        whole.extend_from_slice(text)?;
-    }
-    Ok(whole)
-}
-
-/// A text, repeated.
-fn repeated(alloc: Global, text: &[u8], count: u32) -> Result<Vec<u8>, Fail> {
-    let mut whole = Vec::new(alloc);
-    for _ in 0..count {
-        whole.extend_from_slice(text)?;
-    }
-    Ok(whole)
-}
 
 #[test]
 fn a_call_has_a_million_bytes(rt: HostRuntime) -> Result<(), Fail> {

@@ -13,7 +13,7 @@ run_lines-requires-clause-new g c =
     (same_limits 2000 10000 _ play_limits.frames_in_range _ play_limits.records_in_range) c.in-Ok.ensures.ok
 
 -- the lines were not all run
-pub returns-in_err-run_lines-clause-err : goal.returns-in_err-run_lines-clause-err
-returns-in_err-run_lines-clause-err g c =
+pub returns-in_err-tally-clause-err : goal.returns-in_err-tally-clause-err
+returns-in_err-tally-clause-err g c =
     let end = err_from_is_err_and c.from_residual.result c.from_residual.ensures.1 in
-    rw (end.1, end.2) c.in_err-run_lines.ensures.err
+    rw (end.1, end.2) c.in_err-tally.ensures.err

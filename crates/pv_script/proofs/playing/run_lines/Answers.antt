@@ -1,12 +1,15 @@
-use Rattle.std.proofs.Common.{rules, ◌≡◌, ◌∙◌, length, arith}
+use Rattle.std.proofs.Common.{rules, ◌≡◌, ◌+◌, ◌∙◌, length, arith}
 use Rattle.std.proofs.lemmas.Result.{err_from_is_err_and}
 use Rattle.pv_script.specs.Play.{first_world}
+use Rattle.pv_script.proofs.Counting.{within_none, within_more}
 use Rattle.pv_script.proofs.Running.{begins, goes_on, stops, all_played}
 use Rattle.pv_script.proofs.playing.run_lines.Goals as goal
 
 pub loop-rest-init : goal.loop-rest-init
 loop-rest-init g c = record {
-  progress = begins c.args.centres (first_world c.args.centres) c.args.text.now (g.K.Sink.written c.args.out.now) c.args.network.now c.requires.new;
+  progress = rw c.new-2.ensures (begins c.args.centres (first_world c.args.centres) c.args.text.now (g.K.Sink.written c.args.out.now)
+      c.args.network.now c.requires.new);
+  within = rw c.new-2.ensures within_none;
   number = omega arith;
   centres = c.requires.centres;
   counted = omega arith;
@@ -14,20 +17,28 @@ loop-rest-init g c = record {
 
 pub loop-rest-preserved : goal.loop-rest-preserved
 loop-rest-preserved g c = record {
-  progress = goes_on c.args.centres (first_world c.args.centres) c.args.text.now (g.K.Sink.written c.args.out.now) c.loop-rest.rest.now _ _ c.loop-rest.number _ _ _
-      c.loop-rest.invariant.progress c.first_line.ensures.line _ c.in_ok-run_line.ensures.ok;
+  progress = goes_on c.args.centres (first_world c.args.centres) c.args.text.now (g.K.Sink.written c.args.out.now)
+      c.loop-rest.rest.now _ _ c.loop-rest.number _ _ _ _
+      c.loop-rest.invariant.progress c.first_line.ensures.line _ _ c.in_ok-run_line.ensures.ok;
+  within = c.run_line.ensures.within c.loop-rest.number c.loop-rest.invariant.within;
   number = omega (arith, c.loop-rest.invariant.number, c.first_line.ensures.shorter);
   centres = c.run_line.ensures.centres ∙ c.loop-rest.invariant.centres;
   counted = omega (arith, c.loop-rest.invariant.counted, c.run_line.ensures.counted);
 }
+
+-- so many lines as were run have room
+pub run_line-requires-clause-room : goal.run_line-requires-clause-room
+run_line-requires-clause-room g c =
+    within_more c.loop-rest.answers.tally c.loop-rest.number (c.loop-rest.number + 1) (omega arith) c.loop-rest.invariant.within
 
 -- the next line was not run
 pub returns-in_err-run_line-clause-err : goal.returns-in_err-run_line-clause-err
 returns-in_err-run_line-clause-err g c =
     let end = err_from_is_err_and c.from_residual.result c.from_residual.ensures.1 in
     rw (end.1, end.2) (stops c.args.centres (first_world c.args.centres) c.args.text.now (g.K.Sink.written c.args.out.now)
-    c.loop-rest.rest.now c.first_line.result.0.now c.first_line.result.1.now c.loop-rest.number c.loop-rest.network (g.K.Sink.written c.loop-rest.out) (g.K.Sink.written c.run_line.new.out)
-    c.loop-rest.invariant.progress c.first_line.ensures.line
+    c.loop-rest.rest.now c.first_line.result.0.now c.first_line.result.1.now c.loop-rest.number
+    c.loop-rest.network (g.K.Sink.written c.loop-rest.out) (g.K.Sink.written c.run_line.new.out)
+    c.loop-rest.answers.tally c.loop-rest.invariant.progress c.first_line.ensures.line
     (g.K.Sink.write_faults c.args.out.now) (g.K.Sink.write_faults c.loop-rest.out) (g.K.Sink.write_faults c.run_line.new.out)
     c.in_err-run_line.field-0.0 c.loop-rest.invariant.counted c.in_err-run_line.ensures.err)
 
@@ -35,4 +46,5 @@ returns-in_err-run_line-clause-err g c =
 pub returns-clause-ok : goal.returns-clause-ok
 returns-clause-ok g c =
     let none : length c.loop-rest.rest.now ≡ 0 = search rules in
-    all_played c.args.centres (first_world c.args.centres) c.args.text.now _ c.loop-rest.rest.now c.loop-rest.number c.loop-rest.network _ c.loop-rest.invariant.progress none
+    all_played c.args.centres (first_world c.args.centres) c.args.text.now _ c.loop-rest.rest.now c.loop-rest.number c.loop-rest.network _
+    c.loop-rest.answers.tally c.loop-rest.invariant.progress none
