@@ -13,7 +13,8 @@ use Rattle.pv_network.specs.World.{World}
 use Rattle.pv_files.specs.declared.standard.StandardOutput.{StandardOutput}
 use Rattle.pv_files.specs.Output.{written_bytes, buffered_bytes}
 use Rattle.pv_script.specs.Play.{IsTranscript, StopsAtBadLine, StopsInAnswers, StopsAfterLine, IsPlayOf}
-use Rattle.prestel.specs.Program.{IsRunOf}
+use Rattle.pv_script.specs.Evening.{IsEveningOf}
+use Rattle.prestel.specs.Program.{WritesSummary, IsRunOf}
 use Rattle.pv_script.specs.Transcript.{answers}
 use Rattle.pv_script.proofs.CallerLemmas.{Appends-kept}
 
@@ -24,6 +25,11 @@ all_flushed : (a b : Option (List ℕ)) (buffer : List ℕ) → Keeps a (append_
 all_flushed None b buffer kept none = tt
 all_flushed (Some x) None buffer kept none = absurd kept
 all_flushed (Some x) (Some y) buffer kept none = sym (append-nil y) ∙ ap (λ (l : List ℕ). y ++ l) (sym none) ∙ kept
+
+-- a text that was written whole has gone to the writer then
+pub text_flushed : (a b c : Option (List ℕ)) (buffer text : List ℕ) → Appends a b text → Keeps b (append_known c buffer) → buffer ≡ []
+    → Appends a c text
+text_flushed a b c buffer text written kept none = Appends-kept a b c text written (all_flushed b c buffer kept none)
 
 -- a text that was written whole is a prefix of itself, and stays so
 pub whole_is_prefix : (a b c : Option (List ℕ)) (text : List ℕ) → Appends a b text → Keeps b c
@@ -117,3 +123,18 @@ module _ {W : Type 0} (contents : W → Option (List ℕ)) (centres : ℕ) (firs
   not_flushed status p (inr is) =
       let q = rw is.1 at p in
       (q.0, transcript_is_prefix centres first _ _ _ kept text q.1.run (q.1.bad ∷ q.1.later) q.1.lines q.1.transcript)
+
+-- ---- the end of an evening
+
+-- one that is not done ended as its play did
+pub not_summed : {W : Type 0} (contents : W → Option (List ℕ)) (number : ℕ) (network : Option State)
+    (before now : StandardOutput W) (status : Status)
+    → IsEveningOf number network (written_bytes contents before) (written_bytes contents now) status → (status ≡ Done → ⊥)
+    → WritesSummary contents number before now status
+not_summed contents number network before now Done is other = absurd (other refl)
+not_summed contents number network before now Usage is other = absurd is
+not_summed contents number network before now (BadLine place) is other = absurd is
+not_summed contents number network before now ReadFault is other = absurd is
+not_summed contents number network before now WriteFault is other = (is.0, is.1, (is.2, is.3))
+not_summed contents number network before now Memory is other = is
+not_summed contents number network before now TooLong is other = absurd is

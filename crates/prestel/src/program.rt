@@ -126,14 +126,15 @@ fn evening_out<W: Write + Drop>(
     ensures write_fault { result ≡ Status.WriteFault → Rose out.old.faults out.new.faults }
     ensures counted { out.old.faults ≤ out.new.faults }
 {
-    match evening(alloc, words, out).status {
+    let status = evening(alloc, words, out).status;
+    match status {
         Status::Done => {
             if out.flush().is_err() {
                 return Status::WriteFault;
             }
-            Status::Done
+            status
         }
-        status => status,
+        _ => status,
     }
 }
 

@@ -1,9 +1,14 @@
-use super::texts;
+use super::{Balky, TWO_SEEDS, texts};
+use crate::program::run_program;
+use pv_files::{StandardInput, StandardOutput};
 use pv_memory::MemSink;
 use pv_outside::Status;
 use pv_script::{Played, evening};
 use std::alloc::Global;
 use std::test::Fail;
+
+/// The summary of the first evening.
+const FIRST: &[u8] = b"records 4 screens 5 lines 2 pence 16\n";
 
 /// Whether these words end so over a sink of this room, of which these writes fail, and this is
 /// written. There is a network exactly when all was done.
@@ -27,7 +32,7 @@ fn ends(
 fn an_evening_is_summed_up(rt: HostRuntime) -> Result<(), Fail> {
     let alloc = rt.alloc();
     let cases: [(&str, &[u8]); 2] = [
-        ("1", b"records 4 screens 5 lines 2 pence 16\n"),
+        ("1", FIRST),
         ("2", b"records 7 screens 7 lines 4 pence 29\n"),
     ];
     for (number, summary) in cases {
@@ -65,6 +70,25 @@ fn other_words_ask_for_no_evening(rt: HostRuntime) -> Result<(), Fail> {
     for words in others {
         let refused = ends(alloc, words, 100, &[], Status::Usage, b"")?;
         assert!(rt; refused, "{words:?}");
+    }
+    Ok(())
+}
+
+#[test]
+fn a_run_writes_the_summary_alone(rt: HostRuntime) -> Result<(), Fail> {
+    let alloc = rt.alloc();
+    let words = texts(alloc, &["evening", "1"])?;
+    let cases: [(u64, Status, &[u8]); 2] = [
+        (0, Status::Done, FIRST),
+        (3, Status::WriteFault, &FIRST[..6]),
+    ];
+    for (failing, wanted, written) in cases {
+        let mut input = StandardInput::new(TWO_SEEDS);
+        let mut out = StandardOutput::new(alloc, Balky::new(alloc, failing))?;
+        let status = run_program(alloc, &words, &mut input, &mut out);
+        assert_eq!(rt; status, wanted);
+        assert_eq!(rt; out.writer().bytes.as_slice(), written);
+        assert_eq!(rt; *input.reader(), TWO_SEEDS);
     }
     Ok(())
 }

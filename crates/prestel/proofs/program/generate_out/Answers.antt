@@ -1,7 +1,4 @@
-use Rattle.std.proofs.Common.{List}
 use Rattle.pv_gen.specs.Script.{script_of}
-use Rattle.pv_script.specs.Generating.{WritesScript}
-use Rattle.pv_files.specs.Output.{written_bytes}
 use Rattle.prestel.proofs.Flushing.{whole_is_prefix}
 use Rattle.prestel.proofs.program.generate_out.Goals as goal
 

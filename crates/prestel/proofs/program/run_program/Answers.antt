@@ -31,8 +31,10 @@ returns-in-Some-clause-runs g c = λ centres asks. absurd (no_number _ _ _ c.in-
 pub returns-in-Some-clause-usage : goal.returns-in-Some-clause-usage
 returns-in-Some-clause-usage g c = (
   (λ is. absurd (never_usage g.W.Write.contents _ c.write_about.result c.args.out.now c.write_about.new.out c.write_about.ensures.about is)),
-  (λ others. absurd (others.2 c.in-Some.about (words_that_ask _ _ c.in-Some.about c.asked.ensures.help c.asked.ensures.version c.in-Some.is))),
+  (λ others. absurd (others.3 c.in-Some.about (words_that_ask _ _ c.in-Some.about c.asked.ensures.help c.asked.ensures.version c.in-Some.is))),
 )
 
-pub returns-in-Usage-clause-runs : goal.returns-in-Usage-clause-runs
-returns-in-Usage-clause-runs g c = rw (c.generate_out.ensures.unwritten c.in-Usage.is) at c.play_out.ensures.runs
+pub returns-in-Usage-evening_out-clause-runs : goal.returns-in-Usage-evening_out-clause-runs
+returns-in-Usage-evening_out-clause-runs g c =
+    let summed = c.evening_out.ensures.unwritten c.in-Usage-evening_out.is in
+    rw (summed, c.generate_out.ensures.unwritten c.in-Usage.is) at c.play_out.ensures.runs
