@@ -1,5 +1,6 @@
 mod calls;
 mod charges;
+mod cuts;
 mod evenings;
 mod generated;
 mod letters;

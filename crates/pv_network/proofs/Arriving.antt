@@ -1,5 +1,5 @@
 -- What a centre's node makes of a record of the edit list that arrives.
-use Rattle.std.proofs.Common.{◌≡◌, ℕ, suc, ◌+◌, ◌≤◌, Bool, true, false, eqb, leb, ltb, List, [], ◌∷◌, ◌++◌, length, map, take, Some, Ok, refl, sym, ap, ◌∙◌, append_assoc, append-nil, arith}
+use Rattle.std.proofs.Common.{◌≡◌, ℕ, suc, ◌+◌, ◌≤◌, Bool, true, false, eqb, leb, ltb, List, [], ◌∷◌, ◌++◌, length, map, take, Option, Some, None, Ok, refl, sym, ap, ◌∙◌, append_assoc, append-nil, arith}
 use Rattle.std.specs.Prelude.{slice_get}
 use Rattle.std.proofs.lemmas.Bool.Decides.{nat_tests}
 use Rattle.std.proofs.lemmas.List.{length-take-le, length-map, map-append, take_more}
@@ -15,6 +15,8 @@ use Rattle.pv_edits.specs.declared.record.Record.{Record}
 use Rattle.pv_edits.specs.declared.record.Record.TheVariants.{Put, Drop, Account, Lease, Taken}
 use Rattle.pv_irc.specs.Deciding.{down_fits}
 use Rattle.pv_irc.specs.History.{whole_in, whole_records, place_if_whole, whole_places, CentreState, state_count, with_down}
+use Rattle.pv_irc.specs.declared.record.CentreRecord.{CentreRecord}
+use Rattle.pv_irc.specs.declared.record.CentreRecord.TheVariants as records
 use Rattle.pv_irc.specs.declared.reply.IrcReply.TheVariants as replies
 use Rattle.pv_irc.specs.declared.request.IrcRequest.TheVariants.{Apply}
 use Rattle.pv_nodes.specs.Below.{records_below}
@@ -22,6 +24,8 @@ use Rattle.pv_udc.specs.EditList.{EditList}
 use Rattle.pv_udc.specs.Replies.{down_of, down_of_item}
 use Rattle.pv_udc.proofs.CallerLemmas.{has_room-judged}
 use Rattle.pv_network.specs.declared.arrival.Arrival.{Arrival}
+use Rattle.pv_network.specs.declared.arrival.Arrival.TheVariants as arrivals
+use Rattle.pv_network.specs.Cutting.{record_for}
 use Rattle.pv_network.specs.Centre.{Centre, with_next, record_count, arrival_of, centre_with_arrival, asked_of, reply_to_arrival, state_of_prefix, node_state}
 use Rattle.pv_network.specs.Run.{IsRun}
 use Rattle.pv_network.specs.Sound.{CarriesRecord}
@@ -88,6 +92,11 @@ fits_below state (Taken taken) room = of_item taken.item
     of_item (items.Reply reply) = refl
     of_item (items.Mail mail) = room
 
+-- the record of what arrived under a number, if it is taken
+abbrev pub taken_record : Arrival → ℕ → DownRecord → Option CentreRecord
+taken_record arrivals.Taken number rec = Some (records.Applied number rec)
+taken_record _ number rec = None
+
 -- ---- an arrival
 
 -- What came down has the room that the list has.
@@ -149,6 +158,33 @@ module _ (room_below : (limits : Limits) (records : List Record) (edit : Record)
           rw (below, above, has_place next, same, count, how) (ap (λ (s : CentreState). (Ok replies.Applied, s)) (grows next))
 
       by : (old early : Bool) → ltb number centre.applied ≡ old → ltb centre.applied number ≡ early → Arrives
+      by true early below above =
+          let other : eqb number centre.applied ≡ false = grind (arith, nat_tests, below) in
+          rw (below, other) refl
+      by false true below above =
+          let other : eqb number centre.applied ≡ false = grind (arith, nat_tests, above) in
+          rw (below, above, other) refl
+      by false false below above =
+          let next : number ≡ centre.applied = grind (arith, nat_tests, below, above) in
+          full (leb u.limits.records (record_count centre)) refl below above next
+
+  -- its node stores the record of what is taken
+  pub records_taken : record_for state (Some (Apply number rec)) ≡ taken_record arrival number rec
+  records_taken = by (ltb number centre.applied) (ltb centre.applied number) refl refl
+    where
+      full : (is_full : Bool) → leb u.limits.records (record_count centre) ≡ is_full → ltb number centre.applied ≡ false
+          → ltb centre.applied number ≡ false → number ≡ centre.applied → record_for state (Some (Apply number rec)) ≡ taken_record arrival number rec
+      full true how below above next =
+          let same : eqb number centre.applied ≡ true = grind (arith, nat_tests, next) in
+          let count : state_count state ≡ record_count centre = omega arith in
+          rw (below, above, has_place next, same, count, how) refl
+      full false how below above next =
+          let same : eqb number centre.applied ≡ true = grind (arith, nat_tests, next) in
+          let count : state_count state ≡ record_count centre = omega arith in
+          rw (below, above, has_place next, same, count, how) refl
+
+      by : (old early : Bool) → ltb number centre.applied ≡ old → ltb centre.applied number ≡ early
+          → record_for state (Some (Apply number rec)) ≡ taken_record arrival number rec
       by true early below above =
           let other : eqb number centre.applied ≡ false = grind (arith, nat_tests, below) in
           rw (below, other) refl

@@ -1,12 +1,16 @@
 -- What is done at a centre's ports is done with its calls, and what a wish that is stored makes of both.
-use Rattle.std.proofs.Common.{◌≡◌, ℕ, Bool, true, false, leb, List, length, set, Option, Some, None, Result, Ok, Err, refl, sym, ap, subst, ◌∙◌}
+use Rattle.std.proofs.Common.{◌≡◌, ℕ, Bool, true, false, cond, leb, List, length, set, Option, Some, None, Result, Ok, Err, refl, sym, ap, subst, ◌∙◌}
 use Rattle.pv_edits.specs.Sight.{View}
-use Rattle.std.specs.Prelude.{◌&&◌}
+use Rattle.std.specs.Prelude.{◌&&◌, not}
 use Rattle.pv_post.specs.Boxes.{has_letter}
-use Rattle.pv_irc.specs.History.{CentreState, state_count, letters_for}
+use Rattle.pv_irc.specs.History.{CentreState, state_count, letters_for, with_centre_record}
+use Rattle.pv_irc.specs.declared.record.CentreRecord.{CentreRecord}
+use Rattle.pv_irc.specs.declared.record.CentreRecord.TheVariants as records
 use Rattle.pv_irc.specs.declared.reply.IrcReply.{IrcReply}
 use Rattle.pv_irc.specs.declared.reply.IrcReply.TheVariants as replies
 use Rattle.pv_irc.specs.declared.request.IrcRequest.TheVariants as requests
+use Rattle.pv_nodes.specs.OnDisk.{OnDisk, CentreIsOnDisk, centre_with}
+use Rattle.pv_post.specs.declared.item.Item.TheVariants as items
 use Rattle.pv_session.specs.declared.entry.Entry.{Entry}
 use Rattle.pv_session.specs.declared.step.Paid.{Paid}
 use Rattle.pv_session.specs.declared.step.Step.{Step}
@@ -17,7 +21,8 @@ use Rattle.pv_session.specs.Turns.{storing_turn, full_turn}
 use Rattle.pv_network.specs.declared.outcome.Outcome.{Outcome}
 use Rattle.pv_network.specs.declared.outcome.Outcome.TheVariants as outcomes
 use Rattle.pv_network.specs.Call.{Call, call_of, is_waiting, wish_to_store, key_turn}
-use Rattle.pv_network.specs.Calls.{Calls, is_refused, call_among, call_in, IsDone, turn_at, press_at, show_at, away_answer, wish_or_nothing, wish_at, log_ons_with, items_with, removals_with, reply_for, store_at}
+use Rattle.pv_network.specs.Calls.{Calls, is_recorded, is_refused, call_among, call_in, IsDone, turn_at, press_at, show_at, away_answer, wish_or_nothing, wish_at, log_ons_with, items_with, removals_with, reply_for, store_at}
+use Rattle.pv_network.specs.Cutting.{wish_of, is_stored_for, record_for}
 use Rattle.pv_network.specs.Centre.{Held, calls_of, holdings_of, request_for, paid_by, asked_of, Asked, Comes}
 use Rattle.pv_network.proofs.SoundCalls.{none_stored}
 
@@ -91,6 +96,63 @@ unwished state (wishes.Remove account number) full = by (has_letter (letters_for
         → asked_of state (requests.Remove account number) ≡ (Err (state_count state), state)
     by true waits full = rw (waits, full) refl
     by false waits full = absurd cc
+
+-- ---- the record of a wish
+
+-- the record that a node stores for a wish
+abbrev pub record_of_wish : Wish → CentreRecord
+record_of_wish (wishes.LogOn account) = records.LogOn account
+record_of_wish (wishes.Charge line) = records.Kept (items.Charge line)
+record_of_wish (wishes.Post item) = records.Kept item
+record_of_wish (wishes.Remove account number) = records.Removed account number
+
+-- a full node stores none
+unless_full : (full : Bool) (rec : CentreRecord) → cond full None (Some rec) ≡ cond (not full) (Some rec) None
+unless_full true rec = refl
+unless_full false rec = refl
+
+-- it stores that one if a record is stored for the wish
+pub recorded_for : (state : CentreState) (wish : Wish)
+    → record_for state (Some (request_for wish)) ≡ cond (is_stored_for (holdings_of state) wish) (Some (record_of_wish wish)) None
+recorded_for state (wishes.LogOn account) = unless_full (leb state.limits.records (state_count state)) (records.LogOn account)
+recorded_for state (wishes.Charge line) = unless_full (leb state.limits.records (state_count state)) (records.Kept (items.Charge line))
+recorded_for state (wishes.Post item) = unless_full (leb state.limits.records (state_count state)) (records.Kept item)
+recorded_for state (wishes.Remove account number) = by (has_letter (letters_for state account) number) refl
+  where
+    by : (waits : Bool) → has_letter (letters_for state account) number ≡ waits
+        → record_for state (Some (requests.Remove account number))
+        ≡ cond (is_stored_for (holdings_of state) (wishes.Remove account number)) (Some (records.Removed account number)) None
+    by true is = rw is (unless_full (leb state.limits.records (state_count state)) (records.Removed account number))
+    by false is = rw is refl
+
+-- what is stored is not refused
+not_refused : (recorded full : Bool) → (recorded && not full) ≡ true → (recorded && full) ≡ false
+not_refused true true is = absurd cc
+not_refused true false is = refl
+not_refused false full is = refl
+
+-- with that record on its disk, and its reply noted at the port, a node has what the store of the call's wish makes of it
+pub stored_comes : (here : Held) (port : ℕ) (wish : Wish) (found : Option Call) → call_among here.ports port ≡ found
+    → wish_of found ≡ Some wish → is_stored_for (holdings_of here.node.state) wish ≡ true
+    → (node : OnDisk CentreState) → node.state ≡ with_centre_record here.node.state (record_of_wish wish) → CentreIsOnDisk node
+    → (ports : List (Option Call)) × Stores here (record { node = node; ports = ports }) port outcomes.Stored
+stored_comes here port wish None is owes stores node known on_disk = absurd cc
+stored_comes here port wish (Some call) is owes stores node known on_disk =
+    let holdings = holdings_of here.node.state in
+    let room = not_refused (is_recorded holdings wish) (leb holdings.limit holdings.count) stores in
+    let done = wished here wish room in
+    let rec : record_for here.node.state (Some (request_for wish)) ≡ Some (record_of_wish wish) =
+    recorded_for here.node.state wish ∙ ap (λ (test : Bool). cond test (Some (record_of_wish wish)) None) stores in (
+      set here.ports port (Some (record call { stored = Some (reply_for (calls_of here) wish) })),
+      rw (is, owes, room) (record {
+        state = known ∙ sym (ap (centre_with here.node.state) rec) ∙ done.known;
+        on_disk = λ was. on_disk;
+        ports = refl;
+        answer = refl;
+      }),
+    )
+
+-- ---- the reply
 
 -- a reply is one reply and no count, and a count is one count
 one_reply : (one other : IrcReply) (result : Result IrcReply ℕ) → result ≡ Ok one → result ≡ Ok other → one ≡ other

@@ -29,12 +29,12 @@ use Rattle.pv_network.proofs.Standing.{calls_are, held_there, centre_stands, cen
 -- ---- the letters that wait
 
 -- a law of centres: what waits is what the places of what came down brought
-abbrev LettersByPlaces : Type 0
+abbrev pub LettersByPlaces : Type 0
 LettersByPlaces = (state : CentreState) (downs : List DownRecord) → IsOfDowns state downs → (account : ℕ)
     → letters_for state account ≡ waiting_letters (letter_down state.centre account downs) state.removals account (length downs)
 
 -- another: each place brings what it brings in the list
-abbrev LettersBelow : Type 0
+abbrev pub LettersBelow : Type 0
 LettersBelow = (records : List Record) (centre account place : ℕ)
     → letter_down centre account (map down_of records) place ≡ letter_at records centre account place
 
@@ -62,7 +62,7 @@ module _ (s : State) (w : World) (stands : StandsFor s w) (c : ℕ) (here : Held
   calls_there = calls_are w.update c here (centre_at w c) stood
 
   -- it stores by what the world's stores by: as many records wait and the same letters
-  holdings_there : LettersByPlaces → LettersBelow → holdings_of here.node.state ≡ holdings_at w c
+  pub holdings_there : LettersByPlaces → LettersBelow → holdings_of here.node.state ≡ holdings_at w c
   holdings_there by_places below = ap holdings_of stood.state ∙ (λ i. record {
     limit = w.update.limits.records;
     count = record_count (centre_at w c);

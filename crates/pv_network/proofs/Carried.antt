@@ -1,5 +1,5 @@
 -- A carry after which both ends are idle has brought every record to the centre, and every item of it to the Update Centre.
-use Rattle.std.proofs.Common.{◌≡◌, ℕ, zero, suc, ◌≤◌, Bool, true, false, cond, ltb, length, Option, Some, None, refl, ◌∙◌, arith}
+use Rattle.std.proofs.Common.{◌≡◌, ℕ, zero, suc, ◌≤◌, Bool, true, false, cond, ltb, length, Option, Some, None, refl, arith}
 use Rattle.std.specs.Prelude.{is_some, slice_get}
 use Rattle.std.proofs.lemmas.Bool.{ltb-false}
 use Rattle.pv_edits.specs.Edits.{taken_of}
@@ -15,7 +15,7 @@ use Rattle.pv_network.specs.declared.round.Round.{Round}
 use Rattle.pv_network.specs.declared.round.Round.TheVariants as rounds
 use Rattle.pv_network.specs.declared.way.Way.{Way}
 use Rattle.pv_network.specs.declared.way.Way.TheVariants as ways
-use Rattle.pv_network.specs.Link.{is_packets_full, back_way, packets_on, end_on}
+use Rattle.pv_network.specs.Link.{is_packets_full, back_way, packets_on}
 use Rattle.pv_network.specs.Sound.{IsSound}
 use Rattle.pv_network.specs.Traffic.{front_of, received_count, packet_for, next_number_on, step_of_packing, step_of_number, step_of_sending, arrival_on, world_after, step_of_answer, with_next_at, with_item_of, step_of_packet, step_of_found, step_of_arriving, packet_in, round_by, round_of_send, step_of_round, with_one, way_on, after_round, rounds_on, carry_rounds}
 use Rattle.pv_network.specs.World.{World, centre_at, link_at}

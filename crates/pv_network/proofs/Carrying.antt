@@ -20,7 +20,7 @@ use Rattle.pv_network.specs.declared.round.Round.TheVariants as rounds
 use Rattle.pv_network.specs.Link.{Link, new_link, is_packets_full, packet_count, back_way, ack_packet, packets_on, end_on, with_packet, with_end, with_sent}
 use Rattle.pv_network.specs.Standing.{State, StandsFor, Performs}
 use Rattle.pv_network.specs.Traffic.{front_of, received_count, packet_for, next_number_on, step_of_packing, step_of_number, step_of_sending, step_of_acknowledging, arrival_on, world_after, step_of_answer, with_next_at, with_item_of, step_of_hearing, step_of_packet, step_of_found, step_of_arriving, packet_in, ack_in, with_ack_back, round_of_packet, round_of_send, step_of_round, GoesOn, no_load, with_one, way_on, after_round, rounds_on, carry_rounds, packet_room, step_of_carry}
-use Rattle.pv_network.specs.World.{World, centre_at, link_at, with_link}
+use Rattle.pv_network.specs.World.{World, link_at, with_link}
 use Rattle.pv_network.proofs.Soundness.{choice}
 
 -- one more than a sum

@@ -1,6 +1,6 @@
 -- What an event makes of a charged world is charged.
 use Rattle.std.proofs.Common.{◌≡◌, ◌≢◌, ℕ, zero, suc, ◌+◌, ◌⊎◌, Bool, true, false, cond, List, [], ◌∷◌, ◌++◌, get_or, set, Option, Some, None, refl, sym, ap, subst, ◌∙◌, inl, inr, arith}
-use Rattle.std.specs.Prelude.{Contains, IfSome, is_some, map}
+use Rattle.std.specs.Prelude.{Contains, IfSome, is_some, map, slice_get}
 use Rattle.std.specs.List.{filter, cons_option}
 use Rattle.std.proofs.lemmas.Bool.Decides.{eqb_tells}
 use Rattle.std.proofs.lemmas.List.{append-nil, get_or-set_other}
@@ -9,7 +9,13 @@ use Rattle.pv_outside.specs.declared.limits.Limits.{Limits}
 use Rattle.pv_edits.specs.declared.room.TheConstants.{OPERATOR}
 use Rattle.pv_edits.specs.declared.wish.EditWish.TheVariants.{Put}
 use Rattle.pv_udc.specs.Judgement.{next_number}
+use Rattle.pv_edits.specs.declared.record.Record.{Record}
+use Rattle.pv_editor.specs.declared.line.EditLine.{EditLine}
+use Rattle.pv_fields.specs.Reading.{◌>>=◌}
+use Rattle.pv_packet.specs.declared.packet.Packet.{Packet}
+use Rattle.pv_packet.specs.declared.packet.Packet.TheVariants.{Down, Up, DownHeard, UpHeard}
 use Rattle.pv_session.specs.declared.entry.Entry.{Entry}
+use Rattle.pv_session.specs.declared.step.Wish.{Wish}
 use Rattle.pv_network.specs.declared.event.Event.{Event}
 use Rattle.pv_network.specs.declared.event.Event.TheVariants as events
 use Rattle.pv_network.specs.declared.event.NodeName.{NodeName}
@@ -19,23 +25,29 @@ use Rattle.pv_network.specs.declared.outcome.Outcome.{Outcome}
 use Rattle.pv_network.specs.declared.outcome.Turn.{Turn}
 use Rattle.pv_network.specs.declared.outcome.BillLine.{BillLine}
 use Rattle.pv_network.specs.Call.{Call}
-use Rattle.pv_network.specs.Calling.{calls_at, call_at, view_at, with_calls, step_of_dial, step_of_hang, step_of_press, step_of_store, step_of_show}
+use Rattle.pv_network.specs.Calling.{calls_at, call_at, view_at, holdings_at, with_calls, step_of_dial, step_of_hang, step_of_press, step_of_store, step_of_show}
 use Rattle.pv_network.specs.Calls.{Calls, no_calls, call_in, show_at, IsPortEntry}
 use Rattle.pv_network.specs.Centre.{Centre, new_centre}
 use Rattle.pv_network.specs.Charging.{is_of_serial, shown_lines, line_at, lines_in_hand, call_of_line, line_in_hand, with_stops, IsStoppedCall, AreCharged, IsChargedWorld, ShowsFrameOf, SeatLaws}
 use Rattle.pv_network.specs.Crashing.{step_of_lost_calls, step_of_crash}
+use Rattle.pv_network.specs.Cutting.{node_of, update_request, stored_for, recorded_world, wish_of, is_stored_for, wished_world, taken_world, applied_world, stored_world, step_of_stop, step_of_cut}
+use Rattle.pv_network.specs.declared.arrival.Arrival.{Arrival}
+use Rattle.pv_network.specs.declared.arrival.Arrival.TheVariants as arrivals
+use Rattle.pv_network.specs.declared.storing.Storing.{Storing}
+use Rattle.pv_network.specs.declared.storing.Storing.TheVariants as commands
 use Rattle.pv_network.specs.declared.way.Way.TheVariants as ways
-use Rattle.pv_network.specs.Link.{with_new_end}
+use Rattle.pv_network.specs.Link.{packets_on, with_new_end}
 use Rattle.pv_network.specs.Keying.{KeyedByte, first_entry, is_owes, is_storing, step_of_payment, step_of_key, screens_in, is_over, keys_from, UnlessOver, TakesAll, keys_refusal, step_of_taken_keys}
 use Rattle.pv_network.specs.Screens.{AreChoices}
 use Rattle.pv_network.specs.Sound.{OwesItsReply, IsSound}
-use Rattle.pv_network.specs.Step.{Choice, IsChoice, seeded_frame, happens, after}
-use Rattle.pv_network.specs.Traffic.{no_load, packet_room}
+use Rattle.pv_network.specs.Editing.{seeded_frame}
+use Rattle.pv_network.specs.Step.{Choice, IsChoice, happens, after}
+use Rattle.pv_network.specs.Traffic.{arrival_on, with_next_at, no_load, packet_room}
 use Rattle.pv_network.specs.World.{World, StoppedCall, start, centre_at, link_at, with_link}
 use Rattle.pv_network.proofs.ChargeLines.{shown_here, shown_elsewhere, stopped_before, stopped_with, stopped_by}
 use Rattle.pv_network.proofs.Charging.{IsStoppedWith, frame_shown, recharged, dial_charged, press_charged, store_charged, show_charged, hang_charged, crash_charged}
-use Rattle.pv_network.proofs.Soundness.{choice, copy_at, sound_press, sound_store, sound_key, sound_renewed, sound_happens}
-use Rattle.pv_network.proofs.Untouched.{Books, books_at, request_same, line_same, sending_same, arriving_same, rounds_same}
+use Rattle.pv_network.proofs.Soundness.{choice, copy_at, sound_press, sound_store, sound_key, sound_renewed, sound_stored_world, sound_happens}
+use Rattle.pv_network.proofs.Untouched.{Books, books_at, request_same, line_same, sending_same, next_same, arriving_same, rounds_same}
 
 -- ---- events at no port
 
@@ -229,11 +241,64 @@ module _ (laws : SeatLaws) (c port : ℕ) where
 
 -- ---- all
 
+-- a record of the edit list is no charge
+recorded_charges : (w : World) (stored : Option Record) → IsChargedWorld w → IfSome (recorded_world w stored) IsChargedWorld
+recorded_charges w None charged = tt
+recorded_charges w (Some edit) charged = charged
+
 module _ (laws : SeatLaws) where
   crash_charges : (w : World) (node : NodeName) → IsSound w → IsChargedWorld w → IsChargedWorld (step_of_crash w node).0
   crash_charges w nodes.Udc sound charged = charged
   crash_charges w (nodes.Centre c) sound charged =
       charged_lost_calls (with_link w c (with_new_end ways.Up (link_at w c))) c charged (sound_renewed w c sound)
+
+  -- so it does with what a command stores
+  stored_charges : (w : World) (command : Storing) (said : Option EditLine) → IsSound w → IsChargedWorld w
+      → IfSome (stored_world w command said) IsChargedWorld
+  stored_charges w (commands.Seed name row) said sound charged =
+      recorded_charges w (stored_for w.update (update_request w (commands.Seed name row) said)) charged
+  stored_charges w (commands.Edit port line) said sound charged =
+      recorded_charges w (stored_for w.update (update_request w (commands.Edit port line) said)) charged
+  stored_charges w (commands.Back centre index) said sound charged =
+      recorded_charges w (stored_for w.update (update_request w (commands.Back centre index) said)) charged
+  stored_charges w (commands.Store centre port) said sound charged = by (wish_of (call_at w centre port))
+    where
+      if_stored : (test : Bool) → IfSome (cond test (Some (step_of_store w centre port).0) None) IsChargedWorld
+      if_stored true = charged_store w centre charged port sound
+      if_stored false = tt
+
+      by : (wish : Option Wish) → IfSome (wish >>= wished_world w centre port) IsChargedWorld
+      by None = tt
+      by (Some wish) = if_stored (is_stored_for (holdings_at w centre) wish)
+  stored_charges w (commands.Deliver centre index) said sound charged = by (slice_get (packets_on ways.Down (link_at w centre)) index)
+    where
+      taken : (how : Arrival) → IfSome (taken_world w centre how) IsChargedWorld
+      taken arrivals.Taken = charged_same w (with_next_at w centre) (λ c. next_same c w centre) charged
+      taken arrivals.Old = tt
+      taken arrivals.Early = tt
+      taken arrivals.Full = tt
+
+      of_packet : (packet : Packet) → IfSome (applied_world w centre packet) IsChargedWorld
+      of_packet (Down from number rec) = taken (arrival_on ways.Down w centre number)
+      of_packet (Up from number item) = tt
+      of_packet (DownHeard from count) = tt
+      of_packet (UpHeard from count) = tt
+
+      by : (found : Option Packet) → IfSome (found >>= applied_world w centre) IsChargedWorld
+      by None = tt
+      by (Some packet) = of_packet packet
+
+  -- and if a node is lost within it
+  cut_charges : (w : World) (command : Storing) (kept : Bool) (said : Option EditLine) → IsSound w → IsChargedWorld w
+      → IsChargedWorld (step_of_cut w command kept said).0
+  cut_charges w command kept said sound charged =
+      by (stored_world w command said) (sound_stored_world w command said sound) (stored_charges w command said sound charged) kept
+    where
+      by : (stored : Option World) → IfSome stored IsSound → IfSome stored IsChargedWorld → (kept : Bool)
+          → IsChargedWorld (step_of_stop w (node_of command) stored kept).0
+      by None is are kept = crash_charges w (node_of command) sound charged
+      by (Some v) is are true = crash_charges v (node_of command) is are
+      by (Some v) is are false = crash_charges w (node_of command) sound charged
 
   -- a charged world stays charged whatever event happens
   charged_happens : (w : World) (event : Event) (choice : Choice) → IsChoice w event choice → IsSound w → IsChargedWorld w
@@ -262,6 +327,8 @@ module _ (laws : SeatLaws) where
   charged_happens w (events.Carry centre) choice is sound charged =
       charged_same w (happens w (events.Carry centre) choice).0 (λ c. rounds_same c (packet_room w.links + 1) centre w ways.Down no_load) charged
   charged_happens w (events.Crash node) choice is sound charged = crash_charges w node sound charged
+  charged_happens w (events.Cut calls image command) choice is sound charged =
+      cut_charges w command choice.kept choice.said sound charged
   charged_happens w (events.Clock moment) choice is sound charged = charged
   charged_happens w (events.View centre name) choice is sound charged = charged
   charged_happens w (events.At centre) choice is sound charged = charged

@@ -1,7 +1,8 @@
 -- Worked examples of the network's rules, computed from the definitions.
-use Rattle.std.proofs.Common.{lit<, lit≤, ◌≡◌, ℕ, List, [], ◌∷◌, Some, None, codes, refl, length, true, false}
+use Rattle.std.proofs.Common.{lit<, lit≤, ◌≡◌, ℕ, [], ◌∷◌, Some, None, codes, refl, length, true, false, arith}
 use Rattle.std.specs.Prelude.{◌==◌, if◌then◌else◌, Option}
 use Rattle.std.specs.Fmt.{digits}
+use Rattle.std.specs.Int.{IsInRange}
 use Rattle.pv_outside.specs.declared.limits.Limits.{Limits}
 use Rattle.pv_node.specs.declared.decision.Decision.TheVariants.{Answer}
 use Rattle.pv_charge.specs.Line.{Charge}
@@ -17,6 +18,7 @@ use Rattle.pv_udc.specs.declared.reply.Code.{Code}
 use Rattle.pv_udc.specs.declared.reply.UdcReply.TheVariants.{Again, Refused}
 use Rattle.pv_editor.specs.Replies.{reply_of}
 use Rattle.pv_editor.specs.declared.replies.UdcReplyView.TheVariants as told
+use Rattle.pv_network.specs.Replies.{first_capital, last_capital}
 use Rattle.pv_network.specs.declared.outcome.Outcome.TheVariants as outcomes
 use Rattle.pv_session.specs.declared.message.Message.TheVariants.{KeyAccount}
 use Rattle.pv_session.specs.declared.step.Paid.TheVariants.{Serial, Stored}
@@ -25,6 +27,7 @@ use Rattle.pv_session.specs.declared.step.Wish.TheVariants as wishes
 use Rattle.pv_session.specs.Messages.{screen_of_blank}
 use Rattle.pv_session.specs.State.{new_call}
 use Rattle.pv_network.specs.Call.{Call, call_of, first_call, serial_of}
+use Rattle.pv_network.specs.Calling.{calls_at, call_at}
 use Rattle.pv_network.specs.Calls.{Holdings, no_calls, call_in, with_call, dial_at, with_wish, store_at}
 use Rattle.pv_network.specs.Keying.{is_over}
 use Rattle.pv_network.specs.declared.arrival.Arrival.TheVariants.{Taken, Old, Early, Full}
@@ -35,11 +38,13 @@ use Rattle.pv_network.specs.Bills.{bill_answer, bill_lines}
 use Rattle.pv_network.specs.Centre.{Centre, new_centre, arrival_of}
 use Rattle.pv_network.specs.Charging.{lines_with, shown_lines, line_at, lines_in_hand, with_stops}
 use Rattle.pv_network.specs.Crashing.{step_of_crash}
+use Rattle.pv_network.specs.Cutting.{MayBeKept, step_of_cut}
+use Rattle.pv_network.specs.declared.storing.Storing.TheVariants as commands
 use Rattle.pv_network.specs.Link.{new_link}
 use Rattle.pv_link.specs.Sending.{SendingEnd, number_to_give}
 use Rattle.pv_network.specs.Traffic.{carry_rounds, step_of_carry, step_of_send}
 use Rattle.pv_network.specs.Verdict.{verdict_by}
-use Rattle.pv_network.specs.World.{World, start, link_at}
+use Rattle.pv_network.specs.World.{World, start, centre_at, link_at}
 use Rattle.pv_network.specs.declared.verdict.TheConstants.{FULL}
 
 -- The next record is taken, one that was taken is old, one after the next is early. At the limit, of which the log-ons are a part,
@@ -210,3 +215,42 @@ pub stops_with_a_line : (w : World)
     ≡ record { centre = 2; serial = 7 } ∷ [])
     × ((with_stops (record w { stopped = [] }) 2 (Some owing ∷ None ∷ [])).stopped ≡ [])
 stops_with_a_line w = (refl, refl)
+
+-- ---- cuts
+
+-- the record cannot be there before the third call of the disk, and is there after the fourth
+pub calls_of_an_append : (MayBeKept 1 true → ⊥) × MayBeKept 2 true × MayBeKept 3 false × (MayBeKept 4 false → ⊥)
+calls_of_an_append = (λ may. omega (arith, may), lit≤ tt, lit< tt, λ may. omega (arith, may))
+
+-- a world in which a call owes its charge
+abbrev in_debt : World
+in_debt = record (start 1 small) { centres = record new_centre { calls = with_call no_calls 0 (Some owing) } ∷ [] }
+
+-- A stop within the store of a charge ends the call. If the line is kept, it is stored, and the call is one that was stopped with it;
+-- else there is neither.
+pub charge_is_cut : ((step_of_cut in_debt (commands.Store 0 0) true None).1 ≡ outcomes.Kept)
+    × ((calls_at (step_of_cut in_debt (commands.Store 0 0) true None).0 0).items ≡ items.Charge (line 7 0) ∷ [])
+    × ((step_of_cut in_debt (commands.Store 0 0) true None).0.stopped ≡ record { centre = 0; serial = 7 } ∷ [])
+    × (call_at (step_of_cut in_debt (commands.Store 0 0) true None).0 0 0 ≡ None)
+    × ((step_of_cut in_debt (commands.Store 0 0) false None).1 ≡ outcomes.Lost)
+    × ((calls_at (step_of_cut in_debt (commands.Store 0 0) false None).0 0).items ≡ [])
+    × ((step_of_cut in_debt (commands.Store 0 0) false None).0.stopped ≡ [])
+    × (call_at (step_of_cut in_debt (commands.Store 0 0) false None).0 0 0 ≡ None)
+charge_is_cut = (refl, refl, refl, refl, refl, refl, refl, refl)
+
+-- a world in which a record was sent that the centre has not applied
+abbrev under_way : Record → World
+under_way edit = (step_of_send (record (start 1 small) { update = with_record (empty_list small) edit }) 0).0
+
+-- a stop within a delivery leaves the record applied or not, and no acknowledgement either way
+pub delivery_is_cut : (edit : Record) → ((centre_at (step_of_cut (under_way edit) (commands.Deliver 0 0) true None).0 0).applied ≡ 1)
+    × ((link_at (step_of_cut (under_way edit) (commands.Deliver 0 0) true None).0 0).up ≡ [])
+    × ((centre_at (step_of_cut (under_way edit) (commands.Deliver 0 0) false None).0 0).applied ≡ 0)
+    × ((step_of_cut (under_way edit) (commands.Deliver 0 1) true None).1 ≡ outcomes.NotStored)
+delivery_is_cut edit = (refl, refl, refl, refl)
+
+-- ---- replies
+
+-- A and Z are capital letters, and the codes on either side are not
+capitals : IsInRange first_capital last_capital 65 × IsInRange first_capital last_capital 90 × (IsInRange first_capital last_capital 64 → ⊥) × (IsInRange first_capital last_capital 91 → ⊥)
+capitals = ((lit≤ tt, lit≤ tt), (lit≤ tt, lit≤ tt), (λ is. omega (arith, is.0)), (λ is. omega (arith, is.1)))

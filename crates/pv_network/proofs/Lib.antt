@@ -1,5 +1,7 @@
+pub mod Answered
 pub mod Arriving
 pub mod AtPorts
+pub mod CallerLemmas
 pub mod Calling
 pub mod Carried
 pub mod Carrying
@@ -8,6 +10,7 @@ pub mod Charged
 pub mod Charging
 pub mod Counts
 pub mod Crashing
+pub mod Cutting
 pub mod Facts
 pub mod Finding
 pub mod Items
@@ -16,6 +19,7 @@ pub mod KeyTurns
 pub mod Keying
 pub mod Lists
 pub mod Performing
+pub mod ReplyLines
 pub mod Rows
 pub mod Runs
 pub mod Screens

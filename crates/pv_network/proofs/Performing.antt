@@ -39,7 +39,7 @@ use Rattle.pv_network.specs.Centre.{Centre, CentreStands, Held, Applies, new_cen
 use Rattle.pv_network.specs.Link.{Link, link_in, is_packets_full, back_way, ack_packet, packets_on, with_packet, with_sent, with_heard}
 use Rattle.pv_network.specs.Sound.{IsGenuine, IsSound}
 use Rattle.pv_network.specs.Standing.{State, StandsFor, Performs}
-use Rattle.pv_network.specs.Step.{step_of_request, step_of_line, step_of_said, step_of_edit}
+use Rattle.pv_network.specs.Editing.{step_of_request, step_of_line, step_of_said, step_of_edit}
 use Rattle.pv_network.specs.Traffic.{front_of, received_count, receiver_count, packet_for, next_number_on, sent_answer, step_of_sending, step_of_acknowledging, arrival_on, world_after, step_of_answer, step_of_arrival, with_next_at, with_item_of, step_of_hearing}
 use Rattle.pv_network.specs.Verdict.{verdict_of, stored_on}
 use Rattle.pv_network.specs.World.{World, seat_at, link_at, centre_at, with_centre, with_edit, page_base}

@@ -1,9 +1,14 @@
 -- A call in the world goes on by the steps of its seat.
 use Rattle.std.proofs.Common.{◌≡◌, ℕ, ◌+◌, ◌<◌, Bool, true, false, cond, List, [], ◌∷◌, ◌++◌, length, Option, Some, None, refl, sym, ap, subst, ◌∙◌, append_assoc, arith}
-use Rattle.std.specs.Prelude.{is_some}
+use Rattle.std.specs.Prelude.{IfSome, is_some, slice_get}
 use Rattle.std.proofs.lemmas.Bool.Decides.{nat_tests}
 use Rattle.std.proofs.lemmas.List.{append-nil, set-get_or, get_or-set_same}
 use Rattle.pv_edits.specs.Sight.{View}
+use Rattle.pv_edits.specs.declared.record.Record.{Record}
+use Rattle.pv_editor.specs.declared.line.EditLine.{EditLine}
+use Rattle.pv_fields.specs.Reading.{◌>>=◌}
+use Rattle.pv_packet.specs.declared.packet.Packet.{Packet}
+use Rattle.pv_packet.specs.declared.packet.Packet.TheVariants.{Down, Up, DownHeard, UpHeard}
 use Rattle.pv_session.specs.Calls.{CallEvent, Keyed, Stored, Refused, Happens, AreSteps}
 use Rattle.pv_session.specs.declared.entry.Entry.{Entry}
 use Rattle.pv_session.specs.declared.step.Paid.{Paid}
@@ -20,26 +25,33 @@ use Rattle.pv_network.specs.declared.event.Event.{Event}
 use Rattle.pv_network.specs.declared.event.Event.TheVariants as events
 use Rattle.pv_network.specs.declared.event.NodeName.{NodeName}
 use Rattle.pv_network.specs.declared.event.NodeName.TheVariants as nodes
+use Rattle.pv_network.specs.declared.storing.Storing.{Storing}
+use Rattle.pv_network.specs.declared.storing.Storing.TheVariants as commands
+use Rattle.pv_network.specs.declared.arrival.Arrival.{Arrival}
+use Rattle.pv_network.specs.declared.arrival.Arrival.TheVariants as arrivals
 use Rattle.pv_network.specs.declared.outcome.Outcome.{Outcome}
 use Rattle.pv_network.specs.declared.outcome.Outcome.TheVariants as outcomes
 use Rattle.pv_network.specs.declared.outcome.Turn.{Turn}
 use Rattle.pv_network.specs.Call.{Call, first_call, is_waiting, wish_to_store, key_turn}
 use Rattle.pv_network.specs.Calling.{calls_at, call_at, view_at, holdings_at, with_calls, step_of_dial, step_of_hang, step_of_press, step_of_store, step_of_show}
-use Rattle.pv_network.specs.Calls.{Calls, Holdings, is_refused, call_in, with_call, step_answer, call_after, turn_at, away_answer, with_wish, dial_at, hang_at, press_at, storing_unless, storing_at, store_at, showing_at, show_at, IsPortEntry, IsEntryUnlessWaiting}
+use Rattle.pv_network.specs.Calls.{Holdings, is_refused, call_in, with_call, step_answer, call_after, turn_at, away_answer, with_wish, dial_at, hang_at, press_at, storing_unless, storing_at, store_at, showing_at, show_at, IsPortEntry, IsEntryUnlessWaiting}
 use Rattle.pv_network.specs.Centre.{Centre, new_centre}
 use Rattle.pv_network.specs.Crashing.{step_of_centre_crash, step_of_crash}
+use Rattle.pv_network.specs.Cutting.{node_of, update_request, stored_for, recorded_world, wish_of, is_stored_for, wished_world, taken_world, applied_world, stored_world, step_of_stop, step_of_cut}
 use Rattle.pv_network.specs.Keying.{KeyedByte, first_entry, is_owes, is_storing, step_of_payment, step_of_key, screens_in, is_over, keys_from, UnlessOver, TakesAll, turns_answer, keys_refusal, step_of_taken_keys, step_of_keys, TakesAllAt}
 use Rattle.pv_network.specs.Screens.{press_events, wish_events, store_events, reply_events, show_events, payment_events, key_events, keys_events, taken_events, is_same_port, seat_events, step_turns, steps_turns, turns_in, port_turns, call_events, call_turns, AreChoices}
 use Rattle.pv_edits.specs.declared.room.TheConstants.{OPERATOR}
 use Rattle.pv_edits.specs.declared.wish.EditWish.TheVariants.{Put}
 use Rattle.pv_udc.specs.Judgement.{next_number}
-use Rattle.pv_network.specs.Step.{Choice, IsChoice, happens, seeded_frame}
-use Rattle.pv_network.specs.Traffic.{no_load, packet_room}
+use Rattle.pv_network.specs.Editing.{seeded_frame}
+use Rattle.pv_network.specs.Step.{Choice, IsChoice, happens}
+use Rattle.pv_network.specs.Link.{packets_on}
+use Rattle.pv_network.specs.Traffic.{arrival_on, no_load, packet_room}
 use Rattle.pv_network.specs.declared.way.Way.TheVariants as ways
-use Rattle.pv_network.specs.World.{World, centre_at}
+use Rattle.pv_network.specs.World.{World, centre_at, link_at}
 use Rattle.pv_network.proofs.KeyTurns.{entry_turns}
 use Rattle.pv_network.proofs.SoundCalls.{to_store}
-use Rattle.pv_network.proofs.Untouched.{Books, books_at, request_same, line_same, sending_same, arriving_same, rounds_same, call_elsewhere, calls_elsewhere, calls_here, none_here, call_here}
+use Rattle.pv_network.proofs.Untouched.{Books, books_at, request_same, line_same, sending_same, arriving_same, rounds_same, call_elsewhere, calls_elsewhere, calls_here, none_left, next_same, call_here}
 
 -- ---- stretches of a call
 
@@ -187,6 +199,9 @@ owes_nothing_shown (outcomes.Heard number) is = absurd cc
 owes_nothing_shown (outcomes.Full count) is = absurd cc
 owes_nothing_shown (outcomes.Carried records items) is = absurd cc
 owes_nothing_shown (outcomes.Crashed count) is = absurd cc
+owes_nothing_shown outcomes.Kept is = absurd cc
+owes_nothing_shown outcomes.Lost is = absurd cc
+owes_nothing_shown outcomes.NotStored is = absurd cc
 owes_nothing_shown (outcomes.Clock moment) is = absurd cc
 owes_nothing_shown outcomes.NotHeld is = absurd cc
 owes_nothing_shown (outcomes.Applied count) is = absurd cc
@@ -218,6 +233,9 @@ stored_nothing_shown (outcomes.Heard number) is = absurd cc
 stored_nothing_shown (outcomes.Full count) is = absurd cc
 stored_nothing_shown (outcomes.Carried records items) is = absurd cc
 stored_nothing_shown (outcomes.Crashed count) is = absurd cc
+stored_nothing_shown outcomes.Kept is = absurd cc
+stored_nothing_shown outcomes.Lost is = absurd cc
+stored_nothing_shown outcomes.NotStored is = absurd cc
 stored_nothing_shown (outcomes.Clock moment) is = absurd cc
 stored_nothing_shown outcomes.NotHeld is = absurd cc
 stored_nothing_shown (outcomes.Applied count) is = absurd cc
@@ -566,18 +584,78 @@ no_turn w c p centre port here at elsewhere = by (is_same_port centre port c p) 
         (subst (λ (m : ℕ). Stretch (call_at w c p) [] [] (call_at (here c m).0 c p)) (sym place.1) (at place.0 place.1))
     by false is = unchanged (call_at w c p) _ (elsewhere (other_port centre port c p is))
 
--- a crash of a node shows nothing, and ends the calls of a centre that crashes
-crash_stretch : (w : World) (c p : ℕ) (call : Call) (node : NodeName) → call_at w c p ≡ Some call
-    → Stretch (call_at w c p) [] [] (call_at (step_of_crash w node).0 c p)
-crash_stretch w c p call nodes.Udc is = stays (call_at w c p)
-crash_stretch w c p call (nodes.Centre centre) is =
-    no_turn w c p centre p (λ n m. step_of_centre_crash w n) (λ one two. ended) (λ other. calls_elsewhere w c p centre (λ same. other same refl))
+-- what is stored at a node leaves the calls of the others
+abbrev LeavesOthers : NodeName → World → World → Type 0
+LeavesOthers nodes.Udc w v = (c p : ℕ) → call_at v c p ≡ call_at w c p
+LeavesOthers (nodes.Centre centre) w v = (c p : ℕ) → (centre ≡ c → ⊥) → call_at v c p ≡ call_at w c p
+
+-- a crash of a node, with or without what was stored, shows nothing, and ends the calls of a centre that crashes
+crash_stretch : (w v : World) (c p : ℕ) (call : Call) (node : NodeName) → call_at w c p ≡ Some call → LeavesOthers node w v
+    → Stretch (call_at w c p) [] [] (call_at (step_of_crash v node).0 c p)
+crash_stretch w v c p call nodes.Udc is leaves = unchanged (call_at w c p) _ (leaves c p)
+crash_stretch w v c p call (nodes.Centre centre) is leaves =
+    no_turn w c p centre p (λ n m. step_of_centre_crash v n) (λ one two. ended)
+    (λ other. calls_elsewhere v c p centre (λ same. other same refl) ∙ leaves c p (λ same. other same refl))
   where
-    ended : Stretch (call_at w c p) [] [] (call_at (step_of_centre_crash w c).0 c p)
+    ended : Stretch (call_at w c p) [] [] (call_at (step_of_centre_crash v c).0 c p)
     ended =
-        subst (λ (there : Option Call). Stretch there [] [] (call_at (step_of_centre_crash w c).0 c p)) (sym is)
-        (subst (λ (next : Option Call). Goes call.seat [] [] next) (sym (none_here w c p call is))
+        subst (λ (there : Option Call). Stretch there [] [] (call_at (step_of_centre_crash v c).0 c p)) (sym is)
+        (subst (λ (next : Option Call). Goes call.seat [] [] next) (sym (none_left v c p))
         (record { steps = []; after = call.seat; are = refl; shown = refl; left = tt }))
+
+-- nothing is stored
+leaves_all : (w : World) (node : NodeName) → LeavesOthers node w w
+leaves_all w nodes.Udc = λ c p. refl
+leaves_all w (nodes.Centre centre) = λ c p other. refl
+
+-- a record of the edit list is no call's
+recorded_leaves : (w : World) (stored : Option Record) → IfSome (recorded_world w stored) (LeavesOthers nodes.Udc w)
+recorded_leaves w None = tt
+recorded_leaves w (Some edit) = λ c p. refl
+
+-- so it is of what a command stores
+stored_leaves : (w : World) (command : Storing) (said : Option EditLine)
+    → IfSome (stored_world w command said) (LeavesOthers (node_of command) w)
+stored_leaves w (commands.Seed name row) said = recorded_leaves w (stored_for w.update (update_request w (commands.Seed name row) said))
+stored_leaves w (commands.Edit port line) said = recorded_leaves w (stored_for w.update (update_request w (commands.Edit port line) said))
+stored_leaves w (commands.Back centre index) said = recorded_leaves w (stored_for w.update (update_request w (commands.Back centre index) said))
+stored_leaves w (commands.Store centre port) said = by (wish_of (call_at w centre port))
+  where
+    if_stored : (test : Bool) → IfSome (cond test (Some (step_of_store w centre port).0) None) (LeavesOthers (nodes.Centre centre) w)
+    if_stored true = λ c p other. store_other w c p centre port (λ same there. other same)
+    if_stored false = tt
+
+    by : (wish : Option Wish) → IfSome (wish >>= wished_world w centre port) (LeavesOthers (nodes.Centre centre) w)
+    by None = tt
+    by (Some wish) = if_stored (is_stored_for (holdings_at w centre) wish)
+stored_leaves w (commands.Deliver centre index) said = by (slice_get (packets_on ways.Down (link_at w centre)) index)
+  where
+    taken : (how : Arrival) → IfSome (taken_world w centre how) (LeavesOthers (nodes.Centre centre) w)
+    taken arrivals.Taken = λ c p other. ap (λ (books : Books). call_in books.calls p) (next_same c w centre)
+    taken arrivals.Old = tt
+    taken arrivals.Early = tt
+    taken arrivals.Full = tt
+
+    of_packet : (packet : Packet) → IfSome (applied_world w centre packet) (LeavesOthers (nodes.Centre centre) w)
+    of_packet (Down from number rec) = taken (arrival_on ways.Down w centre number)
+    of_packet (Up from number item) = tt
+    of_packet (DownHeard from count) = tt
+    of_packet (UpHeard from count) = tt
+
+    by : (found : Option Packet) → IfSome (found >>= applied_world w centre) (LeavesOthers (nodes.Centre centre) w)
+    by None = tt
+    by (Some packet) = of_packet packet
+
+-- a node that is lost within a command shows nothing
+cut_stretch : (w : World) (c p : ℕ) (call : Call) (command : Storing) (kept : Bool) (said : Option EditLine) → call_at w c p ≡ Some call
+    → Stretch (call_at w c p) [] [] (call_at (step_of_cut w command kept said).0 c p)
+cut_stretch w c p call command kept said is = by (stored_world w command said) (stored_leaves w command said) kept
+  where
+    by : (stored : Option World) → IfSome stored (LeavesOthers (node_of command) w) → (kept : Bool)
+        → Stretch (call_at w c p) [] [] (call_at (step_of_stop w (node_of command) stored kept).0 c p)
+    by None leaves kept = crash_stretch w w c p call (node_of command) is (leaves_all w (node_of command))
+    by (Some v) leaves true = crash_stretch w v c p call (node_of command) is leaves
+    by (Some v) leaves false = crash_stretch w w c p call (node_of command) is (leaves_all w (node_of command))
 
 -- one event, at a port that has a call
 event_stretch : (w : World) (c p : ℕ) (call : Call) (event : Event) (choice : Choice) → call_at w c p ≡ Some call → IsChoice w event choice
@@ -621,7 +699,8 @@ event_stretch w c p call (events.Back centre index) choice is chosen =
     no_step w c p (happens w (events.Back centre index) choice).0 (arriving_same c ways.Up w centre index)
 event_stretch w c p call (events.Carry centre) choice is chosen =
     no_step w c p (happens w (events.Carry centre) choice).0 (rounds_same c (packet_room w.links + 1) centre w ways.Down no_load)
-event_stretch w c p call (events.Crash node) choice is chosen = crash_stretch w c p call node is
+event_stretch w c p call (events.Crash node) choice is chosen = crash_stretch w w c p call node is (leaves_all w node)
+event_stretch w c p call (events.Cut calls image command) choice is chosen = cut_stretch w c p call command choice.kept choice.said is
 event_stretch w c p call (events.Clock moment) choice is chosen = stays (call_at w c p)
 event_stretch w c p call (events.View centre name) choice is chosen = stays (call_at w c p)
 event_stretch w c p call (events.At centre) choice is chosen = stays (call_at w c p)

@@ -1,6 +1,6 @@
 -- What an event makes of a sound world is sound.
 use Rattle.std.proofs.Common.{◌≡◌, ℕ, zero, suc, ◌+◌, ◌<◌, ◌≤◌, Bool, true, false, cond, ◌&&◌, leb, ltb, List, [], ◌∷◌, ◌++◌, append-nil, length, get_or, Option, Some, None, take, refl, sym, ap, subst, ◌∙◌, arith, inl, inr}
-use Rattle.std.specs.Prelude.{All, option_map, slice_get, replicate}
+use Rattle.std.specs.Prelude.{All, IfSome, option_map, slice_get, replicate}
 use Rattle.std.specs.List.{count_by}
 use Rattle.std.specs.Option.{option_map_or}
 use Rattle.std.proofs.lemmas.Bool.{leb-false}
@@ -26,6 +26,7 @@ use Rattle.pv_udc.specs.declared.reply.UdcReply.{UdcReply}
 use Rattle.pv_udc.specs.declared.reply.UdcReply.TheVariants as replies
 use Rattle.pv_post.specs.declared.item.Item.{Item}
 use Rattle.pv_udc.specs.Requests.{record_of}
+use Rattle.pv_udc.specs.declared.request.UdcRequest.{UdcRequest}
 use Rattle.pv_udc.specs.declared.request.UdcRequest.TheVariants.{Edit, TakeUp}
 use Rattle.pv_udc.proofs.CallerLemmas.{has_room-judged, next-judged, is_his, IsAnswered, is_answered, last_edit-there, last_edit-his, last_edit-others}
 use Rattle.pv_editor.specs.Say.{new_seat}
@@ -43,6 +44,8 @@ use Rattle.pv_network.specs.declared.event.Event.{Event}
 use Rattle.pv_network.specs.declared.event.Event.TheVariants as events
 use Rattle.pv_network.specs.declared.event.NodeName.{NodeName}
 use Rattle.pv_network.specs.declared.event.NodeName.TheVariants as nodes
+use Rattle.pv_network.specs.declared.storing.Storing.{Storing}
+use Rattle.pv_network.specs.declared.storing.Storing.TheVariants as commands
 use Rattle.pv_network.specs.declared.outcome.BillLine.{BillLine}
 use Rattle.pv_network.specs.declared.outcome.Outcome.{Outcome}
 use Rattle.pv_network.specs.declared.outcome.Turn.{Turn}
@@ -55,22 +58,25 @@ use Rattle.pv_network.specs.declared.verdict.TheConstants.{FULL}
 use Rattle.pv_network.specs.declared.event.TheConstants.{PORTS}
 use Rattle.pv_network.specs.Call.{Call, serial_of}
 use Rattle.pv_session.specs.declared.entry.Entry.{Entry}
-use Rattle.pv_network.specs.Calling.{calls_at, call_at, view_at, with_calls, step_of_dial, step_of_hang, step_of_press, step_of_store, step_of_show}
+use Rattle.pv_session.specs.declared.step.Wish.{Wish}
+use Rattle.pv_network.specs.Calling.{calls_at, call_at, view_at, holdings_at, with_calls, step_of_dial, step_of_hang, step_of_press, step_of_store, step_of_show}
 use Rattle.pv_network.specs.Keying.{KeyedByte, first_entry, is_owes, is_storing, step_of_payment, step_of_key, screens_in, is_over, keys_from, keys_refusal, step_of_taken_keys}
 use Rattle.pv_network.specs.Calls.{Calls, no_calls}
 use Rattle.pv_network.specs.Centre.{Centre, new_centre, arrival_of}
 use Rattle.pv_network.specs.Crashing.{without_calls, step_of_update_crash, step_of_lost_calls, step_of_centre_crash, step_of_crash}
+use Rattle.pv_network.specs.Cutting.{node_of, request_in, item_request, update_request, stored_for, recorded_world, wish_of, is_stored_for, wished_world, taken_world, applied_world, stored_world, step_of_stop, step_of_cut}
 use Rattle.pv_network.specs.Link.{Link, new_link, is_packets_full, back_way, ack_packet, packets_on, end_on, with_packet, with_end, with_sent, with_new_end}
 use Rattle.pv_network.specs.OneList.{IsNextOfEditor, HasNumbersInOrder, StandsAt, HasOnePlaceEach, MatchesReceipt, taken_items}
 use Rattle.pv_network.specs.Run.{EachFollows, MayFollow}
 use Rattle.pv_network.specs.Sound.{IsGenuine, GoesAlong, serial_in, IsSoundLink, IsSoundCalls, IsSound}
-use Rattle.pv_network.specs.Step.{Choice, with_verdict, step_of_request, seeded_frame, step_of_line, step_of_said, step_of_edit, happens, after}
+use Rattle.pv_network.specs.Editing.{with_verdict, step_of_request, seeded_frame, step_of_line, step_of_said, step_of_edit}
+use Rattle.pv_network.specs.Step.{Choice, happens, after}
 use Rattle.pv_network.specs.Traffic.{front_of, received_count, receiver_count, record_packet, packet_for, next_number_on, step_of_packing, step_of_number, step_of_sending, step_of_acknowledging, arrival_on, world_after, step_of_answer, with_next_at, with_item_of, step_of_hearing, step_of_packet, step_of_found, step_of_arriving, with_ack_back, round_of_send, step_of_round, no_load, with_one, way_on, after_round, rounds_on, carry_rounds, packet_room}
-use Rattle.pv_network.specs.Verdict.{editor_reply, verdict_by}
+use Rattle.pv_network.specs.Verdict.{Verdict, editor_reply, verdict_by, verdict_of}
 use Rattle.pv_network.specs.World.{World, Receipt, StoppedCall, start, with_seat, centre_at, link_at, with_centre, with_link, with_edit, with_receipt}
 use Rattle.pv_network.proofs.Counts.{count_by-grows, frame_count-none, frames_within}
 use Rattle.pv_network.proofs.Items.{KeepsItems, same_items, dial_items, hang_items, press_items, store_items, show_items}
-use Rattle.pv_network.proofs.TakingUp.{one_if, taken_more, TakesNext, taken_push, edit_takes_none, item_takes_next, taken_of_more, judges_next}
+use Rattle.pv_network.proofs.TakingUp.{one_if, taken_more, TakesNext, taken_push, edit_takes_none, item_takes_next, taken_of_more, judges_next, judged_next}
 use Rattle.pv_network.proofs.SoundCalls.{dial_sound, hang_sound, press_sound, store_sound, show_sound}
 use Rattle.pv_network.proofs.Lists.{set_at, all_get, get_prefix, get_push, get_last}
 
@@ -265,6 +271,28 @@ sound_stored w edit sound follows next =
       calls = sound.calls;
     }
 
+-- so it does with the record that the Update Centre stores for a request, if that is such a record
+sound_recorded : (w : World) (request : UdcRequest) → IsSound w
+    → ((edit : Record) (reply : UdcReply) → judge w.update.limits w.update.records request ≡ Store edit reply
+    → (c : ℕ) → TakesNext w.update.records c (calls_at w c).items edit)
+    → IsSound (with_edit w (verdict_of w.update request).stored)
+sound_recorded w request sound next = by (judge w.update.limits w.update.records request) refl
+  where
+    full : (edit : Record) (reply : UdcReply) → judge w.update.limits w.update.records request ≡ Store edit reply
+        → (is_full : Bool) → leb w.update.limits.records (length w.update.records) ≡ is_full
+        → IsSound (with_edit w (cond {A = Verdict} is_full (record { stored = None; reply = Refused FULL (length w.update.records) })
+        (record { stored = Some edit; reply = editor_reply reply })).stored)
+    full edit reply is true how = sound
+    full edit reply is false how =
+        sound_stored w edit sound
+        (record { judged = (request, reply, is); record_room = leb-false w.update.limits.records (length w.update.records) how })
+        (next edit reply is)
+
+    by : (decision : Decision Record UdcReply) → judge w.update.limits w.update.records request ≡ decision
+        → IsSound (with_edit w (verdict_by w.update decision).stored)
+    by (Answer reply) is = sound
+    by (Store edit reply) is = full edit reply is (leb w.update.limits.records (length w.update.records)) refl
+
 -- a sound world stays sound with the receipt of an edit that stands at its place
 sound_receipt : (w : World) (editor q place : ℕ) → IsSound w → StandsAt w.update.records editor q place
     → IsSound (with_receipt w editor q (Stored place))
@@ -297,6 +325,12 @@ module _ (w : World) (editor q : ℕ) (wish : EditWish) (sound : IsSound w) wher
   sound_answered (replies.Refused code) answered = sound
   sound_answered (replies.Old count) answered = absurd answered
   sound_answered (replies.Early count) answered = absurd answered
+
+  -- a sound world stays sound with the record of an edit, also if nobody is told
+  sound_edited : IsSound (with_edit w (verdict_of w.update (Edit editor q wish)).stored)
+  sound_edited = sound_recorded w (Edit editor q wish) sound
+      (λ edit reply is c. edit_takes_none w.update.records c (calls_at w c).items editor edit
+      (is_his w.update.limits w.update.records editor q wish edit reply is).his)
 
   -- a sound world stays sound whatever an editor asks for
   pub sound_request : IsSound (step_of_request w editor q wish).0
@@ -512,6 +546,14 @@ module _ (w : World) (c : ℕ) (sound : IsSound w) where
         record_room = room;
       })
       (λ k. item_takes_next edits c k number item (λ n. (calls_at w n).items) is next)
+
+  -- so is the record of an item, if it is stored
+  sound_item : (from number : ℕ) (item : Item) → IsGenuine w.update.records c (centre_at w c) (Up from number item)
+      → IsSound (with_edit w (verdict_of w.update (TakeUp c number item)).stored)
+  sound_item from number item is = sound_recorded w (TakeUp c number item) sound (λ edit reply stored k.
+      let next = judged_next w.update.limits w.update.records c number item edit reply stored in
+      subst (λ (e : Record). TakesNext w.update.records k (calls_at w k).items e) next.1
+      (item_takes_next w.update.records c k number item (λ n. (calls_at w n).items) is.1 next.0))
 
   -- what arrives is taken if it comes next
   pub sound_after_record : (from number : ℕ) (rec : DownRecord) → IsGenuine w.update.records c (centre_at w c) (Down from number rec)
@@ -738,6 +780,94 @@ sound_crash : (w : World) (node : NodeName) → IsSound w → IsSound (step_of_c
 sound_crash w nodes.Udc sound = sound_update_crash w sound
 sound_crash w (nodes.Centre c) sound = sound_centre_crash w c sound
 
+-- ---- cut
+
+-- what a request stores, if there is one
+sound_asked : (w : World) (request : Option UdcRequest) → IsSound w
+    → IfSome request (λ asked. IsSound (with_edit w (verdict_of w.update asked).stored)) → IsSound (with_edit w (stored_for w.update request))
+sound_asked w None sound is = sound
+sound_asked w (Some asked) sound is = is
+
+-- a sound world stays sound with the record that the Update Centre stores for a command
+pub sound_update : (w : World) (command : Storing) (said : Option EditLine) → IsSound w
+    → IsSound (with_edit w (stored_for w.update (update_request w command said)))
+sound_update w (commands.Seed name row) said sound =
+    sound_edited w OPERATOR (next_number w.update.records OPERATOR) (Put name (seeded_frame row)) sound
+sound_update w (commands.Edit port line) said sound =
+    sound_asked w (request_in (step_of_line w port said).1) sound (by (step_of_line w port said).1)
+  where
+    by : (step : EditStep) → IfSome (request_in step) (λ asked. IsSound (with_edit w (verdict_of w.update asked).stored))
+    by (steps.Say text) = tt
+    by (steps.Ask editor q wish) = sound_edited w editor q wish sound
+    by (steps.Responses editor from) = tt
+    by steps.Close = tt
+sound_update w (commands.Store centre port) said sound = sound
+sound_update w (commands.Deliver centre index) said sound = sound
+sound_update w (commands.Back centre index) said sound =
+    sound_asked w (slice_get (packets_on ways.Up (link_at w centre)) index >>= item_request centre) sound
+    (by (slice_get (packets_on ways.Up (link_at w centre)) index) refl)
+  where
+    of_packet : (packet : Packet) → IsGenuine w.update.records centre (centre_at w centre) packet
+        → IfSome (item_request centre packet) (λ asked. IsSound (with_edit w (verdict_of w.update asked).stored))
+    of_packet (Down from number rec) is = tt
+    of_packet (Up from number item) is = sound_item w centre sound from number item is
+    of_packet (DownHeard from count) is = tt
+    of_packet (UpHeard from count) is = tt
+
+    by : (found : Option Packet) → slice_get (packets_on ways.Up (link_at w centre)) index ≡ found
+        → IfSome (found >>= item_request centre) (λ asked. IsSound (with_edit w (verdict_of w.update asked).stored))
+    by None is = tt
+    by (Some packet) is = of_packet packet (there_genuine w centre sound ways.Up index packet is)
+
+-- the world with a record is sound, if there is one
+sound_if_recorded : (w : World) (stored : Option Record) → IsSound (with_edit w stored) → IfSome (recorded_world w stored) IsSound
+sound_if_recorded w None sound = tt
+sound_if_recorded w (Some edit) sound = sound
+
+-- so is the world with what a command stores
+pub sound_stored_world : (w : World) (command : Storing) (said : Option EditLine) → IsSound w → IfSome (stored_world w command said) IsSound
+sound_stored_world w (commands.Seed name row) said sound = sound_if_recorded w _ (sound_update w (commands.Seed name row) said sound)
+sound_stored_world w (commands.Edit port line) said sound = sound_if_recorded w _ (sound_update w (commands.Edit port line) said sound)
+sound_stored_world w (commands.Back centre index) said sound = sound_if_recorded w _ (sound_update w (commands.Back centre index) said sound)
+sound_stored_world w (commands.Store centre port) said sound = by (wish_of (call_at w centre port))
+  where
+    if_stored : (test : Bool) → IfSome (cond test (Some (step_of_store w centre port).0) None) IsSound
+    if_stored true = sound_store w centre port sound
+    if_stored false = tt
+
+    by : (wish : Option Wish) → IfSome (wish >>= wished_world w centre port) IsSound
+    by None = tt
+    by (Some wish) = if_stored (is_stored_for (holdings_at w centre) wish)
+sound_stored_world w (commands.Deliver centre index) said sound = by (slice_get (packets_on ways.Down (link_at w centre)) index) refl
+  where
+    taken : (from number : ℕ) (rec : DownRecord) → IsGenuine w.update.records centre (centre_at w centre) (Down from number rec)
+        → (how : Arrival) → arrival_on ways.Down w centre number ≡ how → IfSome (taken_world w centre how) IsSound
+    taken from number rec is arrivals.Taken how = sound_after_record w centre sound from number rec is arrivals.Taken how
+    taken from number rec is arrivals.Old how = tt
+    taken from number rec is arrivals.Early how = tt
+    taken from number rec is arrivals.Full how = tt
+
+    of_packet : (packet : Packet) → IsGenuine w.update.records centre (centre_at w centre) packet
+        → IfSome (applied_world w centre packet) IsSound
+    of_packet (Down from number rec) is = taken from number rec is (arrival_on ways.Down w centre number) refl
+    of_packet (Up from number item) is = tt
+    of_packet (DownHeard from count) is = tt
+    of_packet (UpHeard from count) is = tt
+
+    by : (found : Option Packet) → slice_get (packets_on ways.Down (link_at w centre)) index ≡ found
+        → IfSome (found >>= applied_world w centre) IsSound
+    by None is = tt
+    by (Some packet) is = of_packet packet (there_genuine w centre sound ways.Down index packet is)
+
+-- a sound world stays sound if a node is lost within a command, whether it has the record or not
+sound_cut : (w : World) (command : Storing) (kept : Bool) (said : Option EditLine) → IsSound w → IsSound (step_of_cut w command kept said).0
+sound_cut w command kept said sound = by (stored_world w command said) (sound_stored_world w command said sound) kept
+  where
+    by : (stored : Option World) → IfSome stored IsSound → (kept : Bool) → IsSound (step_of_stop w (node_of command) stored kept).0
+    by None is kept = sound_crash w (node_of command) sound
+    by (Some v) is true = sound_crash v (node_of command) is
+    by (Some v) is false = sound_crash w (node_of command) sound
+
 -- ---- clock
 
 -- a sound world stays sound at another moment
@@ -771,6 +901,7 @@ sound_happens w (events.Deliver centre index) choice sound = sound_arriving w ce
 sound_happens w (events.Back centre index) choice sound = sound_arriving w centre sound ways.Up index
 sound_happens w (events.Carry centre) choice sound = sound_rounds (packet_room w.links + 1) centre w ways.Down no_load sound
 sound_happens w (events.Crash node) choice sound = sound_crash w node sound
+sound_happens w (events.Cut calls image command) choice sound = sound_cut w command choice.kept choice.said sound
 sound_happens w (events.Clock moment) choice sound = sound_clock w moment sound
 sound_happens w (events.View centre name) choice sound = sound
 sound_happens w (events.At centre) choice sound = sound

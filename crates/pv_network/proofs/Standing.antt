@@ -4,7 +4,7 @@ use Rattle.std.proofs.lemmas.List.{length-set, take-append-le, length-append}
 use Rattle.std.proofs.lemmas.Option.{slice_get_read}
 use Rattle.pv_outside.specs.declared.limits.Limits.{Limits}
 use Rattle.pv_edits.specs.declared.record.Record.{Record}
-use Rattle.pv_irc.specs.History.{CentreState, state_count}
+use Rattle.pv_irc.specs.History.{state_count}
 use Rattle.pv_udc.specs.EditList.{EditList, empty_list, with_record}
 use Rattle.pv_editor.specs.declared.replies.UdcReplyView.{UdcReplyView}
 use Rattle.pv_editor.specs.declared.replies.UdcReplyView.TheVariants.{Stored, Refused}

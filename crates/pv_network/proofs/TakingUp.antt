@@ -1,5 +1,5 @@
 -- The items that were taken up from a centre: they stay the first of its items as the list grows, and as the centre keeps more.
-use Rattle.std.proofs.Common.{◌≡◌, ℕ, ◌+◌, ◌≤◌, Bool, true, false, cond, eqb, ltb, List, [], ◌∷◌, ◌++◌, length, get_or, take, Some, None, refl, sym, ap, subst, ◌∙◌, arith, append-nil}
+use Rattle.std.proofs.Common.{◌≡◌, ℕ, ◌+◌, ◌≤◌, Bool, true, false, cond, eqb, ltb, List, [], ◌∷◌, ◌++◌, length, take, Some, None, refl, sym, ap, subst, ◌∙◌, arith, append-nil}
 use Rattle.std.specs.Prelude.{IfSome, slice_get}
 use Rattle.std.proofs.lemmas.Bool.{eqb-true}
 use Rattle.std.proofs.lemmas.Bool.Decides.{nat_tests}
@@ -12,10 +12,11 @@ use Rattle.pv_post.specs.declared.item.Item.{Item}
 use Rattle.pv_edits.specs.Edits.{is_edit_of, is_of_centre, taken_of}
 use Rattle.pv_edits.specs.declared.record.Record.{Record}
 use Rattle.pv_edits.specs.declared.record.Record.TheVariants.{Put, Drop, Account, Lease, Taken}
-use Rattle.pv_node.specs.declared.decision.Decision.TheVariants.{Store}
+use Rattle.pv_node.specs.declared.decision.Decision.TheVariants.{Answer, Store}
 use Rattle.pv_udc.specs.Judgement.{judge}
 use Rattle.pv_udc.specs.Requests.{record_of}
-use Rattle.pv_udc.specs.declared.reply.UdcReply.TheVariants.{Stored}
+use Rattle.pv_udc.specs.declared.reply.UdcReply.{UdcReply}
+use Rattle.pv_udc.specs.declared.reply.UdcReply.TheVariants.{Stored, Old, Early}
 use Rattle.pv_udc.specs.declared.request.UdcRequest.TheVariants.{TakeUp}
 use Rattle.pv_network.specs.OneList.{item_of, taken_items}
 
@@ -130,3 +131,18 @@ judges_next limits edits c number item next =
     let old : ltb number (taken_of edits c) ≡ false = grind (arith, nat_tests, next) in
     let early : ltb (taken_of edits c) number ≡ false = grind (arith, nat_tests, next) in
     rw (old, early) refl
+
+-- what is stored for an item is its record, and the item is the next one of its centre
+pub judged_next : (limits : Limits) (edits : List Record) (c number : ℕ) (item : Item) (edit : Record) (reply : UdcReply)
+    → judge limits edits (TakeUp c number item) ≡ Store edit reply → (number ≡ taken_of edits c) × (record_of (TakeUp c number item) ≡ edit)
+judged_next limits edits c number item edit reply is = by (ltb number (taken_of edits c)) (ltb (taken_of edits c) number) refl refl
+  where
+    by : (old early : Bool) → ltb number (taken_of edits c) ≡ old → ltb (taken_of edits c) number ≡ early
+        → (number ≡ taken_of edits c) × (record_of (TakeUp c number item) ≡ edit)
+    by true early below above =
+        let answer : Answer (Old (taken_of edits c)) ≡ Store edit reply = rw below at is in absurd cc
+    by false true below above =
+        let answer : Answer (Early (taken_of edits c)) ≡ Store edit reply = rw (below, above) at is in absurd cc
+    by false false below above =
+        let stored : Store (record_of (TakeUp c number item)) (Stored (length edits)) ≡ Store edit reply = rw (below, above) at is in
+        (grind (arith, nat_tests, below, above), cc)

@@ -1,5 +1,5 @@
 -- What an event at no port leaves of the calls, and what an event at one port leaves of another.
-use Rattle.std.proofs.Common.{◌≡◌, ℕ, zero, suc, ◌+◌, List, [], ◌∷◌, length, get_or, set, Option, Some, None, refl, sym, ap, ◌∙◌}
+use Rattle.std.proofs.Common.{◌≡◌, ℕ, zero, suc, List, [], ◌∷◌, get_or, set, Option, Some, None, refl, sym, ap, ◌∙◌}
 use Rattle.std.specs.Prelude.{slice_get}
 use Rattle.pv_packet.specs.declared.packet.Packet.{Packet}
 use Rattle.pv_packet.specs.declared.packet.Packet.TheVariants.{Down, Up, DownHeard, UpHeard}
@@ -25,11 +25,11 @@ use Rattle.pv_network.specs.Calling.{calls_at, call_at, with_calls}
 use Rattle.pv_network.specs.Calls.{Calls, call_in, with_call}
 use Rattle.pv_network.specs.Centre.{Centre, new_centre}
 use Rattle.pv_network.specs.Crashing.{without_calls, step_of_centre_crash}
-use Rattle.pv_network.specs.Link.{is_packets_full, back_way, packets_on, with_new_end}
-use Rattle.pv_network.specs.Step.{step_of_request, step_of_line, step_of_said, step_of_edit}
+use Rattle.pv_network.specs.Link.{is_packets_full, back_way, packets_on}
+use Rattle.pv_network.specs.Editing.{step_of_request, step_of_line, step_of_said, step_of_edit}
 use Rattle.pv_network.specs.Traffic.{packet_for, next_number_on, step_of_packing, step_of_number, step_of_sending, step_of_acknowledging, arrival_on, world_after, step_of_answer, with_next_at, with_item_of, step_of_packet, step_of_found, step_of_arriving, ack_in, with_ack_back, round_of_send, step_of_round, with_one, way_on, after_round, rounds_on, carry_rounds}
 use Rattle.pv_network.specs.Verdict.{verdict_of}
-use Rattle.pv_network.specs.World.{World, StoppedCall, centre_at, link_at, with_link, with_edit, with_receipt}
+use Rattle.pv_network.specs.World.{World, StoppedCall, centre_at, link_at, with_edit, with_receipt}
 use Rattle.pv_network.proofs.Lists.{set_at}
 use Rattle.pv_network.proofs.Soundness.{choice, copy_at}
 use Rattle.pv_udc.specs.declared.request.UdcRequest.TheVariants.{Edit}
@@ -167,6 +167,19 @@ calls_elsewhere w c p centre other =
     (record (centre_at w centre) { calls = without_calls (calls_at w centre) }) new_centre
     (λ k same. ap (λ (n : ℕ). call_at w n p) same) (λ same. absurd (other same)) c refl
 
+-- what holds of another element and of the default is so where that one is put
+put_or : {X : Type 0} (P : X → Type 0) (xs : List X) (i : ℕ) (x d : X) → P x → P d → P (get_or (set xs i x) i d)
+put_or P [] i x d here none = none
+put_or P (y ∷ xs) zero x d here none = here
+put_or P (y ∷ xs) (suc i) x d here none = put_or P xs i x d here none
+
+-- after a crash of a centre no call is at its ports
+pub none_left : (w : World) (c p : ℕ) → call_at (step_of_centre_crash w c).0 c p ≡ None
+none_left w c p =
+    put_or (λ (centre : Centre). call_in centre.calls p ≡ None) w.centres c
+    (record (centre_at w c) { calls = without_calls (calls_at w c) }) new_centre (copy_at {X = Option Call} None PORTS p)
+    (copy_at {X = Option Call} None PORTS p)
+
 -- an element that differs from the default is there, and another takes its place
 read_set : {X : Type 0} (P : X → Type 0) (xs : List X) (i : ℕ) (x d : X) → (P d → ⊥) → P (get_or xs i d) → get_or (set xs i x) i d ≡ x
 read_set P [] i x d never is = absurd (never is)
@@ -183,10 +196,6 @@ module _ (w : World) (c p : ℕ) (call : Call) (is : call_at w c p ≡ Some call
     where
       none_some : None ≡ Some call → ⊥
       none_some never = absurd cc
-
-  -- after a crash of the centre there is none
-  pub none_here : call_at (step_of_centre_crash w c).0 c p ≡ None
-  none_here = calls_here (without_calls (calls_at w c)) ∙ copy_at {X = Option Call} None PORTS p
 
   -- another call at the port is read there
   pub call_here : (new : Option Call) → call_in (with_call (calls_at w c) p new) p ≡ new

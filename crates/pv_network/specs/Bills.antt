@@ -1,7 +1,6 @@
 -- Bills: the charge lines that the Update Centre took up for an account, and those that a centre has stored.
 use Rattle.std.specs.Prelude.{ℕ, List, Option, None, option_map}
 use Rattle.std.specs.List.{filter_map}
-use Rattle.pv_charge.specs.Line.{Charge}
 use Rattle.pv_post.specs.declared.item.Item.{Item}
 use Rattle.pv_edits.specs.declared.record.Record.{Record}
 use Rattle.pv_edits.specs.declared.record.Record.TheVariants.{Put, Drop, Account, Lease, Taken}

@@ -1,5 +1,5 @@
 -- A retrieval centre: what it has applied of the edit list, and what it does with a record that arrives.
-use Rattle.std.specs.Prelude.{◌≡◌, ℕ, ◌+◌, ◌≤◌, ◌==◌, nat_lt, nat_le, if◌then◌else◌, List, [], length, map, take, Option, Some, None, Result, Ok, Err, slice_get, slice_index_or}
+use Rattle.std.specs.Prelude.{◌≡◌, ℕ, ◌+◌, ◌≤◌, ◌==◌, nat_lt, nat_le, if◌then◌else◌, List, length, map, take, Option, Some, Result, Ok, Err, slice_get, slice_index_or}
 use Rattle.pv_outside.specs.declared.limits.Limits.{Limits}
 use Rattle.pv_edits.specs.Sight.{sight_of}
 use Rattle.pv_edits.specs.declared.down.DownRecord.{DownRecord}

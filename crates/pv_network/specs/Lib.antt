@@ -5,11 +5,14 @@ pub mod Calls
 pub mod Centre
 pub mod Charging
 pub mod Crashing
+pub mod Cutting
+pub mod Editing
 pub mod Keying
 pub mod Link
 pub mod OneList
 pub mod Packets
 pub mod Prices
+pub mod Replies
 pub mod Run
 pub mod Screens
 pub mod Sound

@@ -8,13 +8,17 @@ use Rattle.pv_memory.specs.Medium.{Medium}
 use Rattle.pv_charge.specs.declared.line.TheConstants.{LAST_MOMENT}
 use Rattle.pv_udc.specs.EditList.{EditList}
 use Rattle.pv_nodes.specs.OnDisk.{UpdateIsOnDisk}
+use Rattle.pv_editor.specs.declared.line.EditLine.{EditLine}
 use Rattle.pv_editor.specs.declared.seat.EditorSeat.{EditorSeat}
+use Rattle.pv_network.specs.declared.storing.Storing.{Storing}
+use Rattle.pv_network.specs.declared.storing.Storing.TheVariants as commands
 use Rattle.pv_network.specs.declared.event.TheConstants.{EDITORS, PORTS}
 use Rattle.pv_session.specs.declared.entry.Entry.{Entry}
 use Rattle.pv_network.specs.Calling.{call_at, step_of_press}
 use Rattle.pv_network.specs.Calls.{IsPortEntry}
 use Rattle.pv_network.specs.Centre.{Held, CentresStand}
 use Rattle.pv_network.specs.Charging.{IsChargedWorld}
+use Rattle.pv_network.specs.Cutting.{MayBeKept, step_of_cut, IsSaid}
 use Rattle.pv_network.specs.Keying.{KeyedByte, bytes_of, step_of_key, keys_from, TakesAll, step_of_keys, TakesAllAt}
 use Rattle.pv_network.specs.Link.{Link}
 use Rattle.pv_packet.specs.declared.packet.Packet.{Packet}
@@ -80,6 +84,12 @@ AnswersKeys old new outcome c port text = (w : World) → StandsFor old w
     → (keyed : List KeyedByte) × ReadsAs text (bytes_of keyed) × TakesAllAt w c port keyed
     × StandsFor new (step_of_keys w c port keyed).0 × (outcome ≡ (step_of_keys w c port keyed).1)
 
+-- the same of a cut, with what the line of its command says
+abbrev pub TakesCut : ℕ → Storing → State → State → Outcome → Type 0
+TakesCut calls command old new outcome = (said : Option EditLine) × IsSaid command said
+    × ((w : World) → StandsFor old w → (kept : Bool) × MayBeKept calls kept
+    × StandsFor new (step_of_cut w command kept said).0 × (outcome ≡ (step_of_cut w command kept said).1))
+
 -- the packet is genuine on a centre's link, in each world that the network stands for
 abbrev pub IsGenuineAt : State → ℕ → Packet → Type 0
 IsGenuineAt s c packet = (w : World) → StandsFor s w → IsGenuine w.update.records c (centre_at w c) packet
@@ -94,6 +104,7 @@ pub record IsNotation (text : List ℕ) : Type 0 where
 abbrev pub takes_memory : Event → Bool
 takes_memory (events.Keys centre port keys) = true
 takes_memory (events.Crash node) = true
+takes_memory (events.Cut calls image command) = true
 takes_memory (events.Bill account) = true
 takes_memory (events.Lines centre) = true
 takes_memory _ = false
@@ -108,6 +119,14 @@ TakesPlace event old new outcome = (w : World) → StandsFor old w
 abbrev pub IsThere : State → NodeName → Type 0
 IsThere s nodes.Udc = Unit {0}
 IsThere s (nodes.Centre c) = c < length s.centres
+
+-- a command to store a record is at a node or at a port that there is
+abbrev pub CanStore : State → Storing → Type 0
+CanStore s (commands.Seed name row) = Unit {0}
+CanStore s (commands.Edit port line) = port < EDITORS
+CanStore s (commands.Store centre port) = (centre < length s.centres) × (port < PORTS)
+CanStore s (commands.Deliver centre index) = centre < length s.centres
+CanStore s (commands.Back centre index) = centre < length s.centres
 
 -- an event at a node or at a port is at one that there is
 abbrev pub IsPossible : State → Event → Type 0
@@ -125,6 +144,7 @@ IsPossible s (events.Deliver centre index) = centre < length s.centres
 IsPossible s (events.Back centre index) = centre < length s.centres
 IsPossible s (events.Carry centre) = centre < length s.centres
 IsPossible s (events.Crash node) = IsThere s node
+IsPossible s (events.Cut calls image command) = CanStore s command
 IsPossible s (events.Clock moment) = moment ≤ LAST_MOMENT
 IsPossible s (events.View centre name) = centre < length s.centres
 IsPossible s (events.At centre) = centre < length s.centres

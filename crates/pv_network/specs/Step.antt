@@ -1,24 +1,13 @@
 -- What one event makes of the world, and the answer to it.
 use Rattle.std.specs.Prelude.{ℕ, Bool, List, [], ◌∷◌, length, Option, Some, None}
 use Rattle.pv_page.specs.Names.{Name}
-use Rattle.pv_frame.specs.declared.layout.TheConstants.{FIRST_ROW}
-use Rattle.pv_frame.specs.Content.{Content, blank_frame, with_row}
+use Rattle.pv_frame.specs.Content.{Content}
 use Rattle.pv_screen.specs.Composing.{composed_grid}
 use Rattle.pv_screen.specs.declared.screen.Screen.TheVariants.{Whole}
-use Rattle.pv_edits.specs.declared.room.TheConstants.{OPERATOR}
-use Rattle.pv_edits.specs.declared.wish.EditWish.{EditWish}
-use Rattle.pv_edits.specs.declared.wish.EditWish.TheVariants.{Put}
 use Rattle.pv_edits.specs.Edits.{frame_at}
 use Rattle.pv_words.specs.Parts.{Exactly}
-use Rattle.pv_udc.specs.EditList.{all_places}
-use Rattle.pv_udc.specs.Judgement.{next_number}
-use Rattle.pv_udc.specs.declared.request.UdcRequest.TheVariants.{Edit}
 use Rattle.pv_editor.specs.Lines.{IsLine}
-use Rattle.pv_editor.specs.Replies.{reply_of, closing_reply, responses_reply}
-use Rattle.pv_editor.specs.Say.{new_seat, turn_of}
 use Rattle.pv_editor.specs.declared.line.EditLine.{EditLine}
-use Rattle.pv_editor.specs.declared.step.EditStep.{EditStep}
-use Rattle.pv_editor.specs.declared.step.EditStep.TheVariants as steps
 use Rattle.pv_cells.specs.Notation.{ReadsAs}
 use Rattle.pv_network.specs.declared.event.Event.{Event}
 use Rattle.pv_network.specs.declared.event.Event.TheVariants as events
@@ -28,47 +17,11 @@ use Rattle.pv_network.specs.Bills.{step_of_bill, step_of_lines}
 use Rattle.pv_network.specs.Calling.{call_at, step_of_dial, step_of_press, step_of_store, step_of_show, step_of_hang}
 use Rattle.pv_network.specs.Calls.{IsPortEntry}
 use Rattle.pv_network.specs.Crashing.{step_of_crash}
+use Rattle.pv_network.specs.Cutting.{MayBeKept, step_of_cut, IsSaid}
+use Rattle.pv_network.specs.Editing.{step_of_seeding, step_of_edit}
 use Rattle.pv_network.specs.Keying.{KeyedByte, bytes_of, first_entry, step_of_keys, TakesAllAt}
 use Rattle.pv_network.specs.Traffic.{step_of_send, step_of_post, step_of_deliver, step_of_back, step_of_carry}
-use Rattle.pv_network.specs.Verdict.{Verdict, verdict_of, reply_found}
-use Rattle.pv_network.specs.World.{World, seat_at, with_seat, centre_at, with_edit, with_receipt, page_base}
-
--- ---- seed
-
--- the world after a verdict on an editor's request
-abbrev pub with_verdict : World → ℕ → ℕ → Verdict → World
-with_verdict w editor q verdict = with_receipt (with_edit w verdict.stored) editor q verdict.reply
-
--- an editor's request is judged: its record is stored unless it is refused, and an edit that is stored is acknowledged
-abbrev pub step_of_request : World → ℕ → ℕ → EditWish → World × Outcome
-step_of_request w editor q wish =
-    let verdict = verdict_of w.update (Edit editor q wish) in (with_verdict w editor q verdict, outcomes.Reply (reply_of verdict.reply))
-
--- a frame that is blank except for its row 2
-abbrev pub seeded_frame : List ℕ → Content
-seeded_frame row = record blank_frame { body = with_row FIRST_ROW row blank_frame.body }
-
--- the operator's next number puts that frame under a name
-abbrev pub step_of_seeding : World → Name → List ℕ → World × Outcome
-step_of_seeding w name row = step_of_request w OPERATOR (next_number w.update.records OPERATOR) (Put name (seeded_frame row))
-
--- ---- edit
-
--- a line is taken at a seat: what it says makes another seat of it, and gives a step
-abbrev pub step_of_line : World → ℕ → Option EditLine → World × EditStep
-step_of_line w port said =
-    let turn = turn_of (seat_at w port) w.update.records (all_places w.update.records) said in (with_seat w port turn.0, turn.1)
-
--- the step of a line is done; after the end of a session the seat is new
-abbrev pub step_of_said : World → ℕ → EditStep → World × Outcome
-step_of_said w port (steps.Say text) = (w, outcomes.Reply text)
-step_of_said w port (steps.Ask editor q wish) = step_of_request w editor q wish
-step_of_said w port (steps.Responses editor from) = (w, outcomes.Reply (responses_reply (reply_found w.update.records editor from)))
-step_of_said w port steps.Close = (with_seat w port new_seat, outcomes.Reply closing_reply)
-
--- an editor's line arrives at a port
-abbrev pub step_of_edit : World → ℕ → Option EditLine → World × Outcome
-step_of_edit w port said = let step = step_of_line w port said in step_of_said step.0 port step.1
+use Rattle.pv_network.specs.World.{World, centre_at, page_base}
 
 -- ---- view
 
@@ -99,20 +52,20 @@ step_of_clock w moment = (record w { moment = moment }, outcomes.Clock moment)
 
 -- ---- all
 
--- What the definitions leave open in an event: whether a stop within a write kept the record that was being written, what an
--- editor's line says, and what a caller's keys say. No event stops a node within a write, so that
--- none depends on the first.
+-- What the definitions leave open in an event: whether a node that was lost within a command has the record that was to be stored,
+-- what an editor's line says, and what a caller's keys say.
 pub record Choice : Type 0 where
   pub kept : Bool
   pub said : Option EditLine
   pub keyed : List KeyedByte
 
 -- What a line says is read from it, and is nothing if it is none of an editor's lines. What a key says is read from those that
--- the caller has keyed in this world.
+-- the caller has keyed in this world. How many calls of its disk passed says whether the node may have the record.
 abbrev pub IsChoice : World → Event → Choice → Type 0
 IsChoice w (events.Edit port line) choice = Exactly (IsLine line) choice.said
 IsChoice w (events.Press centre port key) choice = IsPortEntry (call_at w centre port) key (first_entry choice.keyed)
 IsChoice w (events.Keys centre port keys) choice = ReadsAs keys (bytes_of choice.keyed) × TakesAllAt w centre port choice.keyed
+IsChoice w (events.Cut calls image command) choice = MayBeKept calls choice.kept × IsSaid command choice.said
 IsChoice w _ choice = Unit {0}
 
 -- the world after an event, and the answer
@@ -131,6 +84,7 @@ happens w (events.Deliver centre index) choice = step_of_deliver w centre index
 happens w (events.Back centre index) choice = step_of_back w centre index
 happens w (events.Carry centre) choice = step_of_carry w centre
 happens w (events.Crash node) choice = step_of_crash w node
+happens w (events.Cut calls image command) choice = step_of_cut w command choice.kept choice.said
 happens w (events.Clock moment) choice = step_of_clock w moment
 happens w (events.View centre name) choice = step_of_view w centre name
 happens w (events.At centre) choice = step_of_at w centre

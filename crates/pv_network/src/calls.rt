@@ -9,6 +9,7 @@ ghost use Rattle.pv_network.specs.declared.outcome.Outcome.TheVariants as outcom
 ghost use Rattle.pv_network.specs.Call.{call_of};
 ghost use Rattle.pv_network.specs.Call as Spec;
 ghost use Rattle.pv_network.specs.Keying.{keys_refusal};
+ghost use Rattle.pv_network.specs.Cutting.{wish_of};
 ghost use Rattle.pv_network.specs.Calls.{caller_account, call_among, call_in, IsDone, turn_at, dial_at, hang_at, press_at, show_at, wish_at, away_answer, IsPortEntry};
 
 use crate::call::Call;
@@ -137,6 +138,17 @@ impl Calls {
                 None => Err(Outcome::Nothing),
             },
             None => Err(Outcome::NoCall),
+        }
+    }
+
+    /// What the call at a port is to have stored. `None` if there is no call, or nothing to be stored for it.
+    pub(crate) fn owed(&self, port: usize) -> Option<Wish>
+        requires { port < PORTS }
+        ensures { result ≡ wish_of (call_among self.now port) }
+    {
+        match &self.ports[port] {
+            Some(call) => call.wish_to_store(),
+            None => None,
         }
     }
 

@@ -1,4 +1,4 @@
-ghost use Rattle.std.specs.Prelude.{◌≡◌, ◌<◌, ◌≤◌, Ok, length, option_copied, slice_get, IfOk, IfSome, OnErr};
+ghost use Rattle.std.specs.Prelude.{◌≡◌, ◌<◌, ◌≤◌, Ok, length, option_copied, option_map, slice_get, IfOk, IfSome, OnErr};
 ghost use Rattle.pv_charge.specs.declared.line.TheConstants.{LAST_MOMENT};
 ghost use Rattle.pv_frame.specs.Errors.{IsValid};
 ghost use Rattle.pv_edits.specs.Edits.{frame_at};
@@ -9,6 +9,7 @@ ghost use Rattle.pv_network.specs.declared.event.TheConstants.{MAX_CENTRES, PORT
 ghost use Rattle.pv_network.specs.Bills.{bill_answer, stored_lines};
 ghost use Rattle.pv_network.specs.Calls.{call_among, call_in, wish_at, dial_at, hang_at, store_at, show_at};
 ghost use Rattle.pv_network.specs.Crashing.{crash_at};
+ghost use Rattle.pv_network.specs.Cutting.{wish_of, record_for, Restarts, RestartsNode};
 ghost use Rattle.pv_network.specs.Keying.{keys_refusal};
 ghost use Rattle.pv_network.specs.Centre.{new_centre, calls_of, holdings_of, arrival_by, request_for, paid_by, Asked, Applies, CentreStands, AreNew, Comes, Pressed};
 
@@ -20,7 +21,7 @@ use crate::outcome::Outcome;
 use pv_edits::DownRecord;
 use pv_frame::Frame;
 use pv_irc::{IrcReply, IrcRequest};
-use pv_nodes::CentreNode;
+use pv_nodes::{CentreNode, Cut};
 use pv_outside::Limits;
 use pv_page::FrameName;
 use pv_post::Item;
@@ -139,6 +140,48 @@ impl Centre {
         Ok(Outcome::Crashed { count })
     }
 
+    /// The centre is lost within a request to its node, if there is one, and opened again from this image of its disk.
+    /// Its calls are over. Returns what became of the record that was to be stored. The only error is that memory ran out
+    /// for that, and then the centre is as it was.
+    pub(crate) fn stop(
+        &mut self,
+        alloc: Global,
+        request: Option<IrcRequest>,
+        calls: u8,
+        image: u8,
+    ) -> Result<Cut, AllocError>
+        requires { IfSome request IsCentreRequest }
+        ensures ok { IfOk result
+            (Restarts self.old self.new calls (record_for self.old.node.state request)) }
+        ensures err { OnErr result (self.new ≡ self.old) }
+    {
+        let cut = self.stop_node(alloc, request, calls, image)?;
+        self.calls.end_all();
+        Ok(cut)
+    }
+
+    /// Its node is lost within a request, if there is one, and opened again from this image of its disk.
+    fn stop_node(
+        &mut self,
+        alloc: Global,
+        request: Option<IrcRequest>,
+        calls: u8,
+        image: u8,
+    ) -> Result<Cut, AllocError>
+        requires { IfSome request IsCentreRequest }
+        ensures ok { IfOk result
+            (RestartsNode self.old self.new calls (record_for self.old.node.state request)) }
+        ensures err { OnErr result (self.new ≡ self.old) }
+    {
+        match request {
+            Some(request) => self.node.cut(alloc, &request, calls, image),
+            None => {
+                self.node.crash(alloc, image)?;
+                Ok(Cut::NotStored)
+            }
+        }
+    }
+
     /// Begins a call at a port.
     pub(crate) fn dial(&mut self, port: usize) -> Outcome
         requires { port < PORTS }
@@ -178,6 +221,17 @@ impl Centre {
             Ok(wish) => self.store_wish(port, wish),
             Err(outcome) => outcome,
         }
+    }
+
+    /// What its node is asked for what the call at a port is to have stored. `None` if that is nothing.
+    pub(crate) fn request(&self, port: usize) -> Option<IrcRequest>
+        requires { port < PORTS }
+        ensures within { IfSome result IsCentreRequest }
+        ensures request { result
+            ≡ option_map request_for (wish_of (call_in (calls_of self.now) port)) }
+    {
+        let wish = self.calls.owed(port)?;
+        Some(request_of(wish))
     }
 
     /// Stores what the call at a port owes, a wish, unless the centre is full.

@@ -1,3 +1,4 @@
+use crate::storing::Storing;
 use pv_page::{AccountNo, FrameName};
 use pv_words::Part;
 
@@ -92,6 +93,14 @@ pub enum Event<'a> {
     /// A node is lost, and opened again from its disk.
     Crash {
         node: NodeName,
+    },
+    /// A node is lost within a command that it is to store a record for: its disk passes this many more calls and then
+    /// none, nothing of the answer leaves the node, and it is opened again from the image of this number that a crash
+    /// then leaves of the disk.
+    Cut {
+        calls: u8,
+        image: u8,
+        command: Storing<'a>,
     },
     /// The clock shows this moment, in seconds since 1970: 0 to 4,102,444,799.
     Clock {

@@ -11,7 +11,7 @@
 //! Records go down to a centre, and its items go up to the Update Centre, each in a packet. The packets of a
 //! centre are numbered from 0 each way, in the order in which they were made; any of them may arrive at any time,
 //! never, or again. Each is kept in bytes, as `pv_packet` spells it, and decoded when it arrives. A node
-//! may crash: it is opened again from its disk, and knows what it had stored.
+//! may crash, also within the write of a record: it is opened again from its disk, and knows what it had stored.
 //!
 //! ```text
 //! let mut network = Network::open(alloc, 1, limits)?;
@@ -42,6 +42,7 @@ mod network;
 mod outcome;
 mod packets;
 mod round;
+mod storing;
 mod turns;
 mod verdict;
 mod way;
@@ -57,4 +58,5 @@ pub use network::Network;
 pub use outcome::{BillLine, Outcome, Turn};
 pub use pv_editor::Text;
 pub use pv_session::Why;
+pub use storing::Storing;
 pub use turns::Turns;

@@ -6,12 +6,16 @@ ghost use Rattle.pv_editor.specs.declared.step.EditStep.TheVariants as steps;
 ghost use Rattle.pv_charge.specs.declared.line.TheConstants.{LAST_MOMENT};
 ghost use Rattle.pv_network.specs.declared.event.TheConstants.{MAX_CENTRES};
 ghost use Rattle.pv_network.specs.Bills.{step_of_bill, step_of_lines};
-ghost use Rattle.pv_network.specs.World.{start};
+ghost use Rattle.pv_network.specs.Replies.{RepliesByLine};
+ghost use Rattle.pv_network.specs.World.{World, start};
 ghost use Rattle.pv_network.specs.Standing.{StandsFor, Performs, TakesPlace, IsPossible, takes_memory};
-ghost use Rattle.pv_network.specs.Step.{step_of_request, step_of_seeding, step_of_line, step_of_said, step_of_edit, step_of_view, step_of_at, step_of_list, step_of_clock};
+ghost use Rattle.pv_network.specs.Editing.{step_of_request, seed_request, step_of_seeding, step_of_line, step_of_said, step_of_edit};
+ghost use Rattle.pv_network.specs.Step.{step_of_view, step_of_at, step_of_list, step_of_clock};
 
+mod asking;
 mod calling;
 mod crashing;
+mod cutting;
 mod keying;
 mod traffic;
 
@@ -77,7 +81,7 @@ impl Model for Network {
 impl Network {
     /// A network of one to four centres, on which nothing has happened, with these limits for each of
     /// its nodes. It reserves the room that every event needs, except for [`Event::Keys`], [`Event::Crash`],
-    /// [`Event::Bill`] and [`Event::Lines`]. The only error is that memory ran out.
+    /// [`Event::Cut`], [`Event::Bill`] and [`Event::Lines`]. The only error is that memory ran out.
     pub fn open(alloc: Global, centres: u8, limits: Limits) -> Result<Network, AllocError>
         requires some { 1 ≤ centres }
         requires few { centres ≤ MAX_CENTRES }
@@ -98,13 +102,16 @@ impl Network {
     /// Lets an event happen, and returns what came of it. The event's centre is one of the network's, and
     /// its port is below [`EDITORS`], or below [`PORTS`](crate::PORTS) at a centre. The only error is that memory
     /// ran out: after it, every later step returns it too. No events but [`Event::Keys`], [`Event::Crash`],
-    /// [`Event::Bill`] and [`Event::Lines`] take memory.
+    /// [`Event::Cut`], [`Event::Bill`] and [`Event::Lines`] take memory.
     pub fn step(&mut self, event: &Event) -> Result<Outcome, AllocError>
         requires { IsPossible self.old event.now }
 
         // Whatever world the network stood for, it stands for the next one, and the outcome is that answer.
         ensures performs { IfOk result (TakesPlace event.now self.old self.new) }
         ensures centres { length self.new.centres ≡ length self.old.centres }
+
+        // A reply to an editor is one line, which begins with a capital letter.
+        ensures replies { IfOk result RepliesByLine }
 
         // A network that is not out of memory succeeds, unless the event takes memory.
         ensures succeeds { takes_memory event.now ≡ false → self.old.is_out ≡ false → IsOk result }
@@ -144,6 +151,11 @@ impl Network {
             Event::Back { centre, index } => self.arrive(Way::Up, *centre, *index),
             Event::Carry { centre } => self.carry(*centre),
             Event::Crash { node } => self.crash(*node)?,
+            Event::Cut {
+                calls,
+                image,
+                command,
+            } => self.cut(*calls, *image, command)?,
             Event::Clock { moment } => self.clock(*moment),
             Event::View { centre, name } => self.view(*centre as usize, *name),
             Event::At { centre } => self.at(*centre as usize),
@@ -158,11 +170,19 @@ impl Network {
         ensures performs { Performs self.old self.new result (λ w. step_of_seeding w name row.now) }
         ensures centres { length self.new.centres ≡ length self.old.centres }
     {
+        let (editor, q, wish) = self.seeding(name, row);
+        self.ask(editor, q, wish)
+    }
+
+    /// The request that does this: its editor, its number, and what is asked for.
+    fn seeding(&self, name: FrameName, row: &[u8; 40]) -> (AccountNo, u32, EditWish)
+        ensures { (w : World) → StandsFor self.now w → result ≡ seed_request w name row.now }
+    {
         let mut frame = Frame::blank();
         frame.set_row(FIRST_ROW, row);
         let editor = AccountNo::of_number(OPERATOR).unwrap();
         let q = self.update.state().next_number(editor) as u32;
-        self.ask(editor, q, EditWish::Put { name, frame })
+        (editor, q, EditWish::Put { name, frame })
     }
 
     /// The Update Centre judges an editor's request, and stores its record unless it is refused.

@@ -1,5 +1,6 @@
 ghost use Rattle.std.specs.Prelude.{◌≡◌};
 ghost use Rattle.pv_network.specs.Calls.{away_answer};
+ghost use Rattle.pv_network.specs.Cutting.{cut_answer};
 ghost use Rattle.pv_network.specs.Keying.{is_owes, is_storing, is_over};
 ghost use Rattle.pv_network.specs.Traffic.{packet_in, ack_in, sent_answer};
 
@@ -8,6 +9,7 @@ use crate::turns::Turns;
 use crate::way::Way;
 use pv_charge::Line;
 use pv_editor::Text;
+use pv_nodes::Cut;
 use pv_screen::Screen;
 use pv_session::{Step, Why};
 
@@ -77,6 +79,12 @@ pub enum Outcome {
     Carried { records: u64, items: u64 },
     /// The node was opened again, and has this many records.
     Crashed { count: u64 },
+    /// The node that was lost within a command was opened again, and has the record that was to be stored.
+    Kept,
+    /// It does not have that record.
+    Lost,
+    /// The command was to store no record.
+    NotStored,
     /// The clock shows this moment.
     Clock { moment: u32 },
     /// The centre has no such frame.
@@ -122,6 +130,17 @@ impl Outcome {
         match step {
             Step::Ended(_, screen) => Outcome::StoreFull { count, screen },
             _ => Outcome::Nothing,
+        }
+    }
+
+    /// The answer to a stop of a node within a command, by what became of the record.
+    pub(crate) fn cut(cut: Cut) -> Outcome
+        ensures { result ≡ cut_answer cut }
+    {
+        match cut {
+            Cut::NotStored => Outcome::NotStored,
+            Cut::Kept => Outcome::Kept,
+            Cut::Lost => Outcome::Lost,
         }
     }
 

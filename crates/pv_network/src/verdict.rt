@@ -1,21 +1,24 @@
-ghost use Rattle.std.specs.Prelude.{◌≡◌, length};
+ghost use Rattle.std.specs.Prelude.{◌≡◌, length, IfOk, IfSome, OnErr};
 ghost use Rattle.pv_edits.specs.Edits.{taken_of};
 ghost use Rattle.pv_edits.specs.Taken.{IsCentre};
 ghost use Rattle.pv_udc.specs.Requests.{IsRequest};
 ghost use Rattle.pv_udc.specs.Requests.{record_of};
 ghost use Rattle.pv_udc.specs.declared.request.UdcRequest.TheVariants.{Edit, TakeUp};
+ghost use Rattle.pv_nodes.specs.Cutting.{MayBecome, kept_record};
 ghost use Rattle.pv_nodes.specs.OnDisk.{UpdateIsOnDisk, list_with};
 ghost use Rattle.pv_network.specs.Centre.{arrival_of};
+ghost use Rattle.pv_network.specs.Cutting.{stored_for};
 ghost use Rattle.pv_network.specs.Verdict.{editor_reply, verdict_of, item_arrival, stored_on, reply_found};
 ghost use Rattle.pv_editor.specs.Replies.{responses_reply};
 
 use crate::arrival::Arrival;
 use pv_editor::{Text, UdcReplyView, responses_text};
 use pv_edits::{EditWish, Record};
-use pv_nodes::UpdateNode;
+use pv_nodes::{Cut, UpdateNode};
 use pv_page::AccountNo;
 use pv_post::Item;
 use pv_udc::{UdcReply, UdcRequest, UdcState};
+use std::alloc::{AllocError, Global};
 
 /// The code of a request whose record would be one too many: it prints how many there are.
 pub(crate) const FULL: u8 = 14;
@@ -54,6 +57,32 @@ pub(crate) fn take_up(update: &mut UpdateNode, centre: u8, number: u64, item: &I
     match update.ask(&request) {
         Ok(told) => arrival_of(told.reply),
         Err(_) => Arrival::Full,
+    }
+}
+
+/// The Update Centre is lost within the judgement of a request, if there is one, and opened again from this image of its
+/// disk. Returns what became of the record that was to be stored. The only error is that memory ran out for that, and
+/// then it is as it was. Each image of the disk then spells the records of the list.
+pub(crate) fn stop(
+    update: &mut UpdateNode,
+    alloc: Global,
+    request: Option<UdcRequest>,
+    calls: u8,
+    image: u8,
+) -> Result<Cut, AllocError>
+    requires { IfSome request IsRequest }
+    ensures may { IfOk result (MayBecome calls (stored_for update.old.state request)) }
+    ensures stored { IfOk result (λ cut. update.new.state ≡ list_with update.old.state
+        (kept_record (stored_for update.old.state request) cut)) }
+    ensures err { OnErr result (update.new ≡ update.old) }
+    ensures on_disk { UpdateIsOnDisk update.new }
+{
+    match request {
+        Some(request) => update.cut(alloc, &request, calls, image),
+        None => {
+            update.crash(alloc, image)?;
+            Ok(Cut::NotStored)
+        }
     }
 }
 

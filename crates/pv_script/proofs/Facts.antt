@@ -4,15 +4,17 @@ use Rattle.std.specs.Fmt.{digits}
 use Rattle.pv_network.specs.declared.event.Event.TheVariants.{Send, Deliver}
 use Rattle.pv_network.specs.declared.event.TheConstants.{MAX_CENTRES}
 use Rattle.pv_network.specs.declared.outcome.BillLine.{BillLine}
-use Rattle.pv_network.specs.declared.outcome.Outcome.TheVariants.{Turns, SentRecord, SentItem, Taken, Old, Carried, Clock, NotHeld, Applied, Records, Bill}
+use Rattle.pv_network.specs.declared.outcome.Outcome.TheVariants.{Turns, SentRecord, SentItem, Taken, Old, Carried, Kept, Lost, NotStored, Clock, NotHeld, Applied, Records, Bill}
 use Rattle.pv_network.specs.declared.outcome.Outcome.TheVariants.{Shown, Quiet}
 use Rattle.pv_network.specs.declared.outcome.Turn.{Turn}
 use Rattle.pv_screen.specs.Grid.{blank_grid}
 use Rattle.pv_screen.specs.declared.screen.Screen.TheVariants.{Whole}
 use Rattle.pv_gen.specs.declared.writing.TheConstants.{LAST_NUMBER}
 use Rattle.pv_script.specs.declared.grammar.Command.TheVariants.{Nothing, Do}
-use Rattle.pv_script.specs.declared.grammar.TheConstants.{COMMENT}
+use Rattle.pv_script.specs.declared.grammar.TheConstants.{COMMENT, MAX_CALLS}
 use Rattle.pv_script.specs.declared.word.CallWord.TheVariants as calling
+use Rattle.pv_script.specs.declared.readers.TheConstants.{LAST_IMAGE}
+use Rattle.pv_script.specs.declared.word.StoringWord.TheVariants as storing
 use Rattle.pv_script.specs.declared.word.Word.TheVariants as words
 use Rattle.pv_script.specs.Evening.{AskForEvening, summary_text}
 use Rattle.pv_script.specs.Tally.{outcomes_of, tally_of}
@@ -21,7 +23,7 @@ use Rattle.pv_network.specs.Step.{Choice}
 use Rattle.pv_session.specs.declared.step.Why.TheVariants.{Finished}
 use Rattle.pv_script.specs.Readers.{IsKeyText}
 use Rattle.pv_script.specs.Transcript.{answer_text, answers, end_text, limits_text}
-use Rattle.pv_script.specs.Words.{word_of_text}
+use Rattle.pv_script.specs.Words.{word_of_text, storing_word_of_text}
 
 -- ---- scripts
 
@@ -33,6 +35,14 @@ comment = refl
 pub names_of_words : (word_of_text (codes "deliver") ≡ Some words.Deliver) × (word_of_text (codes "keys") ≡ Some (words.Call calling.Keys))
     × (word_of_text (codes "views") ≡ None)
 names_of_words = (refl, refl, refl)
+
+-- a cut is within the store of a record: within a delivery, and within no crash
+pub names_within_a_cut : (storing_word_of_text (codes "deliver") ≡ Some storing.Deliver) × (storing_word_of_text (codes "crash") ≡ None)
+names_within_a_cut = (refl, refl)
+
+-- it comes after four calls of the disk at most, and an image has a number up to 255
+pub within_a_cut : (MAX_CALLS ≡ 4) × (LAST_IMAGE ≡ 255)
+within_a_cut = (refl, refl)
 
 -- a key is one byte in notation: a space, or 255
 pub keys : IsKeyText 32 (codes " ") × IsKeyText 255 (codes "\\fF")
@@ -56,12 +66,15 @@ pub lines : (answer_text (SentRecord 3 17) ≡ codes "sent 3 record 17\n")
     × (answer_text (Old 17 None) ≡ codes "old 17 ack -\n")
     × (answer_text (SentItem 3 17) ≡ codes "sent 3 item 17\n")
     × (answer_text (Clock 315532800) ≡ codes "clock 315532800\n")
+    × (answer_text Kept ≡ codes "kept\n")
+    × (answer_text Lost ≡ codes "lost\n")
+    × (answer_text NotStored ≡ codes "none\n")
     × (answer_text NotHeld ≡ codes "-\n")
     × (answer_text (Carried 3 0) ≡ codes "carried 3 0\n")
     × (answer_text (Applied 2) ≡ codes "applied 2\n")
     × (answer_text (Records 3) ≡ codes "records 3\n")
 unfolding digits
-lines = (refl, refl, refl, refl, refl, refl, refl, refl, refl)
+lines = (refl, refl, refl, refl, refl, refl, refl, refl, refl, refl, refl, refl)
 
 -- a charge of 9 pence
 abbrev charge : BillLine

@@ -3,15 +3,19 @@ use Rattle.std.proofs.Common.{◌≡◌, List, ℕ, length, sym, subst}
 use Rattle.pv_network.specs.declared.event.Event.{Event}
 use Rattle.pv_network.specs.declared.event.NodeName.{NodeName}
 use Rattle.pv_network.specs.declared.event.NodeName.TheVariants as nodes
-use Rattle.pv_network.specs.Standing.{State, StandsFor, IsPossible, IsThere, IsNotation}
+use Rattle.pv_network.specs.declared.storing.Storing.{Storing}
+use Rattle.pv_network.specs.Standing.{State, StandsFor, IsPossible, IsThere, IsNotation, CanStore}
 use Rattle.pv_network.specs.World.{World}
 use Rattle.pv_script.specs.declared.grammar.Command.TheVariants.{Do}
 use Rattle.pv_script.specs.declared.word.CallWord.{CallWord}
 use Rattle.pv_script.specs.declared.word.CallWord.TheVariants as calling
+use Rattle.pv_script.specs.declared.word.StoringWord.{StoringWord}
+use Rattle.pv_script.specs.declared.word.StoringWord.TheVariants as storing
 use Rattle.pv_script.specs.declared.word.Word.{Word}
 use Rattle.pv_script.specs.declared.word.Word.TheVariants as words
 use Rattle.pv_script.specs.Grammar.{AsksAs, CallAsksAs}
 use Rattle.pv_script.specs.Readers.{IsNodeText}
+use Rattle.pv_script.specs.Storing.{StoringAsksAs}
 
 -- a command to let an event happen is of that event
 event_is : {event other : Event} → Do event ≡ Do other → event ≡ other
@@ -39,6 +43,15 @@ node_there : (s : State) (node : NodeName) (text : List ℕ) → IsNodeText (len
 node_there s nodes.Udc text names = tt
 node_there s (nodes.Centre c) text names = names.0
 
+-- a command to store a record is at a node or at a port that there is
+can_store : (s : State) (word : StoringWord) (tail : List ℕ) (command : Storing) → StoringAsksAs (length s.centres) word tail command
+    → CanStore s command
+can_store s storing.Seed tail command asks = subst (CanStore s) (sym asks.is) tt
+can_store s storing.Edit tail command asks = subst (CanStore s) (sym asks.is) asks.are.first.0
+can_store s storing.Store tail command asks = subst (CanStore s) (sym asks.is) (asks.are.first.0, asks.are.second.first.0)
+can_store s storing.Deliver tail command asks = subst (CanStore s) (sym asks.is) asks.are.first.0
+can_store s storing.Back tail command asks = subst (CanStore s) (sym asks.is) asks.are.first.0
+
 -- by the line's word: its centre is one that there is, or its row is a row of cells
 pub can_happen : (s : State) (word : Word) (tail : List ℕ) (event : Event) → AsksAs (length s.centres) word tail (Do event)
     → IsPossible s event
@@ -53,6 +66,9 @@ can_happen s words.Back tail event asks = subst (IsPossible s) (sym (event_is as
 can_happen s words.Carry tail event asks = subst (IsPossible s) (sym (event_is asks.is)) asks.are.first.0
 can_happen s words.Crash tail event asks =
     subst (IsPossible s) (sym (event_is asks.is)) (node_there s asks.parts asks.are.text asks.are.first)
+can_happen s words.Cut tail event asks =
+    let command = asks.are.others.second.first in
+    subst (IsPossible s) (sym (event_is asks.is)) (can_store s command.2 command.1 asks.parts.2 command.5)
 can_happen s words.Clock tail event asks = subst (IsPossible s) (sym (event_is asks.is)) asks.are.first.0
 can_happen s words.View tail event asks = subst (IsPossible s) (sym (event_is asks.is)) asks.are.first.0
 can_happen s words.At tail event asks = subst (IsPossible s) (sym (event_is asks.is)) asks.are.first.0

@@ -12,3 +12,4 @@ pub mod Plain
 pub mod Reading
 pub mod Running
 pub mod Summing
+pub mod Telling

@@ -8,6 +8,7 @@ use Rattle.std.proofs.lemmas.Fmt.{decimal_by_steps}
 use Rattle.std.proofs.lemmas.List.Folds.{list_all-append}
 use Rattle.pv_cells.specs.Notation.{ReadsAs, is_plain}
 use Rattle.pv_words.specs.Lines.{lines_of, before_first_line}
+use Rattle.pv_network.specs.Replies.{is_unbroken, IsUnbroken}
 
 -- all bytes of the text are plain
 abbrev pub IsPlainText : List ℕ → Type 0
@@ -38,15 +39,31 @@ plain_reads (byte ∷ text) plain =
     let parts = and_parts (is_plain byte) _ plain in
     (text, rw parts.0 refl, plain_reads text parts.1)
 
--- a newline is not plain
-no_newline : (byte : ℕ) → is_plain byte ≡ true → (byte == 10) ≡ false
-no_newline byte plain = grind (arith, nat_tests)
+-- ---- lines
+
+-- a byte that is no newline
+other : (byte : ℕ) → is_unbroken byte ≡ true → (byte == 10) ≡ false
+other byte differs = grind (arith, nat_tests)
+
+-- such a line with its end is the first of the lines
+pub unbroken_line : (line later : List ℕ) → IsUnbroken line → lines_of (line ++ 10 ∷ later) ≡ line ∷ lines_of later
+unbroken_line [] later whole = refl
+unbroken_line (byte ∷ line) later whole =
+    let parts = and_parts (is_unbroken byte) _ whole in
+    let rest = lines_of (line ++ 10 ∷ later) in
+    ap (λ (t : Bool). cond t ([] ∷ rest) (before_first_line byte rest)) (other byte parts.0)
+    ∙ ap (before_first_line byte) (unbroken_line line later parts.1)
+
+-- a plain text is one
+unbroken-plain : (text : List ℕ) → IsPlainText text → IsUnbroken text
+unbroken-plain [] plain = refl
+unbroken-plain (byte ∷ text) plain =
+    let parts = and_parts (is_plain byte) _ plain in
+    and_from _ _ (by parts.0) (unbroken-plain text parts.1)
+  where
+    by : is_plain byte ≡ true → is_unbroken byte ≡ true
+    by plain = grind (arith, nat_tests)
 
 -- a plain line with its end is the first of the lines
 pub plain_line : (line later : List ℕ) → IsPlainText line → lines_of (line ++ 10 ∷ later) ≡ line ∷ lines_of later
-plain_line [] later plain = refl
-plain_line (byte ∷ line) later plain =
-    let parts = and_parts (is_plain byte) _ plain in
-    let rest = lines_of (line ++ 10 ∷ later) in
-    ap (λ (t : Bool). cond t ([] ∷ rest) (before_first_line byte rest)) (no_newline byte parts.0)
-    ∙ ap (before_first_line byte) (plain_line line later parts.1)
+plain_line line later plain = unbroken_line line later (unbroken-plain line plain)

@@ -1,6 +1,7 @@
 -- What was run and written, line by line.
-use Rattle.std.proofs.Common.{◌≡◌, ℕ, ◌+◌, ◌≤◌, ◌==◌, List, [], ◌∷◌, ◌++◌, length, take, Option, refl, sym, ap, subst, ◌∙◌, append_assoc, arith}
+use Rattle.std.proofs.Common.{◌≡◌, ℕ, ◌+◌, ◌≤◌, ◌==◌, Bool, List, [], ◌∷◌, ◌++◌, length, take, Option, flat_map, refl, sym, ap, subst, ◌∙◌, append_assoc, arith}
 use Rattle.std.specs.Io.KnownBytes.{Appends}
+use Rattle.std.proofs.lemmas.Grind.{flat_map-append}
 use Rattle.std.proofs.lemmas.List.{append-nil, length-append}
 use Rattle.std.proofs.Math.Seq.{take-append-add}
 use Rattle.pv_words.specs.Lines.{lines_of}
@@ -16,10 +17,12 @@ use Rattle.pv_script.specs.declared.tally.Tally.{Tally}
 use Rattle.pv_script.specs.Ends.{HasRun, IsTallied, IsLineEnd, IsRunEnd}
 use Rattle.pv_script.specs.Grammar.{ReadsLine, HasNoForm, IsCommandChoice}
 use Rattle.pv_script.specs.Play.{IsTranscript, StopsAfterLine}
-use Rattle.pv_script.specs.Tally.{outcomes_of, tally_of, AddsOutcomes}
+use Rattle.pv_script.specs.Tally.{outcomes_to, outcomes_of, tally_of, AddsOutcomes}
+use Rattle.pv_script.specs.Telling.{cut_of, cuts_of, Tells, TellsOfCut}
 use Rattle.pv_script.specs.Transcript.{AreRead, answer_to, answers, world_after_command, world_after_all}
 use Rattle.pv_script.proofs.CallerLemmas.{Appends-none, Appends-more}
 use Rattle.pv_script.proofs.Counting.{outcomes_of-push, adds_none, adds_more, adds_all}
+use Rattle.pv_script.proofs.Telling.{tells_none, tells-append, tells_all}
 
 -- ---- one command more
 
@@ -47,11 +50,22 @@ read-push w centres number at (l ∷ ls) [] line run is read reads choice = absu
 read-push w centres number at (l ∷ ls) (c ∷ cs) line run is read reads choice =
     (read.0, read.1, read-push (world_after_command w c.0 c.1) centres (number + 1) at ls cs line run (omega (arith, is)) read.2 reads choice)
 
+-- one command more tells what it tells
+tells-push : (w : World) (runs : List (Command × Choice)) (run : Command × Choice) → Tells (answers w runs) (cuts_of w runs)
+    → TellsOfCut (answer_to (world_after_all w runs) run.0 run.1) (outcomes_to (world_after_all w runs) run.0 run.1)
+    → Tells (answers w (runs ++ run ∷ [])) (cuts_of w (runs ++ run ∷ []))
+tells-push w runs run before here =
+    let after = world_after_all w runs in
+    let told = ap (flat_map cut_of) (outcomes_of-push w runs run) ∙ flat_map-append cut_of (outcomes_of w runs) (outcomes_to after run.0 run.1) in
+    subst (λ (l : List Bool). Tells (answers w (runs ++ run ∷ [])) l) (sym told)
+    (subst (λ (l : List ℕ). Tells l (cuts_of w runs ++ flat_map cut_of (outcomes_to after run.0 run.1))) (sym (answers-push w runs run))
+    (tells-append (answers w runs) (answer_to after run.0 run.1) _ _ before here))
+
 -- ---- the run so far
 
 module _ (centres : ℕ) (first : World) (text : List ℕ) (before : Option (List ℕ)) where
   -- the lines before the rest were run, the network stands for the world after them, their answers were written, and what came of
-  -- them was counted
+  -- them was counted and is told
   pub record Progress (rest : List ℕ) (number : ℕ) (network : State) (now : Option (List ℕ)) (tally : Tally) : Type 0 where
     pub done : List (List ℕ)
     pub lines : lines_of text ≡ done ++ lines_of rest
@@ -59,6 +73,7 @@ module _ (centres : ℕ) (first : World) (text : List ℕ) (before : Option (Lis
     pub transcript : IsTranscript centres first done before now
     pub stands : StandsFor network (world_after_all first transcript.runs)
     pub counted : AddsOutcomes (tally_of []) tally (outcomes_of first transcript.runs)
+    pub told : Tells (answers first transcript.runs) (cuts_of first transcript.runs)
 
   -- no line has no answer
   nothing_written : IsTranscript centres first [] before before
@@ -68,7 +83,7 @@ module _ (centres : ℕ) (first : World) (text : List ℕ) (before : Option (Lis
   pub begins : (network : State) → StandsFor network first → Progress text 0 network before (tally_of [])
   unfolding nothing_written
   begins network stands =
-      record { done = []; lines = refl; count = refl; transcript = nothing_written; stands = stands; counted = adds_none (tally_of []) }
+      record { done = []; lines = refl; count = refl; transcript = nothing_written; stands = stands; counted = adds_none (tally_of []); told = tells_none }
 
   -- nothing was run yet
   pub stops_at_once : StopsAfterLine centres first text before before
@@ -84,6 +99,7 @@ module _ (centres : ℕ) (first : World) (text : List ℕ) (before : Option (Lis
       record {
         played = record {
           transcript = record { runs = t.runs; read = subst (λ (l : List (List ℕ)). AreRead first centres 1 l t.runs) all t.read; written = t.written };
+          told = tells_all (answers first t.runs) (cuts_of first t.runs) p.told;
           stands = p.stands;
           one_list = p.stands.sound.law;
           owed = λ c serial. (p.stands.charged c).owed serial;
@@ -115,6 +131,7 @@ module _ (centres : ℕ) (first : World) (text : List ℕ) (before : Option (Lis
           };
           stands = subst (λ (w : World). StandsFor new w) (sym (world_after_command-push first runs next)) step.2;
           counted = subst (λ (l : List Outcome). AddsOutcomes (tally_of []) to l) (sym (outcomes_of-push first runs next)) counted;
+          told = tells-push first runs next p.told step.5;
         }
 
     -- the next line was not run

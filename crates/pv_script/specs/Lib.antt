@@ -5,6 +5,8 @@ pub mod Generating
 pub mod Grammar
 pub mod Play
 pub mod Readers
+pub mod Storing
 pub mod Tally
+pub mod Telling
 pub mod Transcript
 pub mod Words

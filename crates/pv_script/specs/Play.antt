@@ -1,5 +1,5 @@
 -- How a play may end, and what then was read and written.
-use Rattle.std.specs.Prelude.{◌≡◌, ℕ, ◌+◌, ◌≤◌, ◌==◌, Bool, IsTrue, List, ◌∷◌, ◌++◌, length, take, Option, Some, None, IsSomeAnd, codes}
+use Rattle.std.specs.Prelude.{◌≡◌, ℕ, ◌+◌, ◌≤◌, ◌==◌, Bool, IsTrue, List, [], ◌∷◌, ◌++◌, length, take, Option, Some, None, IsSomeAnd, codes}
 use Rattle.std.specs.Io.KnownBytes.{Appends, Consumes}
 use Rattle.std.proofs.Common.{lit<, lit≤}
 use Rattle.pv_outside.specs.declared.limits.Limits.{Limits}
@@ -14,7 +14,8 @@ use Rattle.pv_network.specs.World.{World, start}
 use Rattle.pv_network.specs.Step.{Choice}
 use Rattle.pv_script.specs.declared.grammar.Command.{Command}
 use Rattle.pv_script.specs.Asking.{AskFor, AskNot}
-use Rattle.pv_script.specs.Grammar.{HasNoForm}
+use Rattle.pv_script.specs.Grammar.{ReadsLine, HasNoForm}
+use Rattle.pv_script.specs.Telling.{told_by, cuts_of}
 use Rattle.pv_script.specs.Transcript.{AreRead, answers, world_after_all}
 
 -- the words ask for a play of this many centres, which are one to four
@@ -57,10 +58,12 @@ pub record IsTranscript (centres : ℕ) (first : World) (lines : List (List ℕ)
   pub read : AreRead first centres 1 lines runs
   pub written : Appends written_before written_now (answers first runs)
 
--- Every line of the text was run: what was written is the answers, and the network stands for the world after them, in which
--- the law of the one list and the law of charging hold.
+-- Every line of the text was run: what was written is the answers. Its lines tell which cuts kept their record and which lost it,
+-- so that what was open in them is told by what was written. The network stands for the world after them, in which the law of the one
+-- list and the law of charging hold.
 pub record IsPlayed (centres : ℕ) (first : World) (text : List ℕ) (network : State) (written_before written_now : Option (List ℕ)) : Type 0 where
   pub transcript : IsTranscript centres first (lines_of text) written_before written_now
+  pub told : told_by (answers first transcript.runs) ≡ cuts_of first transcript.runs
   pub stands : StandsFor network (world_after_all first transcript.runs)
   pub one_list : OneList (world_after_all first transcript.runs)
   pub owed : OwedLines (world_after_all first transcript.runs)
@@ -116,6 +119,19 @@ IsPlayOf centres first text network left ended before now WriteFault =
 IsPlayOf centres first text network left ended before now Memory =
     (length text ≤ longest_script) × StopsAfterLine centres first text before now
 IsPlayOf centres first text network left ended before now TooLong = length text ≡ longest_script + 1
+
+-- ---- a script that is valid
+
+-- each of the lines, of which the first has this number, is a valid command
+abbrev pub AreCommands : ℕ → ℕ → List (List ℕ) → Type 0
+AreCommands centres number [] = Unit {0}
+AreCommands centres number (line ∷ lines) =
+    ((command : Command) × ReadsLine centres (number == 1) line command) × AreCommands centres (number + 1) lines
+
+-- the text is a script of a play of this many centres: it fits, and each of its lines is a valid command
+pub record IsScript (centres : ℕ) (text : List ℕ) : Type 0 where
+  pub within : length text ≤ longest_script
+  pub lines : AreCommands centres 1 (lines_of text)
 
 -- nothing was run
 abbrev pub IsNotRun : Status → Type 0

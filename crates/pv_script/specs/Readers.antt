@@ -12,6 +12,7 @@ use Rattle.pv_network.specs.declared.event.NodeName.{NodeName}
 use Rattle.pv_network.specs.declared.event.NodeName.TheVariants.{Udc, Centre}
 use Rattle.pv_network.specs.Standing.{IsNotation}
 use Rattle.pv_screen.specs.Grid.{IsRow}
+use Rattle.pv_script.specs.declared.readers.TheConstants.{LAST_IMAGE}
 
 -- the text is a frame's name
 abbrev pub IsFrameText : Name → List ℕ → Type 0
@@ -21,6 +22,10 @@ IsFrameText name text = IsName name × (text ≡ name_text name)
 abbrev pub IsNodeText : ℕ → NodeName → List ℕ → Type 0
 IsNodeText centres Udc text = text ≡ codes "u"
 IsNodeText centres (Centre c) text = IsBelow centres c text
+
+-- the text is the number of an image of a disk
+abbrev pub IsImageText : ℕ → List ℕ → Type 0
+IsImageText image text = (image ≤ LAST_IMAGE) × (text ≡ decimal image)
 
 -- the text is a moment that a clock can show
 abbrev pub IsMomentText : ℕ → List ℕ → Type 0

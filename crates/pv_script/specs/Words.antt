@@ -3,6 +3,8 @@ use Rattle.std.specs.Prelude.{ℕ, List, Bool, codes, nat_eq, Option, Some, None
 use Rattle.std.specs.Cmp.Lexicographic.{pointwise}
 use Rattle.pv_script.specs.declared.word.CallWord.{CallWord}
 use Rattle.pv_script.specs.declared.word.CallWord.TheVariants as calling
+use Rattle.pv_script.specs.declared.word.StoringWord.{StoringWord}
+use Rattle.pv_script.specs.declared.word.StoringWord.TheVariants as storing
 use Rattle.pv_script.specs.declared.word.Word.{Word}
 use Rattle.pv_script.specs.declared.word.Word.TheVariants as words
 
@@ -21,6 +23,16 @@ call_word_of_text text =
     if is_text text (codes "hang") then Some calling.Hang else
     None
 
+-- the word of a command to store a record that a text is
+abbrev pub storing_word_of_text : List ℕ → Option StoringWord
+storing_word_of_text text =
+    if is_text text (codes "seed") then Some storing.Seed else
+    if is_text text (codes "edit") then Some storing.Edit else
+    if is_text text (codes "store") then Some storing.Store else
+    if is_text text (codes "deliver") then Some storing.Deliver else
+    if is_text text (codes "back") then Some storing.Back else
+    None
+
 -- the word that a text is
 abbrev pub word_of_text : List ℕ → Option Word
 word_of_text text =
@@ -33,6 +45,7 @@ word_of_text text =
     if is_text text (codes "back") then Some words.Back else
     if is_text text (codes "carry") then Some words.Carry else
     if is_text text (codes "crash") then Some words.Crash else
+    if is_text text (codes "cut") then Some words.Cut else
     if is_text text (codes "clock") then Some words.Clock else
     if is_text text (codes "view") then Some words.View else
     if is_text text (codes "at") then Some words.At else

@@ -12,8 +12,12 @@ use pv_page::FrameName;
 use pv_screen::BUFFER;
 use std::alloc::AllocError;
 
-/// Appends the line or lines of an outcome.
-pub fn push_answer(text: &mut Vec<u8>, outcome: &Outcome) -> Result<(), AllocError>
+/// Appends the line or lines of an outcome. A screen is painted into the buffer first.
+pub fn push_answer(
+    text: &mut Vec<u8>,
+    buffer: &mut [u8; BUFFER],
+    outcome: &Outcome,
+) -> Result<(), AllocError>
     ensures { OnOk result (text.new.items ≡ text.old.items ++ answer_text outcome.now) }
 {
     match outcome {
@@ -21,7 +25,7 @@ pub fn push_answer(text: &mut Vec<u8>, outcome: &Outcome) -> Result<(), AllocErr
             text.extend_from_slice(reply.bytes())?;
             push_words(text, b"\n")
         }
-        Outcome::Shown(turn) => push_turn(text, turn),
+        Outcome::Shown(turn) => push_turn(text, buffer, turn),
         Outcome::Busy => push_words(text, b"busy\n"),
         Outcome::Quiet => push_words(text, b"quiet\n"),
         Outcome::Owes => push_words(text, b"owes\n"),
@@ -34,13 +38,14 @@ pub fn push_answer(text: &mut Vec<u8>, outcome: &Outcome) -> Result<(), AllocErr
             push_line(text, b"full ", *count)?;
             push_turn(
                 text,
+                buffer,
                 &Turn {
                     screen: *screen,
                     ended: Some(Why::Full),
                 },
             )
         }
-        Outcome::Turns(turns) => push_turns(text, turns.all()),
+        Outcome::Turns(turns) => push_turns(text, buffer, turns.all()),
         Outcome::Idle => push_words(text, b"idle\n"),
         Outcome::PacketsFull => push_words(text, b"packets full\n"),
         Outcome::NoPacket => push_words(text, b"no packet\n"),
@@ -65,6 +70,9 @@ pub fn push_answer(text: &mut Vec<u8>, outcome: &Outcome) -> Result<(), AllocErr
             push_words(text, b"\n")
         }
         Outcome::Crashed { count } => push_line(text, b"crashed ", *count),
+        Outcome::Kept => push_words(text, b"kept\n"),
+        Outcome::Lost => push_words(text, b"lost\n"),
+        Outcome::NotStored => push_words(text, b"none\n"),
         Outcome::Clock { moment } => push_line(text, b"clock ", *moment as u64),
         Outcome::NotHeld => push_words(text, b"-\n"),
         Outcome::Applied { count } => push_line(text, b"applied ", *count),
@@ -180,25 +188,26 @@ fn push_name(text: &mut Vec<u8>, name: FrameName) -> Result<(), AllocError>
 }
 
 /// Appends screens, one after another.
-fn push_turns(text: &mut Vec<u8>, turns: &[Turn]) -> Result<(), AllocError>
+fn push_turns(
+    text: &mut Vec<u8>,
+    buffer: &mut [u8; BUFFER],
+    turns: &[Turn],
+) -> Result<(), AllocError>
     ensures { OnOk result (text.new.items ≡ text.old.items ++ turns_text turns.now) }
 {
     for turn in turns {
-        push_turn(text, turn)?;
+        push_turn(text, buffer, turn)?;
     }
     Ok(())
 }
 
-/// Appends a screen, and the end of the call if it ended. Its buffer is large, so that it stays apart from the answers that
-/// need none.
-#[inline(never)]
-fn push_turn(text: &mut Vec<u8>, turn: &Turn) -> Result<(), AllocError>
+/// Appends a screen, and the end of the call if it ended.
+fn push_turn(text: &mut Vec<u8>, buffer: &mut [u8; BUFFER], turn: &Turn) -> Result<(), AllocError>
     ensures { OnOk result (text.new.items ≡ text.old.items ++ turn_text turn.now) }
 {
-    let mut bytes = [0; BUFFER];
-    let count = turn.screen.bytes(&mut bytes);
+    let count = turn.screen.bytes(buffer);
     push_words(text, b"screen ")?;
-    push_notation(&bytes[..count], text)?;
+    push_notation(&buffer[..count], text)?;
     push_words(text, b"\n")?;
     push_end(text, turn.ended)
 }

@@ -1,16 +1,22 @@
 ghost use Rattle.std.specs.Prelude.{◌≡◌, ◌↔◌, Some, IfSome, IsTrue};
 ghost use Rattle.pv_words.specs.Parts.{Exactly};
-ghost use Rattle.pv_script.specs.Grammar.{Asks, AsksAs, CallAsksAs, MayStand, ReadsLine};
+ghost use Rattle.pv_script.specs.Grammar.{Asks, AsksAs, CallAsksAs, CutAsksAs, MayStand, ReadsLine};
 
-use crate::readers::{FrameText, KeyText, KeysText, LimitsText, MomentText, NodeText, RowText};
+use crate::readers::{
+    FrameText, ImageText, KeyText, KeysText, LimitsText, MomentText, NodeText, RowText,
+};
+use crate::storing::StoringText;
 use crate::word::{CallWord, Word, word_of};
 use pv_editor::AccountText;
 use pv_network::{EDITORS, Event, PORTS};
 use pv_outside::Limits;
-use pv_words::{AllOf, Below, Number, none_as, one_as, split_word, three_as, two_as};
+use pv_words::{AllOf, Below, Number, none_as, one_as, split_word, three, three_as, two_as};
 
 /// The byte that begins a comment.
 pub const COMMENT: u8 = b';';
+
+/// How many calls of its disk a node makes at most before it is lost: those of the write of a record.
+pub const MAX_CALLS: u8 = 4;
 
 /// What a line of a script asks for.
 #[derive(Debug, Drop)]
@@ -98,6 +104,7 @@ fn asked_command(word: Word, tail: &[u8], centres: u8) -> Option<Command<'_>>
         ),
         Word::Carry => one_as(&centre, tail, |centre| Command::Do(Event::Carry { centre })),
         Word::Crash => one_as(&node, tail, |node| Command::Do(Event::Crash { node })),
+        Word::Cut => asked_cut(tail, centres),
         Word::Clock => one_as(
             &MomentText,
             tail,
@@ -164,5 +171,24 @@ fn asked_call(word: CallWord, tail: &[u8], centres: u8) -> Option<Command<'_>>
             tail,
             |(centre, port)| Command::Do(Event::Hang { centre, port }),
         ),
+    }
+}
+
+/// What the tail of a cut asks for. `None` exactly when it asks for nothing.
+fn asked_cut(tail: &[u8], centres: u8) -> Option<Command<'_>>
+    ensures { Exactly (CutAsksAs centres tail.now) result }
+{
+    match three(
+        &Below(MAX_CALLS + 1),
+        &ImageText,
+        &StoringText(centres),
+        tail,
+    ) {
+        Some((calls, image, command)) => Some(Command::Do(Event::Cut {
+            calls,
+            image,
+            command,
+        })),
+        None => None,
     }
 }

@@ -29,6 +29,7 @@ mod grammar;
 mod playing;
 mod readers;
 mod script;
+mod storing;
 mod tally;
 mod word;
 

@@ -1,11 +1,11 @@
-ghost use Rattle.std.specs.Prelude.{◌≡◌, ℕ, ◌+◌, ◌^◌, ◌<◌, ◌≤◌, ◌==◌, ◌↔◌, List, [], ◌∷◌, map, length, Some, None, IfOk, IfErr, IfSome, OnOk, IsSome, string_bytes};
+ghost use Rattle.std.specs.Prelude.{◌≡◌, ◌⊎◌, ℕ, ◌+◌, ◌^◌, ◌<◌, ◌≤◌, ◌==◌, ◌↔◌, List, [], ◌∷◌, map, length, Some, None, IfOk, IfErr, IfSome, OnOk, IsSome, string_bytes};
 ghost use Rattle.pv_outside.specs.Counts.{Rose};
 ghost use Rattle.pv_network.specs.declared.event.TheConstants.{MAX_CENTRES};
 ghost use Rattle.pv_network.specs.Standing.{StandsFor, IsPossible};
 ghost use Rattle.pv_script.specs.declared.grammar.Command.TheVariants.{Do};
 ghost use Rattle.pv_script.specs.declared.grammar.Command.TheVariants as commands;
 ghost use Rattle.pv_script.specs.Ends.{GivesAnswer, HasRun, IsAnswerEnd, IsTallied, IsLineEnd, IsRunEnd};
-ghost use Rattle.pv_script.specs.Play.{AskToPlay, AskNoPlay, HasRead, IsPlayOf, IsNotRun, first_world};
+ghost use Rattle.pv_script.specs.Play.{AskToPlay, AskNoPlay, HasRead, IsPlayOf, IsScript, IsNotRun, first_world};
 ghost use Rattle.pv_script.specs.Tally.{tally_of, IsTallyWithin};
 
 use crate::answer::{push_answer, push_limits};
@@ -16,6 +16,7 @@ use crate::script::{LONGEST_SCRIPT, read_script};
 use crate::tally::Tally;
 use pv_network::{Event, MAX_CENTRES, Network};
 use pv_outside::{Limits, Sink, Source, Status};
+use pv_screen::BUFFER;
 use pv_words::first_line;
 use std::alloc::Global;
 
@@ -61,6 +62,14 @@ pub fn play<S: Source, K: Sink>(
         → Rose (K.write_faults out.old) (K.write_faults out.new) }
     ensures counted { (S.read_faults script.old ≤ S.read_faults script.new)
         × (K.write_faults out.old ≤ K.write_faults out.new) }
+
+    // So a valid script that a source has left is played to its end if no count rises, or memory runs
+    // out.
+    ensures succeeds { (centres : ℕ) (text : List ℕ) → AskToPlay (map string_bytes words.now) centres
+        → S.left script.old ≡ Some text → IsScript centres text
+        → (Rose (S.read_faults script.old) (S.read_faults script.new) → ⊥)
+        → (Rose (K.write_faults out.old) (K.write_faults out.new) → ⊥)
+        → (result.status ≡ Status.Done) ⊎ (result.status ≡ Status.Memory) }
 
     // The network is there exactly when all was done.
     ensures network { IsSome result.network ↔ (result.status ≡ Status.Done) }
@@ -137,6 +146,8 @@ pub(crate) fn run<K: Sink>(
 struct Answers {
     /// The text of the last one.
     text: Vec<u8>,
+    /// Where its screens are painted.
+    buffer: [u8; BUFFER],
     /// What all of them add up to.
     tally: Tally,
 }
@@ -164,6 +175,7 @@ fn run_lines<K: Sink>(
 {
     let mut answers = Answers {
         text: Vec::new(alloc),
+        buffer: [0; BUFFER],
         tally: Tally::new(),
     };
     let mut rest = text;
@@ -277,7 +289,7 @@ fn run_event<K: Sink>(
     };
     answers.tally.add(&outcome);
     answers.text.clear();
-    if push_answer(&mut answers.text, &outcome).is_err() {
+    if push_answer(&mut answers.text, &mut answers.buffer, &outcome).is_err() {
         return Err(AnswerEnd::Memory);
     }
     if out.write_all(&answers.text).is_err() {

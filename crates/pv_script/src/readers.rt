@@ -2,7 +2,7 @@ ghost use Rattle.std.specs.Prelude.{◌≡◌, ◌↔◌, Some, IfSome, IsTrue};
 ghost use Rattle.pv_words.specs.Parts.{Exactly};
 ghost use Rattle.pv_outside.specs.declared.limits.Limits.{Limits};
 ghost use Rattle.pv_network.specs.Standing.{IsNotation};
-ghost use Rattle.pv_script.specs.Readers.{IsFrameText, IsNodeText, IsMomentText, IsRowText, IsKeyText, IsKeysText, IsLimitsText, AreOf};
+ghost use Rattle.pv_script.specs.Readers.{IsFrameText, IsNodeText, IsImageText, IsMomentText, IsRowText, IsKeyText, IsKeysText, IsLimitsText, AreOf};
 
 use pv_cells::{ROW_LENGTH, first_byte, row_of};
 use pv_charge::LAST_MOMENT;
@@ -10,6 +10,9 @@ use pv_network::NodeName;
 use pv_outside::{Limits, MAX_FRAMES, MAX_RECORDS};
 use pv_page::FrameName;
 use pv_words::{Below, Number, Part, Reader, number_of, one, split_word};
+
+/// The last number of an image of a disk.
+pub const LAST_IMAGE: u8 = 255;
 
 /// The part of a line that is the name of a frame.
 #[derive(Clone, Copy, Debug)]
@@ -48,6 +51,25 @@ fn node_of(text: &[u8], centres: u8) -> Option<NodeName>
     }
     let centre = Below(centres).read(text)?;
     Some(NodeName::Centre(centre))
+}
+
+/// The part of a line that is the number of an image of a disk.
+#[derive(Clone, Copy, Debug)]
+pub struct ImageText;
+
+impl<'a> Reader<'a> for ImageText {
+    type Value = u8;
+
+    ghost Writes = { λ _. IsImageText };
+
+    fn read(&self, text: &'a [u8]) -> Option<u8> {
+        let image = number_of(text)?;
+        if image <= LAST_IMAGE as u64 {
+            Some(image as u8)
+        } else {
+            None
+        }
+    }
 }
 
 /// The part of a line that is a moment of the clock, in seconds since 1970.

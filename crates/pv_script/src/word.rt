@@ -1,5 +1,5 @@
 ghost use Rattle.std.specs.Prelude.{◌≡◌};
-ghost use Rattle.pv_script.specs.Words.{word_of_text, call_word_of_text};
+ghost use Rattle.pv_script.specs.Words.{word_of_text, call_word_of_text, storing_word_of_text};
 
 /// The first word of a line.
 #[derive(Clone, Copy, Debug, PartialEq, Eq)]
@@ -24,6 +24,8 @@ pub enum Word {
     Carry,
     /// `crash NODE`
     Crash,
+    /// `cut D I COMMAND`
+    Cut,
     /// `clock N`
     Clock,
     /// `view C NAME`
@@ -55,6 +57,21 @@ pub enum CallWord {
     Hang,
 }
 
+/// The first word of a command that a node is to store a record for.
+#[derive(Clone, Copy, Debug, PartialEq, Eq)]
+pub enum StoringWord {
+    /// `seed NAME TEXT`
+    Seed,
+    /// `edit E LINE`
+    Edit,
+    /// `store C P`
+    Store,
+    /// `deliver C K`
+    Deliver,
+    /// `back C K`
+    Back,
+}
+
 /// The word that a text is. `None` exactly when it is none of them.
 pub fn word_of(text: &[u8]) -> Option<Word>
     ensures { result ≡ word_of_text text.now }
@@ -77,6 +94,8 @@ pub fn word_of(text: &[u8]) -> Option<Word>
         Some(Word::Carry)
     } else if text == b"crash".as_slice() {
         Some(Word::Crash)
+    } else if text == b"cut".as_slice() {
+        Some(Word::Cut)
     } else if text == b"clock".as_slice() {
         Some(Word::Clock)
     } else if text == b"view".as_slice() {
@@ -110,6 +129,25 @@ fn call_word_of(text: &[u8]) -> Option<CallWord>
         Some(CallWord::Keys)
     } else if text == b"hang".as_slice() {
         Some(CallWord::Hang)
+    } else {
+        None
+    }
+}
+
+/// The word of a command to store a record that a text is. `None` exactly when it is none of them.
+pub fn storing_word_of(text: &[u8]) -> Option<StoringWord>
+    ensures { result ≡ storing_word_of_text text.now }
+{
+    if text == b"seed".as_slice() {
+        Some(StoringWord::Seed)
+    } else if text == b"edit".as_slice() {
+        Some(StoringWord::Edit)
+    } else if text == b"store".as_slice() {
+        Some(StoringWord::Store)
+    } else if text == b"deliver".as_slice() {
+        Some(StoringWord::Deliver)
+    } else if text == b"back".as_slice() {
+        Some(StoringWord::Back)
     } else {
         None
     }

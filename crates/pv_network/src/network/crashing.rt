@@ -55,7 +55,7 @@ impl Network {
 }
 
 /// The seats of the editors, at which nobody is logged on.
-fn new_seats() -> [EditorSeat; EDITORS as usize]
+pub(super) fn new_seats() -> [EditorSeat; EDITORS as usize]
     ensures { result ≡ replicate EDITORS new_seat }
 {
     [EditorSeat::new(); EDITORS as usize]

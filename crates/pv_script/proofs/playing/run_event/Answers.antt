@@ -1,9 +1,29 @@
-use Rattle.std.proofs.Common.{rules, ◌≡◌, ℕ, true, List, take, sym, ap, subst, ◌∙◌}
+use Rattle.std.proofs.Common.{rules, ◌≡◌, ℕ, true, false, List, [], ◌∷◌, take, sym, ap, subst, ◌∙◌}
 use Rattle.std.specs.Prelude.{is_err}
 use Rattle.std.specs.Io.KnownBytes.{Appends}
 use Rattle.pv_script.specs.Transcript.{answer_text}
-use Rattle.pv_script.proofs.Reading.{prefix_written}
+use Rattle.pv_network.specs.declared.outcome.Outcome.{Outcome}
+use Rattle.pv_script.specs.Tally.{AddsOutcomes}
+use Rattle.pv_script.specs.Telling.{TellsOfCut}
+use Rattle.pv_script.proofs.Reading.{whole_written, prefix_written}
+use Rattle.pv_script.proofs.Telling.{event_tells}
 use Rattle.pv_script.proofs.playing.run_event.Goals as goal
+
+-- the answer was written, and tells of a cut only if the event is one
+pub returns-clause-ok : goal.returns-clause-ok
+returns-clause-ok g c =
+    let text : c.deref.result.now ≡ answer_text c.in-Ok.outcome = search rules in
+    let passed : is_err c.write_all.result ≡ false = sym c.is_err-2.ensures.value ∙ c.if-is_err-2.false in
+    let whole = whole_written c.write_all.result (g.K.Sink.written c.args.out.now) (g.K.Sink.written c.write_all.new.self) c.deref.result.now c.write_all.ensures.written passed in
+    λ w stands.
+    let done = c.in-Ok.ensures.performs w stands in (
+      done.0,
+      done.1,
+      done.2,
+      subst (λ (l : List ℕ). Appends (g.K.Sink.written c.args.out.now) (g.K.Sink.written c.write_all.new.self) l) (text ∙ ap answer_text done.3) whole,
+      subst (λ (o : Outcome). AddsOutcomes c.args.answers.now.tally c.add.new.self (o ∷ [])) done.3 c.add.ensures.adds,
+      subst (λ (o : Outcome). TellsOfCut (answer_text o) (o ∷ [])) done.3 (event_tells c.in-Ok.outcome c.in-Ok.ensures.replies),
+    )
 
 -- the answer could not be written
 pub returns-then-is_err-2-clause-err : goal.returns-then-is_err-2-clause-err

@@ -1,4 +1,4 @@
-use Rattle.std.proofs.Common.{[], ◌∷◌, arith}
+use Rattle.std.proofs.Common.{arith}
 use Rattle.std.proofs.lemmas.List.{length-set}
 use Rattle.pv_network.specs.Link.{with_place}
 use Rattle.pv_network.proofs.Rows.{room_left, places_within, packed, count_on, size_placed, within_placed, stored}

@@ -1,6 +1,6 @@
-use Rattle.std.proofs.Common.{◌≡◌, length, set, sym, ◌∙◌}
+use Rattle.std.proofs.Common.{◌≡◌, set, sym, ◌∙◌}
 use Rattle.std.proofs.lemmas.List.{length-set}
-use Rattle.pv_network.specs.Standing.{State, StandsFor, IsStanding}
+use Rattle.pv_network.specs.Standing.{State, StandsFor}
 use Rattle.pv_network.specs.Traffic.{arrival_on, world_after, with_next_at}
 use Rattle.pv_network.specs.World.{World}
 use Rattle.pv_network.specs.declared.way.Way.TheVariants as ways

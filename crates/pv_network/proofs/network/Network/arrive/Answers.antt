@@ -1,13 +1,5 @@
-use Rattle.std.proofs.Common.{◌≡◌, ℕ, Option, Some, None, refl, sym, ap, subst, ◌∙◌}
-use Rattle.std.specs.Prelude.{slice_get}
-use Rattle.pv_packet.specs.declared.packet.Packet.{Packet}
-use Rattle.pv_network.specs.Link.{packets_on}
-use Rattle.pv_network.specs.Standing.{State, StandsFor, Performs}
-use Rattle.pv_network.specs.Traffic.{step_of_found, step_of_arriving}
-use Rattle.pv_network.specs.World.{World, link_at}
-use Rattle.pv_network.specs.declared.outcome.Outcome.{Outcome}
-use Rattle.pv_network.specs.declared.way.Way.{Way}
-use Rattle.pv_network.proofs.Performing.{found_genuine, found_there}
+use Rattle.std.proofs.Common.{Some, refl, sym, ap, ◌∙◌}
+use Rattle.pv_network.proofs.Performing.{found_genuine}
 use Rattle.pv_network.proofs.network.Network.arrive.Goals as goal
 
 -- what is there is genuine

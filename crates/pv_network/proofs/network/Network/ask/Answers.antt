@@ -1,7 +1,7 @@
 use Rattle.std.proofs.Common.{◌≡◌, ap, ◌∙◌}
 use Rattle.pv_network.specs.declared.outcome.Outcome.TheVariants.{Reply}
 use Rattle.pv_network.specs.Standing.{State, StandsFor}
-use Rattle.pv_network.specs.Step.{step_of_request}
+use Rattle.pv_network.specs.Editing.{step_of_request}
 use Rattle.pv_network.specs.World.{World}
 use Rattle.pv_network.proofs.Performing.{asks}
 use Rattle.pv_network.proofs.network.Network.ask.Goals as goal

@@ -1,4 +1,4 @@
-use Rattle.pv_network.specs.Step.{step_of_line}
+use Rattle.pv_network.specs.Editing.{step_of_line}
 use Rattle.pv_network.proofs.Performing.{does_step}
 use Rattle.pv_network.proofs.network.Network.edit.Goals as goal
 

@@ -64,6 +64,14 @@ returns-clause-performs c = λ w stands.
       | goal.in-Crash+in_ok-crash-in-Crash b ↦
           let done = b.in_ok-crash-in-Crash.ensures.performs w stands in
           (any, rw b.in-Crash.is tt, rw (b.in-Crash.is, b.self-is) done.0, rw (b.in-Crash.is, b.result-is) done.1)
+      | goal.in-Cut+in_ok-cut-in-Cut b ↦
+          let cut = b.in_ok-cut-in-Cut.ensures.performs in
+          let done = cut.2 w stands in (
+            record { kept = done.0; said = cut.0; keyed = [] },
+            rw b.in-Cut.is (done.1, cut.1),
+            rw (b.in-Cut.is, b.self-is) done.2,
+            rw (b.in-Cut.is, b.result-is) done.3,
+          )
       | goal.in-Clock b ↦
           let done = b.clock.ensures.performs w stands in
           (any, rw b.in-Clock.is tt, rw (b.in-Clock.is, b.self-is) done.0, rw (b.in-Clock.is, b.result-is) done.1)

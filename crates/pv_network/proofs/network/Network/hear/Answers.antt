@@ -1,8 +1,7 @@
-use Rattle.std.proofs.Common.{◌≡◌, ◌≤◌, length, sym, ap, ◌∙◌, refl}
+use Rattle.std.proofs.Common.{length, ap, ◌∙◌, refl}
 use Rattle.std.proofs.lemmas.List.{length-set}
-use Rattle.pv_network.specs.Centre.{Centre}
 use Rattle.pv_network.specs.Standing.{State, StandsFor}
-use Rattle.pv_network.specs.Traffic.{received_count, step_of_hearing}
+use Rattle.pv_network.specs.Traffic.{step_of_hearing}
 use Rattle.pv_network.specs.World.{World}
 use Rattle.pv_network.proofs.Performing.{acknowledged_few, hears}
 use Rattle.pv_network.proofs.network.Network.hear.Goals as goal

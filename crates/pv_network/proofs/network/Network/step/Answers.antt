@@ -4,6 +4,7 @@ use Rattle.pv_network.specs.declared.event.Event.{Event}
 use Rattle.pv_network.specs.declared.outcome.Outcome.{Outcome}
 use Rattle.pv_network.specs.Standing.{State, TakesPlace}
 use Rattle.pv_network.specs.Step.{happens}
+use Rattle.pv_network.proofs.Answered.{answers_by_line}
 use Rattle.pv_network.proofs.Standing.{out_stands}
 use Rattle.pv_network.proofs.network.Network.step.Goals as goal
 
@@ -17,6 +18,12 @@ noted (Err e) old new out event is = tt
 pub returns-clause-performs : goal.returns-clause-performs
 returns-clause-performs c =
     noted c.happen-outcome.result _ _ c.is_err-self-inside.result c.args.event.now
+    (rw (← c.self-2.view_is) at c.happen-outcome.ensures.performs)
+
+-- a reply is a line
+pub returns-clause-replies : goal.returns-clause-replies
+returns-clause-replies c =
+    answers_by_line c.args.self.now _ c.args.event.now c.happen-outcome.result (rw (← c.self.view_is) c.self.invariant.1)
     (rw (← c.self-2.view_is) at c.happen-outcome.ensures.performs)
 
 -- it stands for the world that it stood for

@@ -4,7 +4,7 @@ use Rattle.pv_editor.specs.Say.{new_seat, Says}
 use Rattle.pv_editor.specs.declared.seat.EditorSeat.{EditorSeat}
 use Rattle.pv_network.specs.declared.event.TheConstants.{EDITORS}
 use Rattle.pv_network.specs.Standing.{State, StandsFor}
-use Rattle.pv_network.specs.Step.{step_of_line}
+use Rattle.pv_network.specs.Editing.{step_of_line}
 use Rattle.pv_network.specs.World.{World}
 use Rattle.pv_network.proofs.Lists.{read_again}
 use Rattle.pv_network.proofs.Performing.{takes_line}
