@@ -2,6 +2,7 @@
 """Draws the screens of a transcript as a television shows them.
 
     tools/picture.py examples/colours.transcript docs/colours.png
+    tools/picture.py --last examples/short-evening.transcript docs/short-evening.png    draws the last screen alone
 
 Each line `screen BYTES` is read by a terminal, and what it shows is drawn below the one before: 40 columns of 24 rows,
 cut after the last row that shows anything. Flashing and concealed cells are drawn as they are when they can be seen.
@@ -220,10 +221,13 @@ def stacked(screens: list[Image.Image]) -> Image.Image:
 
 
 def main() -> None:
-    if len(sys.argv) != 3:
-        sys.exit("picture.py: TRANSCRIPT PICTURE.png")
+    words = sys.argv[1:]
+    is_last = words[:1] == ["--last"]
+    if len(words) != 2 + is_last:
+        sys.exit("picture.py: [--last] TRANSCRIPT PICTURE.png")
+    transcript, picture = words[is_last:]
     terminal, pen, screens = Terminal(), Pen(), []
-    for line in pathlib.Path(sys.argv[1]).read_text("ascii").splitlines():
+    for line in pathlib.Path(transcript).read_text("ascii").splitlines():
         word, _, notation = line.partition(" ")
         if word == "screen":
             for byte in bytes_of(notation):
@@ -231,7 +235,7 @@ def main() -> None:
             screens.append(screen_of(terminal.cells, pen))
     if not screens:
         sys.exit("picture.py: the transcript shows no screen")
-    stacked(screens).quantize(64).save(sys.argv[2], optimize=True)
+    stacked(screens[-1:] if is_last else screens).quantize(64).save(picture, optimize=True)
 
 
 if __name__ == "__main__":

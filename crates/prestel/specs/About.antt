@@ -1,22 +1,33 @@
--- The help and the version of the program, and the words that ask for them.
-use Rattle.std.specs.Prelude.{ℕ, List, [], ◌∷◌, codes}
+-- The help and the version of the program and of its tasks, and the words that ask for them.
+use Rattle.std.specs.Prelude.{ℕ, List, [], ◌∷◌, ◌++◌, Option, None, Some, codes}
 use Rattle.prestel.specs.declared.about.About.{About}
 use Rattle.prestel.specs.declared.about.About.TheVariants.{Help, Version}
+use Rattle.prestel.specs.declared.task.Task.{Task}
+use Rattle.prestel.specs.declared.task.Task.TheVariants.{Play, Generate, Evening}
+use Rattle.prestel.specs.Task.{task_word}
 
--- the one word that asks for each
+-- the words before the one that asks: those of a task, or none for the whole program
+abbrev pub topic_words : Option Task → List (List ℕ)
+topic_words None = []
+topic_words (Some task) = task_word task ∷ []
+
+-- the words that ask for each
 abbrev pub about_words : About → List (List ℕ)
-about_words Help = codes "--help" ∷ []
-about_words Version = codes "--version" ∷ []
+about_words (Help topic) = topic_words topic ++ codes "--help" ∷ []
+about_words (Version topic) = topic_words topic ++ codes "--version" ∷ []
 
 -- which version it is
 abbrev pub version_text : List ℕ
 version_text = codes "prestel 0.1.0\n"
 
--- how it is used
-abbrev pub help_text : List ℕ
-help_text = codes "usage: prestel play N < SCRIPT\n       prestel gen N > SCRIPT\n       prestel evening N\n       prestel --help\n       prestel --version\n\nplay runs the script on standard input on a viewdata network of N retrieval\ncentres, 1 to 4, and writes an answer to each event.\ngen writes the script that is made by rule for the number N, 1 to 999.\nevening plays that script on one centre, and writes what came of it in one\nline: the records of the Update Centre, the screens, the charge lines, and\nthe pence of the bill.\n\nExit status:\n  0  everything was done\n  2  bad command line\n  3  a line of the script is not a valid command\n  4  standard input could not be read\n  5  standard output could not be written\n  6  out of memory\n  7  the script is longer than 1048576 bytes\n"
+-- how the program and each of its tasks are used
+abbrev pub help_text : Option Task → List ℕ
+help_text None = codes "usage: prestel play N < SCRIPT\n       prestel gen N > SCRIPT\n       prestel evening N\n       prestel --help\n       prestel --version\n\nplay runs the script on standard input on a viewdata network of N retrieval\ncentres, 1 to 4, and writes an answer to each event.\ngen writes the script that is made by rule for the number N, 1 to 999.\nevening plays that script on one centre, and writes what came of it in one\nline: the records of the Update Centre, the screens, the charge lines, and\nthe pence of the bill.\nEach of the three has a --help of its own.\n\nExit status:\n  0  everything was done\n  2  bad command line\n  3  a line of the script is not a valid command\n  4  standard input could not be read\n  5  standard output could not be written\n  6  out of memory\n  7  the script is longer than 1048576 bytes\n"
+help_text (Some Play) = codes "usage: prestel play N < SCRIPT\n\nRuns the script on standard input on a viewdata network of N retrieval\ncentres, 1 to 4, and writes an answer to each event to standard output.\nA script has at most 1048576 bytes. If one of its lines is not a valid\ncommand, the lines before it are run, and the status is 3.\n"
+help_text (Some Generate) = codes "usage: prestel gen N > SCRIPT\n\nWrites the script that is made by rule for the number N, 1 to 999, to\nstandard output: an operator stores N pages, and a caller gets 2N of them.\n"
+help_text (Some Evening) = codes "usage: prestel evening N\n\nPlays the script that is made by rule for the number N, 1 to 999, on one\ncentre. Writes one line to standard output: the records of the Update\nCentre, the screens, the charge lines, and the pence of the bill.\n"
 
 -- the text of each
 abbrev pub about_text : About → List ℕ
-about_text Help = help_text
-about_text Version = version_text
+about_text (Help topic) = help_text topic
+about_text (Version topic) = version_text

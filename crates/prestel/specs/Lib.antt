@@ -1,2 +1,4 @@
 pub mod About
 pub mod Program
+pub mod Task
+pub mod Wrong

@@ -1,5 +1,8 @@
-ghost use Rattle.std.specs.Prelude.{◌≡◌, ◌↔◌, map, Some, codes, string_bytes};
-ghost use Rattle.prestel.specs.About.{about_words, about_text};
+ghost use Rattle.std.specs.Prelude.{◌≡◌, ◌↔◌, ◌∷◌, ◌++◌, [], map, Some, string_bytes};
+ghost use Rattle.prestel.specs.About.{about_words, about_text, topic_words};
+
+use crate::task::Task;
+use std::fmt;
 
 /// The version of the program.
 const VERSION: &str = "prestel 0.1.0\n";
@@ -17,6 +20,7 @@ gen writes the script that is made by rule for the number N, 1 to 999.
 evening plays that script on one centre, and writes what came of it in one
 line: the records of the Update Centre, the screens, the charge lines, and
 the pence of the bill.
+Each of the three has a --help of its own.
 
 Exit status:
   0  everything was done
@@ -28,37 +32,62 @@ Exit status:
   7  the script is longer than 1048576 bytes
 ";
 
-/// What the program may be asked about itself.
+/// How `play` is used.
+const PLAY_HELP: &str = "usage: prestel play N < SCRIPT
+
+Runs the script on standard input on a viewdata network of N retrieval
+centres, 1 to 4, and writes an answer to each event to standard output.
+A script has at most 1048576 bytes. If one of its lines is not a valid
+command, the lines before it are run, and the status is 3.
+";
+
+/// How `gen` is used.
+const GENERATE_HELP: &str = "usage: prestel gen N > SCRIPT
+
+Writes the script that is made by rule for the number N, 1 to 999, to
+standard output: an operator stores N pages, and a caller gets 2N of them.
+";
+
+/// How `evening` is used.
+const EVENING_HELP: &str = "usage: prestel evening N
+
+Plays the script that is made by rule for the number N, 1 to 999, on one
+centre. Writes one line to standard output: the records of the Update
+Centre, the screens, the charge lines, and the pence of the bill.
+";
+
+/// What the program may be asked about itself, or about one of its tasks.
 #[derive(Clone, Copy, Debug, PartialEq, Eq)]
 pub enum About {
     /// How it is used.
-    Help,
+    Help(Option<Task>),
     /// Which version it is.
-    Version,
+    Version(Option<Task>),
 }
 
 impl About {
-    /// What the words ask for. `None` if they are not one word that asks for the help or the version.
+    /// What the words ask for. `None` if they are not `--help` or `--version`, alone or after the word of a task.
     pub fn asked(words: &[String]) -> Option<About>
-        ensures help { (result ≡ Some About.Help) ↔ (map string_bytes words.now ≡ about_words About.Help) }
-        ensures version { (result ≡ Some About.Version) ↔ (map string_bytes words.now
-            ≡ about_words About.Version) }
+        ensures { (about : About) → (result ≡ Some about) ↔ (map string_bytes words.now ≡ about_words about) }
     {
         match words {
-            [word] => About::of_word(word),
+            [word] => About::of_word(None, word),
+            [task, word] => match Task::of_word(task) {
+                Some(task) => About::of_word(Some(task), word),
+                None => None,
+            },
             _ => None,
         }
     }
 
-    /// What a word asks for. `None` if it asks for neither.
-    fn of_word(word: &str) -> Option<About>
-        ensures help { (result ≡ Some About.Help) ↔ (word.now ≡ codes "--help") }
-        ensures version { (result ≡ Some About.Version) ↔ (word.now ≡ codes "--version") }
+    /// What a word asks for, alone or after the word of a task. `None` if it asks for neither.
+    pub fn of_word(topic: Option<Task>, word: &str) -> Option<About>
+        ensures { (about : About) → (result ≡ Some about) ↔ (topic_words topic ++ word.now ∷ [] ≡ about_words about) }
     {
         if word == "--help" {
-            Some(About::Help)
+            Some(About::Help(topic))
         } else if word == "--version" {
-            Some(About::Version)
+            Some(About::Version(topic))
         } else {
             None
         }
@@ -69,8 +98,21 @@ impl About {
         ensures { result.now ≡ about_text self }
     {
         match self {
-            About::Help => HELP,
-            About::Version => VERSION,
+            About::Help(None) => HELP,
+            About::Help(Some(Task::Play)) => PLAY_HELP,
+            About::Help(Some(Task::Generate)) => GENERATE_HELP,
+            About::Help(Some(Task::Evening)) => EVENING_HELP,
+            About::Version(_) => VERSION,
         }
+    }
+}
+
+impl fmt::Display for About {
+    /// The word that asks for it.
+    fn fmt<W: fmt::Write>(&self, f: &mut fmt::Formatter<W>) -> fmt::Result {
+        f.write_str(match self {
+            About::Help(_) => "--help",
+            About::Version(_) => "--version",
+        })
     }
 }

@@ -13,48 +13,56 @@ ghost use Rattle.pv_outside.specs.Status.{number_of};
 
 mod about;
 mod program;
+mod progress;
+mod quoted;
+mod task;
 #[cfg(test)]
 mod tests;
+mod words_error;
 
 use crate::program::run_program;
+use crate::progress::Progress;
+use crate::words_error::{WordsError, error_of};
 use pv_files::{StandardInput, StandardOutput};
 use pv_outside::Status;
 use std::env;
-use std::io::{self, ErrorKind};
+use std::io::{self, ErrorKind, IsTerminal};
 use std::process::ExitCode;
 use std::rt::Env;
 
 fn main(rt: HostRuntime) -> ExitCode {
-    let status = run(&rt);
-    end(&rt, status)
+    let args = match args_of(&rt) {
+        Ok(args) => args,
+        Err(status) => return end(&rt, status, Some(WordsError::NotText)),
+    };
+    let words = words_of(&args);
+    let status = run(&rt, words, rt.stderr().is_terminal());
+    end(&rt, status, error_of(words))
 }
 
-/// Says on standard error why the program was not done, if it was not, and returns what the process ends with.
-fn end<R: Eprint>(rt: &R, status: Status) -> ExitCode
+/// Says in one line on standard error why the program was not done, if it was not, and returns what the process ends
+/// with. Of words that were refused it says what is wrong with them.
+fn end<R: Eprint>(rt: &R, status: Status, wrong: Option<WordsError<'_>>) -> ExitCode
     ensures { exit_status result ≡ number_of status }
 {
-    let _ = match status {
-        Status::Done => Ok(()),
-        Status::Usage => eprintln!(rt;
-            "prestel: usage: prestel play N < SCRIPT, N 1 to 4, or prestel gen N or evening N, N 1 to 999"
-        ),
+    let _ = match (status, wrong) {
+        (Status::Done, _) => Ok(()),
+        (Status::Usage, Some(error)) => eprintln!(rt; "prestel: {error}"),
         _ => eprintln!(rt; "prestel: {status}"),
     };
     ExitCode::from(status.number())
 }
 
-/// Runs the program with the command line's words, standard input and standard output.
-fn run<R: AllocGlobal + Env + Input + Print>(rt: &R) -> Status {
+/// Runs the program with the words of the command line, standard input and standard output. Long work says on standard error
+/// how far it is, if that is seen.
+fn run<R: AllocGlobal + Input + Print + Eprint>(rt: &R, words: &[String], is_seen: bool) -> Status {
     let alloc = rt.alloc();
-    let args = match args_of(rt) {
-        Ok(args) => args,
-        Err(status) => return status,
-    };
-    let Ok(mut out) = StandardOutput::new(alloc, io::writer(rt)) else {
+    let writer = Progress::new(rt, io::writer(rt), is_seen);
+    let Ok(mut out) = StandardOutput::new(alloc, writer) else {
         return Status::Memory;
     };
     let mut script = StandardInput::new(rt.reader());
-    run_program(alloc, words_of(&args), &mut script, &mut out)
+    run_program(alloc, words, &mut script, &mut out)
 }
 
 /// The command line: the program's name, and its words. Words that are no text are none of the program's.

@@ -7,6 +7,7 @@ mod letters;
 
 use crate::about::About;
 use crate::program::run_program;
+use crate::task::Task;
 use pv_files::{StandardInput, StandardOutput};
 use pv_memory::{MemSink, MemSource};
 use pv_outside::{Failed, Sink, Status};
@@ -573,12 +574,20 @@ fn other_words_are_refused(rt: HostRuntime) -> Result<(), Fail> {
 }
 
 #[test]
-fn help_and_the_version_are_asked_for_by_one_word(rt: HostRuntime) -> Result<(), Fail> {
+fn help_and_the_version_are_asked_for_alone_or_of_a_task(rt: HostRuntime) -> Result<(), Fail> {
     let alloc = rt.alloc();
-    let cases: [(&[&str], Option<About>); 5] = [
-        (&["--help"], Some(About::Help)),
-        (&["--version"], Some(About::Version)),
+    let cases: [(&[&str], Option<About>); 10] = [
+        (&["--help"], Some(About::Help(None))),
+        (&["--version"], Some(About::Version(None))),
+        (&["play", "--help"], Some(About::Help(Some(Task::Play)))),
+        (&["gen", "--help"], Some(About::Help(Some(Task::Generate)))),
+        (
+            &["evening", "--version"],
+            Some(About::Version(Some(Task::Evening))),
+        ),
         (&["--help", "--version"], None),
+        (&["help", "--help"], None),
+        (&["play", "1", "--help"], None),
         (&["-h"], None),
         (&[], None),
     ];

@@ -1,37 +1,34 @@
-use Rattle.std.proofs.Common.{◌≡◌, ℕ, List, Option, Some, sym, subst, ◌∙◌}
-use Rattle.std.specs.Prelude.{◌↔◌}
+use Rattle.std.proofs.Common.{◌≡◌, ℕ, List, Option, subst, lit<, codes}
 use Rattle.pv_outside.specs.declared.status.Status.{Status}
 use Rattle.pv_outside.specs.declared.status.Status.TheVariants.{Usage}
-use Rattle.prestel.specs.declared.about.About.{About}
-use Rattle.prestel.specs.declared.about.About.TheVariants.{Help, Version}
+use Rattle.pv_gen.specs.declared.writing.TheConstants.{LAST_NUMBER}
+use Rattle.pv_network.specs.declared.event.TheConstants.{MAX_CENTRES}
 use Rattle.pv_files.specs.declared.standard.StandardOutput.{StandardOutput}
-use Rattle.prestel.specs.About.{about_words}
-use Rattle.pv_script.specs.Asking.{AskNot}
 use Rattle.prestel.specs.Program.{WritesText}
+use Rattle.prestel.proofs.Words.{about_is_no_task}
 use Rattle.prestel.proofs.program.run_program.Goals as goal
-
--- the words are those that ask for what was asked for
-words_that_ask : (words : List (List ℕ)) (asked : Option About) (about : About) → (asked ≡ Some Help ↔ words ≡ about_words Help) → (asked ≡ Some Version ↔ words ≡ about_words Version) → asked ≡ Some about → words ≡ about_words about
-words_that_ask words asked Help help version is = help.0 is
-words_that_ask words asked Version help version is = version.0 is
 
 -- help and the version never end with the words at fault
 never_usage : {W : Type 0} (contents : W → Option (List ℕ)) (text : List ℕ) (status : Status) (before now : StandardOutput W) → WritesText contents text before now status → status ≡ Usage → ⊥
 never_usage contents text status before now written is = subst (λ (s : Status). WritesText contents text before now s) is written
 
--- words that ask for the help or the version are no command with a number
-no_number : (command : List ℕ) (last : ℕ) (words : List (List ℕ)) (about : About) → words ≡ about_words about → AskNot command last words
-no_number command last words Help is = λ number asks. let both = sym is ∙ asks.asked in absurd cc
-no_number command last words Version is = λ number asks. let both = sym is ∙ asks.asked in absurd cc
+-- the words ask for help or the version, and so for no task
+pub returns-in-Some-clause-generates : goal.returns-in-Some-clause-generates
+returns-in-Some-clause-generates g c = λ number asks.
+    absurd (about_is_no_task (codes "gen") LAST_NUMBER number (lit< tt) _ c.in-Some.about ((c.asked.ensures c.in-Some.about).0 c.in-Some.is) asks)
+
+pub returns-in-Some-clause-sums_up : goal.returns-in-Some-clause-sums_up
+returns-in-Some-clause-sums_up g c = λ number asks.
+    absurd (about_is_no_task (codes "evening") LAST_NUMBER number (lit< tt) _ c.in-Some.about ((c.asked.ensures c.in-Some.about).0 c.in-Some.is) asks)
 
 pub returns-in-Some-clause-runs : goal.returns-in-Some-clause-runs
-returns-in-Some-clause-runs g c = λ centres asks. absurd (no_number _ _ _ c.in-Some.about
-    (words_that_ask _ _ c.in-Some.about c.asked.ensures.help c.asked.ensures.version c.in-Some.is) centres asks)
+returns-in-Some-clause-runs g c = λ centres asks.
+    absurd (about_is_no_task (codes "play") MAX_CENTRES centres (lit< tt) _ c.in-Some.about ((c.asked.ensures c.in-Some.about).0 c.in-Some.is) asks)
 
 pub returns-in-Some-clause-usage : goal.returns-in-Some-clause-usage
 returns-in-Some-clause-usage g c = (
   (λ is. absurd (never_usage g.W.Write.contents _ c.write_about.result c.args.out.now c.write_about.new.out c.write_about.ensures.about is)),
-  (λ others. absurd (others.3 c.in-Some.about (words_that_ask _ _ c.in-Some.about c.asked.ensures.help c.asked.ensures.version c.in-Some.is))),
+  (λ others. absurd (others.3 c.in-Some.about ((c.asked.ensures c.in-Some.about).0 c.in-Some.is))),
 )
 
 pub returns-in-Usage-evening_out-clause-runs : goal.returns-in-Usage-evening_out-clause-runs
