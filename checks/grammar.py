@@ -3,7 +3,7 @@
 
     checks/grammar.py CENTRES < SCRIPT    prints the number of the first line that is not valid
 
-checks/run plays what `tried` makes of each form of a line, and compares.
+checks/run plays what `few` and `many` make of a line of each form, and compares.
 """
 import re
 import sys
@@ -113,12 +113,10 @@ EDGES += [b"+1", b"-1", b"1.0", b"0x1", b"1e1", b"1_0", b"\xef\xbc\x91", b"list"
 
 
 def changed(line):
-    """What is nearly this line: a word missing, more, doubled spaces and zeros, and cut at every place; each word replaced."""
+    """What is nearly this line: a word missing, one more, two spaces, a leading zero, other letters; the line cut at every place, or longer."""
     words = line.split(b" ")
     for at, word in enumerate(words):
         before, after = words[:at], words[at + 1 :]
-        for edge in EDGES if before else []:
-            yield b" ".join([*before, edge, *after])
         yield b" ".join(before + after)
         yield b" ".join([*before, word, word, *after])
         yield b" ".join([*before, b"", word, *after])
@@ -130,6 +128,14 @@ def changed(line):
     yield b" " + line
 
 
+def with_edges(line):
+    """The line with each of the edges in the place of each word but the first."""
+    words = line.split(b" ")
+    for at in range(1, len(words)):
+        for edge in EDGES:
+            yield b" ".join([*words[:at], edge, *words[at + 1 :]])
+
+
 def with_kinds(line):
     """The line with a byte of every kind in the place of each of its bytes, before each, and after the last."""
     for at in range(len(line) + 1):
@@ -138,9 +144,14 @@ def with_kinds(line):
             yield line[:at] + bytes([kind]) + line[at:]
 
 
-def tried():
-    """Every line that is tried, once: those of the forms, and those that are nearly so."""
-    return list(dict.fromkeys(made for line in SAMPLES for made in (line, *changed(line), *with_kinds(line))))
+def few():
+    """The samples, and what is nearly each of them."""
+    return list(dict.fromkeys(made for line in SAMPLES for made in (line, *changed(line))))
+
+
+def many():
+    """The samples with edges and bytes of every kind."""
+    return list(dict.fromkeys(made for line in SAMPLES for made in (*with_edges(line), *with_kinds(line))))
 
 
 if __name__ == "__main__":

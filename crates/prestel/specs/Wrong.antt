@@ -1,11 +1,11 @@
 -- Which words of the command line the program takes, and what is wrong with the others.
-use Rattle.std.specs.Prelude.{◌≡◌, ◌≢◌, ℕ, ◌≤◌, ◌⊎◌, List, [], ◌∷◌, ◌++◌, None, Some, decimal}
+use Rattle.std.specs.Prelude.{◌≡◌, ◌≢◌, ℕ, ◌≤◌, ◌⊎◌, List, [], ◌∷◌, ◌++◌, decimal}
 use Rattle.pv_script.specs.Asking.{AskFor}
 use Rattle.prestel.specs.declared.about.About.{About}
 use Rattle.prestel.specs.declared.task.Task.{Task}
 use Rattle.prestel.specs.declared.words_error.WordsError.{WordsError}
 use Rattle.prestel.specs.declared.words_error.WordsError.TheVariants.{NoCommand, UnknownCommand, NoNumber, NotNumber, AfterNumber, AfterAbout, NotText}
-use Rattle.prestel.specs.About.{about_words, topic_words}
+use Rattle.prestel.specs.About.{about_words}
 use Rattle.prestel.specs.Task.{task_word, last_number}
 
 -- ---- words that are taken

@@ -199,7 +199,8 @@ view_answered name (Some frame) = tt
 -- in a world whose edit list is valid
 module _ (w : World) (all : All IsRecord w.update.records) where
   event_answered : (event : Event) (choice : Choice) → RepliesByLine (happens w event choice).1
-  event_answered (events.Seed name row) choice = let asked = seed_request w name row in verdict_line (verdict_of w.update (Edit asked.0 asked.1 asked.2)).reply
+  event_answered (events.Seed name row) choice =
+      let asked = seed_request w name row in verdict_line (verdict_of w.update (Edit asked.0 asked.1 asked.2)).reply
   event_answered (events.Edit port line) choice =
       let turn = step_of_line w port choice.said in
       said_line turn.0 all port turn.1 (turn_is_line (seat_at w port) w.update.records (all_places w.update.records) choice.said)
@@ -216,7 +217,8 @@ module _ (w : World) (all : All IsRecord w.update.records) where
   event_answered (events.Carry c) choice = rounds_answered _ c w ways.Down _
   event_answered (events.Crash nodes.Udc) choice = tt
   event_answered (events.Crash (nodes.Centre c)) choice = tt
-  event_answered (events.Cut calls image command) choice = stop_answered w (node_of command) (stored_world w command choice.said) choice.kept
+  event_answered (events.Cut calls image command) choice =
+      stop_answered w (node_of command) (stored_world w command choice.said) choice.kept
   event_answered (events.Clock moment) choice = tt
   event_answered (events.View c name) choice = view_answered name (frame_at (page_base w c) name)
   event_answered (events.At c) choice = tt

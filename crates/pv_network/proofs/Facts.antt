@@ -252,5 +252,8 @@ delivery_is_cut edit = (refl, refl, refl, refl)
 -- ---- replies
 
 -- A and Z are capital letters, and the codes on either side are not
-capitals : IsInRange first_capital last_capital 65 × IsInRange first_capital last_capital 90 × (IsInRange first_capital last_capital 64 → ⊥) × (IsInRange first_capital last_capital 91 → ⊥)
+abbrev IsCapital : ℕ → Type 0
+IsCapital code = IsInRange first_capital last_capital code
+
+capitals : IsCapital 65 × IsCapital 90 × (IsCapital 64 → ⊥) × (IsCapital 91 → ⊥)
 capitals = ((lit≤ tt, lit≤ tt), (lit≤ tt, lit≤ tt), (λ is. omega (arith, is.0)), (λ is. omega (arith, is.1)))

@@ -57,7 +57,8 @@ words_unbroken code shown =
 
 -- the reply to a request
 pub verdict_line : (reply : UdcReplyView) → IsReplyLine (reply_of reply)
-verdict_line (Stored place) = record { whole = with_number (codes "OK ") place refl; first = _; rest = _; is = refl; capital = (lit≤ tt, lit≤ tt) }
+verdict_line (Stored place) =
+    record { whole = with_number (codes "OK ") place refl; first = _; rest = _; is = refl; capital = (lit≤ tt, lit≤ tt) }
 verdict_line (Refused code shown) =
     let words = unbroken-append (codes " ") (refusal_words code shown) refl (words_unbroken code shown) in
     let number = unbroken-append (decimal code) (codes " " ++ refusal_words code shown) (unbroken-decimal code) words in
@@ -123,7 +124,8 @@ response_line place reply is =
       capital = (lit≤ tt, lit≤ tt);
     }
 
-item_line : (found : Option (ℕ × Item)) → ((place : ℕ) (item : Item) → found ≡ Some (place, item) → IsItem item) → IsReplyLine (responses_reply found)
+item_line : (found : Option (ℕ × Item)) → ((place : ℕ) (item : Item) → found ≡ Some (place, item) → IsItem item)
+    → IsReplyLine (responses_reply found)
 item_line None valid = record { whole = refl; first = _; rest = _; is = refl; capital = (lit≤ tt, lit≤ tt) }
 item_line (Some (place, items.Charge line)) valid = record { whole = refl; first = _; rest = _; is = refl; capital = (lit≤ tt, lit≤ tt) }
 item_line (Some (place, items.Reply reply)) valid = response_line place reply (valid place (items.Reply reply) refl)
@@ -141,13 +143,15 @@ own_line : (editor : Option ℕ) (step : ℕ → EditStep) → ((e : ℕ) → St
 own_line None step each = verdict_line (plain 1)
 own_line (Some editor) step each = each editor
 
-working_line : (working : Option Working) (step : Working → EditStep) → ((w : Working) → StepIsReplyLine (step w)) → StepIsReplyLine (with_working working step)
+working_line : (working : Option Working) (step : Working → EditStep) → ((w : Working) → StepIsReplyLine (step w))
+    → StepIsReplyLine (with_working working step)
 working_line None step each = verdict_line (plain 12)
 working_line (Some working) step each = each working
 
 -- a line that is not refused
 done_line : (seat : EditorSeat) (edits : List Record) (places : List ℕ) (line : EditLine) → StepIsReplyLine (step_of seat edits places line)
-done_line seat edits places (lines.LogOn account password) = record { whole = refl; first = _; rest = _; is = refl; capital = (lit≤ tt, lit≤ tt) }
+done_line seat edits places (lines.LogOn account password) =
+    record { whole = refl; first = _; rest = _; is = refl; capital = (lit≤ tt, lit≤ tt) }
 done_line seat edits places (lines.New name) = record { whole = refl; first = _; rest = _; is = refl; capital = (lit≤ tt, lit≤ tt) }
 done_line seat edits places (lines.Open name) = record { whole = refl; first = _; rest = _; is = refl; capital = (lit≤ tt, lit≤ tt) }
 done_line seat edits places (lines.Change change) = record { whole = refl; first = _; rest = _; is = refl; capital = (lit≤ tt, lit≤ tt) }
@@ -197,12 +201,14 @@ found_valid edits all None p item is = absurd cc
 found_valid edits all (Some place) p item is = there_valid edits all place p item (slice_get edits place) refl is
 
 -- a search for responses in a valid list
-pub responses_line : (edits : List Record) → All IsRecord edits → (editor from : ℕ) → IsReplyLine (responses_reply (reply_found edits editor from))
+pub responses_line : (edits : List Record) → All IsRecord edits → (editor from : ℕ)
+    → IsReplyLine (responses_reply (reply_found edits editor from))
 responses_line edits all editor from = item_line (reply_found edits editor from) (found_valid edits all (reply_place edits editor from))
 
 -- ---- an event
 
-pub said_line : (w : World) → All IsRecord w.update.records → (port : ℕ) (step : EditStep) → StepIsReplyLine step → RepliesByLine (step_of_said w port step).1
+pub said_line : (w : World) → All IsRecord w.update.records → (port : ℕ) (step : EditStep) → StepIsReplyLine step
+    → RepliesByLine (step_of_said w port step).1
 said_line w all port (steps.Say text) is = is
 said_line w all port (steps.Ask editor q wish) is = verdict_line (verdict_of w.update (Edit editor q wish)).reply
 said_line w all port (steps.Responses editor from) is = responses_line w.update.records all editor from

@@ -2,6 +2,7 @@ pub mod CallerLemmas
 pub mod Counting
 pub mod Ending
 pub mod Facts
+pub mod Fates
 pub mod Forms
 pub mod Generated
 pub mod Happening
@@ -12,4 +13,3 @@ pub mod Plain
 pub mod Reading
 pub mod Running
 pub mod Summing
-pub mod Telling

@@ -18,21 +18,23 @@ use Rattle.pv_script.specs.Ends.{HasRun, IsTallied, IsLineEnd, IsRunEnd}
 use Rattle.pv_script.specs.Grammar.{ReadsLine, HasNoForm, IsCommandChoice}
 use Rattle.pv_script.specs.Play.{IsTranscript, StopsAfterLine}
 use Rattle.pv_script.specs.Tally.{outcomes_to, outcomes_of, tally_of, AddsOutcomes}
-use Rattle.pv_script.specs.Telling.{cut_of, cuts_of, Tells, TellsOfCut}
+use Rattle.pv_script.specs.Fates.{fate_of, fates_of, HasFates, HasFatesOf}
 use Rattle.pv_script.specs.Transcript.{AreRead, answer_to, answers, world_after_command, world_after_all}
 use Rattle.pv_script.proofs.CallerLemmas.{Appends-none, Appends-more}
 use Rattle.pv_script.proofs.Counting.{outcomes_of-push, adds_none, adds_more, adds_all}
-use Rattle.pv_script.proofs.Telling.{tells_none, tells-append, tells_all}
+use Rattle.pv_script.proofs.Fates.{no_fates, fates-append, all_fates}
 
 -- ---- one command more
 
 -- the world after one command more
-world_after_command-push : (w : World) (runs : List (Command × Choice)) (run : Command × Choice) → world_after_all w (runs ++ run ∷ []) ≡ world_after_command (world_after_all w runs) run.0 run.1
+world_after_command-push : (w : World) (runs : List (Command × Choice)) (run : Command × Choice)
+    → world_after_all w (runs ++ run ∷ []) ≡ world_after_command (world_after_all w runs) run.0 run.1
 world_after_command-push w [] run = refl
 world_after_command-push w (first ∷ runs) run = world_after_command-push (world_after_command w first.0 first.1) runs run
 
 -- what is written for one command more
-answers-push : (w : World) (runs : List (Command × Choice)) (run : Command × Choice) → answers w (runs ++ run ∷ []) ≡ answers w runs ++ answer_to (world_after_all w runs) run.0 run.1
+answers-push : (w : World) (runs : List (Command × Choice)) (run : Command × Choice)
+    → answers w (runs ++ run ∷ []) ≡ answers w runs ++ answer_to (world_after_all w runs) run.0 run.1
 answers-push w [] run = append-nil (answer_to w run.0 run.1)
 answers-push w (first ∷ runs) run =
     ap (λ (l : List ℕ). answer_to w first.0 first.1 ++ l) (answers-push (world_after_command w first.0 first.1) runs run)
@@ -50,22 +52,22 @@ read-push w centres number at (l ∷ ls) [] line run is read reads choice = absu
 read-push w centres number at (l ∷ ls) (c ∷ cs) line run is read reads choice =
     (read.0, read.1, read-push (world_after_command w c.0 c.1) centres (number + 1) at ls cs line run (omega (arith, is)) read.2 reads choice)
 
--- one command more tells what it tells
-tells-push : (w : World) (runs : List (Command × Choice)) (run : Command × Choice) → Tells (answers w runs) (cuts_of w runs)
-    → TellsOfCut (answer_to (world_after_all w runs) run.0 run.1) (outcomes_to (world_after_all w runs) run.0 run.1)
-    → Tells (answers w (runs ++ run ∷ [])) (cuts_of w (runs ++ run ∷ []))
-tells-push w runs run before here =
+-- the fates with those of one command more
+fates-push : (w : World) (runs : List (Command × Choice)) (run : Command × Choice) → HasFates (answers w runs) (fates_of w runs)
+    → HasFatesOf (answer_to (world_after_all w runs) run.0 run.1) (outcomes_to (world_after_all w runs) run.0 run.1)
+    → HasFates (answers w (runs ++ run ∷ [])) (fates_of w (runs ++ run ∷ []))
+fates-push w runs run before here =
     let after = world_after_all w runs in
-    let told = ap (flat_map cut_of) (outcomes_of-push w runs run) ∙ flat_map-append cut_of (outcomes_of w runs) (outcomes_to after run.0 run.1) in
-    subst (λ (l : List Bool). Tells (answers w (runs ++ run ∷ [])) l) (sym told)
-    (subst (λ (l : List ℕ). Tells l (cuts_of w runs ++ flat_map cut_of (outcomes_to after run.0 run.1))) (sym (answers-push w runs run))
-    (tells-append (answers w runs) (answer_to after run.0 run.1) _ _ before here))
+    let fates = ap (flat_map fate_of) (outcomes_of-push w runs run) ∙ flat_map-append fate_of (outcomes_of w runs) (outcomes_to after run.0 run.1) in
+    subst (λ (l : List Bool). HasFates (answers w (runs ++ run ∷ [])) l) (sym fates)
+    (subst (λ (l : List ℕ). HasFates l (fates_of w runs ++ flat_map fate_of (outcomes_to after run.0 run.1))) (sym (answers-push w runs run))
+    (fates-append (answers w runs) (answer_to after run.0 run.1) _ _ before here))
 
 -- ---- the run so far
 
 module _ (centres : ℕ) (first : World) (text : List ℕ) (before : Option (List ℕ)) where
   -- the lines before the rest were run, the network stands for the world after them, their answers were written, and what came of
-  -- them was counted and is told
+  -- them was counted, and its fates are said
   pub record Progress (rest : List ℕ) (number : ℕ) (network : State) (now : Option (List ℕ)) (tally : Tally) : Type 0 where
     pub done : List (List ℕ)
     pub lines : lines_of text ≡ done ++ lines_of rest
@@ -73,7 +75,7 @@ module _ (centres : ℕ) (first : World) (text : List ℕ) (before : Option (Lis
     pub transcript : IsTranscript centres first done before now
     pub stands : StandsFor network (world_after_all first transcript.runs)
     pub counted : AddsOutcomes (tally_of []) tally (outcomes_of first transcript.runs)
-    pub told : Tells (answers first transcript.runs) (cuts_of first transcript.runs)
+    pub fates : HasFates (answers first transcript.runs) (fates_of first transcript.runs)
 
   -- no line has no answer
   nothing_written : IsTranscript centres first [] before before
@@ -83,7 +85,7 @@ module _ (centres : ℕ) (first : World) (text : List ℕ) (before : Option (Lis
   pub begins : (network : State) → StandsFor network first → Progress text 0 network before (tally_of [])
   unfolding nothing_written
   begins network stands =
-      record { done = []; lines = refl; count = refl; transcript = nothing_written; stands = stands; counted = adds_none (tally_of []); told = tells_none }
+      record { done = []; lines = refl; count = refl; transcript = nothing_written; stands = stands; counted = adds_none (tally_of []); fates = no_fates }
 
   -- nothing was run yet
   pub stops_at_once : StopsAfterLine centres first text before before
@@ -99,7 +101,7 @@ module _ (centres : ℕ) (first : World) (text : List ℕ) (before : Option (Lis
       record {
         played = record {
           transcript = record { runs = t.runs; read = subst (λ (l : List (List ℕ)). AreRead first centres 1 l t.runs) all t.read; written = t.written };
-          told = tells_all (answers first t.runs) (cuts_of first t.runs) p.told;
+          fates = all_fates (answers first t.runs) (fates_of first t.runs) p.fates;
           stands = p.stands;
           one_list = p.stands.sound.law;
           owed = λ c serial. (p.stands.charged c).owed serial;
@@ -114,7 +116,8 @@ module _ (centres : ℕ) (first : World) (text : List ℕ) (before : Option (Lis
     longer = p.lines ∙ ap (λ (l : List (List ℕ)). p.done ++ l) is ∙ sym (append_assoc p.done (line ∷ []) (lines_of later))
 
     -- one line more was run
-    pub goes_on : (new : State) (to : Tally) → HasRun centres (number + 1 == 1) line old new mid now from to → Progress later (number + 1) new now to
+    pub goes_on : (new : State) (to : Tally) → HasRun centres (number + 1 == 1) line old new mid now from to
+        → Progress later (number + 1) new now to
     goes_on new to run =
         let runs = p.transcript.runs in
         let step = run.2 (world_after_all first runs) p.stands in
@@ -131,11 +134,12 @@ module _ (centres : ℕ) (first : World) (text : List ℕ) (before : Option (Lis
           };
           stands = subst (λ (w : World). StandsFor new w) (sym (world_after_command-push first runs next)) step.2;
           counted = subst (λ (l : List Outcome). AddsOutcomes (tally_of []) to l) (sym (outcomes_of-push first runs next)) counted;
-          told = tells-push first runs next p.told step.5;
+          fates = fates-push first runs next p.fates step.5;
         }
 
     -- the next line was not run
-    pub stops : (faults_before faults_mid faults_now : ℕ) (end : RunEnd) → faults_before ≤ faults_mid → IsLineEnd centres line (number + 1) old mid now faults_mid faults_now end
+    pub stops : (faults_before faults_mid faults_now : ℕ) (end : RunEnd) → faults_before ≤ faults_mid
+        → IsLineEnd centres line (number + 1) old mid now faults_mid faults_now end
         → IsRunEnd centres first text before now faults_before faults_now end
     stops faults_before faults_mid faults_now (BadLine bad) counted end = record {
       run = p.done;

@@ -18,7 +18,7 @@ use Rattle.pv_script.specs.Grammar.{ReadsLine, HasNoForm, IsCommandChoice}
 use Rattle.pv_script.specs.Transcript.{answer_to, world_after_command}
 use Rattle.pv_script.specs.declared.tally.Tally.{Tally}
 use Rattle.pv_script.specs.Play.{longest_script, IsPlayed, StopsAtBadLine, StopsInAnswers, StopsAfterLine}
-use Rattle.pv_script.specs.Telling.{TellsOfCut}
+use Rattle.pv_script.specs.Fates.{HasFatesOf}
 use Rattle.pv_script.specs.Tally.{outcomes_to, outcomes_of, tally_of, AddsOutcomes}
 
 -- the status of a play whose script was not read to its end
@@ -39,12 +39,12 @@ IsReadEnd text faults_before faults_now reads.TooLong = length text ≡ longest_
 IsReadEnd text faults_before faults_now reads.Fault = (length text ≤ longest_script) × Rose faults_before faults_now
 IsReadEnd text faults_before faults_now reads.Memory = text ≡ []
 
--- a command was run: for each world that the network stood for it stands for the next, the answer was written and tells of a cut only
--- if the command is one, and what came of it was added to the tally
+-- A command was run: for each world that the network stood for it stands for the next. The answer was written, and says the fate of a
+-- record only if the command is a cut. What came of it was added to the tally.
 abbrev pub GivesAnswer : Command → State → State → Option (List ℕ) → Option (List ℕ) → Tally → Tally → Type 0
 GivesAnswer command old new before now from to = (w : World) → StandsFor old w → (choice : Choice) × IsCommandChoice w command choice
     × StandsFor new (world_after_command w command choice) × Appends before now (answer_to w command choice)
-    × AddsOutcomes from to (outcomes_to w command choice) × TellsOfCut (answer_to w command choice) (outcomes_to w command choice)
+    × AddsOutcomes from to (outcomes_to w command choice) × HasFatesOf (answer_to w command choice) (outcomes_to w command choice)
 
 -- a command was begun: for each world that the network stood for a prefix of the answer was written
 abbrev pub HasBegun : Command → State → Option (List ℕ) → Option (List ℕ) → Type 0

@@ -1,12 +1,12 @@
 pub mod Asking
 pub mod Ends
 pub mod Evening
+pub mod Fates
 pub mod Generating
 pub mod Grammar
 pub mod Play
 pub mod Readers
 pub mod Storing
 pub mod Tally
-pub mod Telling
 pub mod Transcript
 pub mod Words

@@ -15,7 +15,7 @@ use Rattle.pv_network.specs.Step.{Choice}
 use Rattle.pv_script.specs.declared.grammar.Command.{Command}
 use Rattle.pv_script.specs.Asking.{AskFor, AskNot}
 use Rattle.pv_script.specs.Grammar.{ReadsLine, HasNoForm}
-use Rattle.pv_script.specs.Telling.{told_by, cuts_of}
+use Rattle.pv_script.specs.Fates.{fates_in, fates_of}
 use Rattle.pv_script.specs.Transcript.{AreRead, answers, world_after_all}
 
 -- the words ask for a play of this many centres, which are one to four
@@ -58,12 +58,12 @@ pub record IsTranscript (centres : ℕ) (first : World) (lines : List (List ℕ)
   pub read : AreRead first centres 1 lines runs
   pub written : Appends written_before written_now (answers first runs)
 
--- Every line of the text was run: what was written is the answers. Its lines tell which cuts kept their record and which lost it,
--- so that what was open in them is told by what was written. The network stands for the world after them, in which the law of the one
--- list and the law of charging hold.
+-- Every line of the text was run: what was written is the answers. Its lines `kept` and `lost` are the fates of the cuts' records, so
+-- that it says what was open in them. The network stands for the world after them, in which the law of the one list and the law of
+-- charging hold.
 pub record IsPlayed (centres : ℕ) (first : World) (text : List ℕ) (network : State) (written_before written_now : Option (List ℕ)) : Type 0 where
   pub transcript : IsTranscript centres first (lines_of text) written_before written_now
-  pub told : told_by (answers first transcript.runs) ≡ cuts_of first transcript.runs
+  pub fates : fates_in (answers first transcript.runs) ≡ fates_of first transcript.runs
   pub stands : StandsFor network (world_after_all first transcript.runs)
   pub one_list : OneList (world_after_all first transcript.runs)
   pub owed : OwedLines (world_after_all first transcript.runs)

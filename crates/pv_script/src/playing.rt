@@ -279,6 +279,8 @@ fn run_event<K: Sink>(
         (K.written out.new) answers.old.tally answers.new.tally) }
     ensures err { IfErr result (IsAnswerEnd (Do event.now) network.old
         (K.written out.old) (K.written out.new) (K.write_faults out.old) (K.write_faults out.new)) }
+
+    // No count of faults falls, no centre is lost, and the tally has at most one line's outcome more.
     ensures counted { K.write_faults out.old ≤ K.write_faults out.new }
     ensures centres { length network.new.centres ≡ length network.old.centres }
     ensures within { (count : ℕ) → IsTallyWithin answers.old.tally count

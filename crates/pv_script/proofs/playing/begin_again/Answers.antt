@@ -5,7 +5,7 @@ use Rattle.pv_network.specs.Standing.{StandsFor}
 use Rattle.pv_network.specs.World.{start}
 use Rattle.pv_script.specs.Transcript.{limits_text}
 use Rattle.pv_script.proofs.Counting.{adds_none}
-use Rattle.pv_script.proofs.Telling.{limits_tell}
+use Rattle.pv_script.proofs.Fates.{limits_have_none}
 use Rattle.pv_script.proofs.Reading.{whole_written, prefix_written}
 use Rattle.pv_script.proofs.Happening.{count_stands}
 use Rattle.pv_script.proofs.playing.begin_again.Goals as goal
@@ -22,7 +22,7 @@ returns-clause-ok g c =
       subst (λ (n : ℕ). StandsFor c.in-Ok.fresh (start n c.args.limits)) (sym c.requires.centres ∙ count_stands c.args.network.now w stands) c.in-Ok.ensures.ok,
       subst (λ (l : List ℕ). Appends (g.K.Sink.written c.args.out.now) (g.K.Sink.written c.write_all.new.self) l) text whole,
       adds_none c.args.answers.now.tally,
-      limits_tell c.args.limits,
+      limits_have_none c.args.limits,
     )
 
 -- the answer could not be written

@@ -4,12 +4,12 @@ use Rattle.std.specs.Io.KnownBytes.{Appends}
 use Rattle.pv_script.specs.Transcript.{answer_text}
 use Rattle.pv_network.specs.declared.outcome.Outcome.{Outcome}
 use Rattle.pv_script.specs.Tally.{AddsOutcomes}
-use Rattle.pv_script.specs.Telling.{TellsOfCut}
+use Rattle.pv_script.specs.Fates.{HasFatesOf}
 use Rattle.pv_script.proofs.Reading.{whole_written, prefix_written}
-use Rattle.pv_script.proofs.Telling.{event_tells}
+use Rattle.pv_script.proofs.Fates.{event_has_its_fate}
 use Rattle.pv_script.proofs.playing.run_event.Goals as goal
 
--- the answer was written, and tells of a cut only if the event is one
+-- the answer was written, and says a fate only if the event is a cut
 pub returns-clause-ok : goal.returns-clause-ok
 returns-clause-ok g c =
     let text : c.deref.result.now ≡ answer_text c.in-Ok.outcome = search rules in
@@ -22,7 +22,7 @@ returns-clause-ok g c =
       done.2,
       subst (λ (l : List ℕ). Appends (g.K.Sink.written c.args.out.now) (g.K.Sink.written c.write_all.new.self) l) (text ∙ ap answer_text done.3) whole,
       subst (λ (o : Outcome). AddsOutcomes c.args.answers.now.tally c.add.new.self (o ∷ [])) done.3 c.add.ensures.adds,
-      subst (λ (o : Outcome). TellsOfCut (answer_text o) (o ∷ [])) done.3 (event_tells c.in-Ok.outcome c.in-Ok.ensures.replies),
+      subst (λ (o : Outcome). HasFatesOf (answer_text o) (o ∷ [])) done.3 (event_has_its_fate c.in-Ok.outcome c.in-Ok.ensures.replies),
     )
 
 -- the answer could not be written

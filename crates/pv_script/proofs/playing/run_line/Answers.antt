@@ -5,7 +5,7 @@ use Rattle.pv_script.proofs.CallerLemmas.{Appends-none}
 use Rattle.pv_script.proofs.Counting.{adds_none, within_more}
 use Rattle.pv_script.specs.Grammar.{Asks, AsksAs, ReadsLine}
 use Rattle.pv_script.proofs.Happening.{can_happen}
-use Rattle.pv_script.proofs.Telling.{tells_none}
+use Rattle.pv_script.proofs.Fates.{no_fates}
 use Rattle.pv_script.proofs.playing.run_line.Goals as goal
 
 -- an event that a line reads as is one that it asks for
@@ -35,7 +35,7 @@ returns-in-Some-Nothing-clause-ok g c = (
   rw c.in-Some-Nothing.field-0-is at c.in-Some-Nothing.ensures.found,
   λ w stands.
       let written = Appends-none (g.K.Sink.written c.args.out.now) in
-      (record { kept = true; said = None; keyed = [] }, tt, stands, written, adds_none c.args.answers.now.tally, tells_none),
+      (record { kept = true; said = None; keyed = [] }, tt, stands, written, adds_none c.args.answers.now.tally, no_fates),
 )
 
 -- nothing is counted
