@@ -1,4 +1,5 @@
 mod Canonical
 mod Facts
+mod Plain
 mod Rows
 mod Squares

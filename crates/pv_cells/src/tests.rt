@@ -71,8 +71,14 @@ fn notation_is_canonical(rt: HostRuntime) -> Result<(), Fail> {
 #[test]
 fn notation_is_appended_to_a_text(rt: HostRuntime) -> Result<(), Fail> {
     let mut text = Vec::from_slice(rt.alloc(), b"screen ")?;
-    push_notation(&[0x0c, b'A', b'\\', 0xff, b'~'], &mut text)?;
+    push_notation(b"\x0cA\\\xff~", &mut text)?;
     assert_eq!(rt; text.as_slice(), b"screen \\0cA\\5c\\ff~".as_slice());
+    text.clear();
+    push_notation(b"ABCDEFGHIJKLMN\\OPQRSTU\rVWXYZabcdefg", &mut text)?;
+    assert_eq!(rt;
+        text.as_slice(),
+        b"ABCDEFGHIJKLMN\\5cOPQRSTU\\0dVWXYZabcdefg".as_slice()
+    );
     Ok(())
 }
 

@@ -1,5 +1,6 @@
-ghost use Rattle.std.specs.Prelude.{◌≡◌, ◌++◌, ◌∷◌, [], ◌/◌, ◌%◌, ◌<◌, ◌≤◌, ◌↔◌, length, IsTrue, IsErr, OnOk, OnErr};
+ghost use Rattle.std.specs.Prelude.{◌≡◌, ◌++◌, ◌∷◌, [], ◌/◌, ◌%◌, ◌<◌, ◌≤◌, ◌↔◌, length, take, IsTrue, IfOk, IsErr, OnOk, OnErr};
 ghost use Rattle.std.specs.Char.{digit_char};
+ghost use Rattle.std.specs.List.{list_all};
 ghost use Rattle.pv_fields.specs.Out.{room_of, Appends};
 ghost use Rattle.pv_cells.specs.Notation.{is_plain, notation_of_byte, notation_of};
 
@@ -14,6 +15,9 @@ pub const FIRST_PRINTABLE: u8 = b' ';
 
 /// The highest byte that can be printed: the tilde.
 pub const LAST_PRINTABLE: u8 = b'~';
+
+/// The hexadecimal digits, in lower case.
+const DIGITS: [u8; 16] = *b"0123456789abcdef";
 
 /// Appends the canonical notation of the bytes: each byte of 0x20 to 0x7E except the backslash as
 /// itself, each other one as a backslash and its two hexadecimal digits in lower case. [`NoRoom`] exactly
@@ -34,11 +38,13 @@ pub fn notation(cells: &[u8], out: &mut Out) -> Result<(), NoRoom>
 
 /// Appends the canonical notation of the bytes to a text, as [`notation`] does to a slice. What the text
 /// holds after an error is not specified.
+#[tactic(auto, using(crate::proofs::Plain::parts))]
 pub fn push_notation(bytes: &[u8], text: &mut Vec<u8>) -> Result<(), AllocError>
     ensures ok { OnOk result (text.new.items ≡ text.old.items ++ notation_of bytes.now) }
 {
-    for byte in bytes {
-        push_byte(*byte, text)?;
+    let mut at = 0;
+    while at < bytes.len() {
+        at += push_first(&bytes[at..], text)?;
     }
     Ok(())
 }
@@ -77,18 +83,37 @@ fn put_byte(byte: u8, out: &mut Out)
     }
 }
 
-/// Appends the notation of a byte to a text.
-fn push_byte(byte: u8, text: &mut Vec<u8>) -> Result<(), AllocError>
-    ensures { OnOk result (text.new.items ≡ text.old.items ++ notation_of_byte byte) }
+/// Appends the notation of the first byte to a text, or that of the first eight at once if each of them is
+/// written as itself. Returns their number.
+#[tactic(auto, using(crate::proofs::Plain::parts))]
+fn push_first(bytes: &[u8], text: &mut Vec<u8>) -> Result<usize, AllocError>
+    requires { 0 < length bytes.now }
+    ensures within { IfOk result (λ count. (0 < count) × (count ≤ length bytes.now)) }
+    ensures ok { IfOk result (λ count. text.new.items
+        ≡ text.old.items ++ notation_of (take count bytes.now)) }
 {
-    if is_plain(byte) {
-        text.push(byte)?;
-        return Ok(());
+    let first = bytes[0];
+    if !is_plain(first) {
+        text.extend_from_slice(&escape(first))?;
+        return Ok(1);
     }
-    text.push(BACKSLASH)?;
-    text.push(digit(byte / 16))?;
-    text.push(digit(byte % 16))?;
-    Ok(())
+    if bytes.len() < 8 || !are_plain(&bytes[..8]) {
+        text.push(first)?;
+        return Ok(1);
+    }
+    text.extend_from_slice(&bytes[..8])?;
+    Ok(8)
+}
+
+/// Whether each byte is written as itself. Without a branch in the loop, eight bytes are compared at once.
+fn are_plain(bytes: &[u8]) -> bool
+    ensures { result ≡ list_all is_plain bytes.now }
+{
+    let mut plain = true;
+    for byte in bytes {
+        plain &= is_plain(*byte);
+    }
+    plain
 }
 
 /// Whether the byte is written as itself.
@@ -110,5 +135,5 @@ fn digit(n: u8) -> u8
     requires { n < 16 }
     ensures { result ≡ digit_char n }
 {
-    if n < 10 { b'0' + n } else { b'a' + (n - 10) }
+    DIGITS[n as usize]
 }
