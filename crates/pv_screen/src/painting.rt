@@ -72,7 +72,7 @@ fn put_screen(grid: &Grid, out: &mut Out)
     out.put_u8(CLEAR);
     let (lines, last) = grid.lines();
     put_lines(lines, out);
-    put_row(last, out);
+    put_shown(shown_cells(last), out);
 }
 
 /// Appends rows and their ends.
@@ -93,19 +93,22 @@ fn put_line(row: &[u8; COLUMNS], out: &mut Out)
     requires { 2 * COLUMNS ≤ room_of out.old }
     ensures { Appends out.old out.new (line_bytes row.now) }
 {
-    put_row(row, out);
-    if shown_cells(row).len() < COLUMNS {
+    let cells = shown_cells(row);
+    put_shown(cells, out);
+    if cells.len() < COLUMNS {
         out.put_run(&[RETURN, DOWN]);
     }
 }
 
-/// Appends a row without the spaces at its end.
+/// Appends the cells of a row that are shown: at once if none of them is an attribute.
 #[tactic(auto, using(crate::proofs::Steps::cells))]
-fn put_row(row: &[u8; COLUMNS], out: &mut Out)
-    requires { 2 * length (shown_cells row.now) ≤ room_of out.old }
-    ensures { Appends out.old out.new (cells_bytes (shown_cells row.now)) }
+fn put_shown(cells: &[u8], out: &mut Out)
+    requires { 2 * length cells.now ≤ room_of out.old }
+    ensures { Appends out.old out.new (cells_bytes cells.now) }
 {
-    let cells = shown_cells(row);
+    if cells.is_empty() {
+        return;
+    }
     if are_ordinary(cells) {
         out.put_run(cells);
     } else {

@@ -3,8 +3,8 @@ use Rattle.pv_screen.proofs.{Vocabulary.IsRow, Bytes.{length-lines-le, length-sh
 use Rattle.pv_fields.proofs.CallerLemmas.{appends_then}
 use Rattle.pv_screen.proofs.painting.put_screen.Goals as goal
 
-pub put_row-requires : goal.put_row-requires
-put_row-requires c =
+pub put_shown-requires : goal.put_shown-requires
+put_shown-requires c =
     let grid = c.args.grid.now in
     let is = c.lines.ensures.cells in
     let last = All-get_or IsRow grid 23 [] (omega (arith, is.height)) is.rows in
@@ -13,5 +13,5 @@ put_row-requires c =
 
 pub returns-clause-bytes : goal.returns-clause-bytes
 returns-clause-bytes c =
-    let all = appends_then c.put_u8.ensures.appends (appends_then c.put_lines.ensures c.put_row.ensures) in
+    let all = appends_then c.put_u8.ensures.appends (appends_then c.put_lines.ensures c.put_shown.ensures) in
     grind (arith, all)
