@@ -40,7 +40,20 @@ impl<'a> Reader<'a> for Below {
 
 /// The number that a text writes in decimal, without a sign or a leading zero. `None` exactly when it writes none
 /// below 2 to the 64th.
+#[tactic(auto, using(crate::proofs::Digits::one_digit))]
 pub fn number_of(text: &[u8]) -> Option<u64>
+    ensures found { IfSome result (λ number. IsNumber number text.now) }
+    ensures only { (number : ℕ) → IsNumber number text.now → result ≡ Some number }
+{
+    // Most numbers of a line are those of a centre or a port.
+    if text.len() == 1 && text[0].is_ascii_digit() {
+        return Some((text[0] - b'0') as u64);
+    }
+    parsed_number(text)
+}
+
+/// The same by the parser and the writer of decimal numbers.
+fn parsed_number(text: &[u8]) -> Option<u64>
     ensures found { IfSome result (λ number. IsNumber number text.now) }
     ensures only { (number : ℕ) → IsNumber number text.now → result ≡ Some number }
 {

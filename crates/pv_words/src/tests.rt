@@ -30,8 +30,12 @@ fn a_line_is_a_word_and_parts(rt: HostRuntime) {
 #[test]
 fn numbers_are_decimal_and_nothing_else(rt: HostRuntime) {
     assert_eq!(rt; number_of(b"18446744073709551615"), Some(u64::MAX));
-    let others: [&[u8]; 7] = [
+    assert_eq!(rt; number_of(b"0"), Some(0));
+    assert_eq!(rt; number_of(b"9"), Some(9));
+    let others: [&[u8]; 9] = [
         b"",
+        b"/",
+        b":",
         b"01",
         b"+1",
         b"-1",

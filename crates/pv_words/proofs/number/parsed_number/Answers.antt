@@ -3,7 +3,7 @@ use Rattle.std.specs.Prelude.{decimal, IsUtf8}
 use Rattle.std.specs.Result.{result_ok}
 use Rattle.std.proofs.lemmas.Fmt.{parse-decimal, IsAscii-decimal}
 use Rattle.std.proofs.lemmas.Str.{IsUtf8-from_ascii}
-use Rattle.pv_words.proofs.number.number_of.Goals as goal
+use Rattle.pv_words.proofs.number.parsed_number.Goals as goal
 
 -- digits are a text
 pub returns-in_default-clause-only : goal.returns-in_default-clause-only
