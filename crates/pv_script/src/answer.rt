@@ -9,7 +9,7 @@ use pv_cells::push_notation;
 use pv_network::{BillLine, Outcome, Turn, Why};
 use pv_outside::Limits;
 use pv_page::FrameName;
-use pv_screen::BUFFER;
+use pv_screen::{BUFFER, Screen};
 use std::alloc::AllocError;
 
 /// Appends the line or lines of an outcome. A screen is painted into the buffer first.
@@ -25,7 +25,7 @@ pub fn push_answer(
             text.extend_from_slice(reply.bytes())?;
             push_words(text, b"\n")
         }
-        Outcome::Shown(turn) => push_turn(text, buffer, turn),
+        Outcome::Shown(turn) => push_screen(text, buffer, &turn.screen, turn.ended),
         Outcome::Busy => push_words(text, b"busy\n"),
         Outcome::Quiet => push_words(text, b"quiet\n"),
         Outcome::Owes => push_words(text, b"owes\n"),
@@ -36,14 +36,7 @@ pub fn push_answer(
         Outcome::Stored => push_words(text, b"stored\n"),
         Outcome::StoreFull { count, screen } => {
             push_line(text, b"full ", *count)?;
-            push_turn(
-                text,
-                buffer,
-                &Turn {
-                    screen: *screen,
-                    ended: Some(Why::Full),
-                },
-            )
+            push_screen(text, buffer, screen, Some(Why::Full))
         }
         Outcome::Turns(turns) => push_turns(text, buffer, turns.all()),
         Outcome::Idle => push_words(text, b"idle\n"),
@@ -196,20 +189,26 @@ fn push_turns(
     ensures { OnOk result (text.new.items ≡ text.old.items ++ turns_text turns.now) }
 {
     for turn in turns {
-        push_turn(text, buffer, turn)?;
+        push_screen(text, buffer, &turn.screen, turn.ended)?;
     }
     Ok(())
 }
 
 /// Appends a screen, and the end of the call if it ended.
-fn push_turn(text: &mut Vec<u8>, buffer: &mut [u8; BUFFER], turn: &Turn) -> Result<(), AllocError>
-    ensures { OnOk result (text.new.items ≡ text.old.items ++ turn_text turn.now) }
+fn push_screen(
+    text: &mut Vec<u8>,
+    buffer: &mut [u8; BUFFER],
+    screen: &Screen,
+    ended: Option<Why>,
+) -> Result<(), AllocError>
+    ensures { OnOk result (text.new.items
+        ≡ text.old.items ++ turn_text (record { screen = screen.now; ended = ended })) }
 {
-    let count = turn.screen.bytes(buffer);
+    let count = screen.bytes(buffer);
     push_words(text, b"screen ")?;
     push_notation(&buffer[..count], text)?;
     push_words(text, b"\n")?;
-    push_end(text, turn.ended)
+    push_end(text, ended)
 }
 
 /// Appends why a call ended, if it did.

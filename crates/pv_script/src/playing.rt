@@ -286,12 +286,13 @@ fn run_event<K: Sink>(
     ensures within { (count : ℕ) → IsTallyWithin answers.old.tally count
         → IsTallyWithin answers.new.tally (count + 1) }
 {
-    let Ok(outcome) = network.step(event) else {
+    let answer = network.step(event);
+    let Ok(outcome) = &answer else {
         return Err(AnswerEnd::Memory);
     };
-    answers.tally.add(&outcome);
+    answers.tally.add(outcome);
     answers.text.clear();
-    if push_answer(&mut answers.text, &mut answers.buffer, &outcome).is_err() {
+    if push_answer(&mut answers.text, &mut answers.buffer, outcome).is_err() {
         return Err(AnswerEnd::Memory);
     }
     if out.write_all(&answers.text).is_err() {
