@@ -18,6 +18,7 @@ pub mod KeptSerials
 pub mod KeyTurns
 pub mod Keying
 pub mod Lists
+pub mod Noting
 pub mod Performing
 pub mod ReplyLines
 pub mod Rows

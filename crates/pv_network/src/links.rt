@@ -67,6 +67,7 @@ impl Links {
     }
 
     /// The packet of an index, of those that went a way. `None` if there is no such packet.
+    #[inline(always)]
     pub(crate) fn packet(&self, way: Way, link: u8, index: u64) -> Option<Packet>
         requires { link < length self.now }
         ensures { result ≡ slice_get (packets_on way (link_in self.now link)) index }

@@ -103,6 +103,7 @@ impl Network {
     /// its port is below [`EDITORS`], or below [`PORTS`](crate::PORTS) at a centre. The only error is that memory
     /// ran out: after it, every later step returns it too. No events but [`Event::Keys`], [`Event::Crash`],
     /// [`Event::Cut`], [`Event::Bill`] and [`Event::Lines`] take memory.
+    #[inline(always)]
     pub fn step(&mut self, event: &Event) -> Result<Outcome, AllocError>
         requires { IsPossible self.old event.now }
 
@@ -124,48 +125,88 @@ impl Network {
         if self.is_out {
             return Err(AllocError);
         }
+        if takes_memory(event) {
+            return self.try_step(event);
+        }
         let outcome = self.happen(event);
+        self.is_out = false;
+        Ok(outcome)
+    }
+
+    /// The step of an event that takes memory, and notes whether it ran out. It is apart from the others since an outcome
+    /// has about a thousand bytes: room for each `Result` of one would be zeroed at every step.
+    #[inline(never)]
+    fn try_step(&mut self, event: &Event) -> Result<Outcome, AllocError>
+        requires possible { IsPossible self.old event.now }
+        requires memory { IsTrue (takes_memory event.now) }
+        ensures performs { IfOk result (TakesPlace event.now self.old self.new) }
+        ensures centres { length self.new.centres ≡ length self.old.centres }
+        ensures stays_in { IsOk result → self.new.is_out ≡ false }
+        ensures stays_out { IsErr result → IsTrue self.new.is_out }
+    {
+        let outcome = self.try_happen(event);
         self.is_out = outcome.is_err();
         outcome
     }
 
-    /// Lets an event happen.
-    fn happen(&mut self, event: &Event) -> Result<Outcome, AllocError>
-        requires { IsPossible self.old event.now }
+    /// Lets an event happen that takes memory.
+    fn try_happen(&mut self, event: &Event) -> Result<Outcome, AllocError>
+        requires possible { IsPossible self.old event.now }
+        requires memory { IsTrue (takes_memory event.now) }
         ensures performs { IfOk result (TakesPlace event.now self.old self.new) }
         ensures centres { length self.new.centres ≡ length self.old.centres }
-        ensures succeeds { takes_memory event.now ≡ false → IsOk result }
     {
-        Ok(match event {
+        match event {
+            Event::Keys { centre, port, keys } => self.keys(*centre, *port as usize, keys.bytes()),
+            Event::Crash { node } => self.crash(*node),
+            Event::Cut {
+                calls,
+                image,
+                command,
+            } => self.cut(*calls, *image, command),
+            Event::Bill { account } => self.bill(*account),
+            Event::Lines { centre } => self.lines(*centre),
+            // No other event takes memory.
+            _ => Err(AllocError),
+        }
+    }
+
+    /// Lets an event happen that takes no memory.
+    #[inline(always)]
+    fn happen(&mut self, event: &Event) -> Outcome
+        requires possible { IsPossible self.old event.now }
+        requires frugal { takes_memory event.now ≡ false }
+        ensures performs { TakesPlace event.now self.old self.new result }
+        ensures centres { length self.new.centres ≡ length self.old.centres }
+    {
+        match event {
             Event::Seed { name, row } => self.seed(*name, row),
             Event::Edit { port, line } => self.edit(*port as usize, line.bytes()),
             Event::Dial { centre, port } => self.dial(*centre as usize, *port as usize),
             Event::Press { centre, port, key } => self.press(*centre, *port as usize, *key),
             Event::Store { centre, port } => self.store(*centre as usize, *port as usize),
             Event::Show { centre, port } => self.show(*centre as usize, *port as usize),
-            Event::Keys { centre, port, keys } => self.keys(*centre, *port as usize, keys.bytes())?,
             Event::Hang { centre, port } => self.hang(*centre as usize, *port as usize),
             Event::Send { centre } => self.send(Way::Down, *centre),
             Event::Post { centre } => self.send(Way::Up, *centre),
             Event::Deliver { centre, index } => self.arrive(Way::Down, *centre, *index),
             Event::Back { centre, index } => self.arrive(Way::Up, *centre, *index),
             Event::Carry { centre } => self.carry(*centre),
-            Event::Crash { node } => self.crash(*node)?,
-            Event::Cut {
-                calls,
-                image,
-                command,
-            } => self.cut(*calls, *image, command)?,
             Event::Clock { moment } => self.clock(*moment),
             Event::View { centre, name } => self.view(*centre as usize, *name),
             Event::At { centre } => self.at(*centre as usize),
             Event::List => self.list(),
-            Event::Bill { account } => self.bill(*account)?,
-            Event::Lines { centre } => self.lines(*centre)?,
-        })
+            // These take memory, and so do not get here.
+            Event::Keys { .. } => Outcome::Nothing,
+            Event::Crash { .. } => Outcome::Nothing,
+            Event::Cut { .. } => Outcome::Nothing,
+            Event::Bill { .. } => Outcome::Nothing,
+            Event::Lines { .. } => Outcome::Nothing,
+        }
     }
 
     /// The operator's next number puts a frame under a name that is blank except for its row 2.
+    #[inline(never)]
     fn seed(&mut self, name: FrameName, row: &[u8; 40]) -> Outcome
         ensures performs { Performs self.old self.new result (λ w. step_of_seeding w name row.now) }
         ensures centres { length self.new.centres ≡ length self.old.centres }
@@ -186,6 +227,7 @@ impl Network {
     }
 
     /// The Update Centre judges an editor's request, and stores its record unless it is refused.
+    #[inline(never)]
     fn ask(&mut self, editor: AccountNo, q: u32, wish: EditWish) -> Outcome
         ensures performs { Performs self.old self.new result (λ w. step_of_request w editor q wish) }
         ensures centres { length self.new.centres ≡ length self.old.centres }
@@ -196,6 +238,7 @@ impl Network {
     }
 
     /// An editor's line arrives at a port.
+    #[inline(never)]
     fn edit(&mut self, port: usize, line: &[u8]) -> Outcome
         requires { port < EDITORS }
         ensures performs { (said : Option EditLine) × Exactly (IsLine line.now) said
@@ -221,6 +264,7 @@ impl Network {
     }
 
     /// What was keyed into an editor's frames, from a place on.
+    #[inline(never)]
     fn responses(&self, editor: AccountNo, from: u64) -> Outcome
         ensures { (port : ℕ) → Performs self.now self.now result
             (λ w. step_of_said w port (steps.Responses editor from)) }
@@ -229,6 +273,7 @@ impl Network {
     }
 
     /// Ends the session at a port.
+    #[inline(never)]
     fn close(&mut self, port: usize) -> Outcome
         requires { port < EDITORS }
         ensures performs { Performs self.old self.new result (λ w. step_of_said w port steps.Close) }
@@ -239,6 +284,7 @@ impl Network {
     }
 
     /// The clock shows a moment.
+    #[inline(always)]
     fn clock(&mut self, moment: u32) -> Outcome
         requires { moment ≤ LAST_MOMENT }
         ensures performs { Performs self.old self.new result (λ w. step_of_clock w moment) }
@@ -249,21 +295,23 @@ impl Network {
     }
 
     /// A frame as a centre holds it.
+    #[inline(never)]
     fn view(&self, centre: usize, name: FrameName) -> Outcome
         requires { centre < length self.now.centres }
         ensures { Performs self.now self.now result (λ w. step_of_view w centre name) }
     {
         a_centre_shows_what_the_list_shows();
-        match self.centres[centre].frame(name) {
-            Some(frame) => Outcome::Shown(Turn {
-                screen: Screen::Whole(compose(frame, name)),
-                ended: None,
-            }),
-            None => Outcome::NotHeld,
-        }
+        let Some(frame) = self.centres[centre].frame(name) else {
+            return Outcome::NotHeld;
+        };
+        Outcome::Shown(Turn {
+            screen: Screen::Whole(compose(frame, name)),
+            ended: None,
+        })
     }
 
     /// How many records a centre has applied.
+    #[inline(always)]
     fn at(&self, centre: usize) -> Outcome
         requires { centre < length self.now.centres }
         ensures { Performs self.now self.now result (λ w. step_of_at w centre) }
@@ -273,6 +321,7 @@ impl Network {
     }
 
     /// How many records the edit list has.
+    #[inline(always)]
     fn list(&self) -> Outcome
         ensures { Performs self.now self.now result step_of_list }
     {
@@ -296,4 +345,18 @@ impl Network {
     {
         self.centres[centre as usize].lines(*self.centres.allocator(), centre)
     }
+}
+
+/// Whether an event takes memory.
+fn takes_memory(event: &Event) -> bool
+    ensures { result ≡ takes_memory event.now }
+{
+    matches!(
+        event,
+        Event::Keys { .. }
+            | Event::Crash { .. }
+            | Event::Cut { .. }
+            | Event::Bill { .. }
+            | Event::Lines { .. }
+    )
 }

@@ -59,6 +59,7 @@ impl Packets {
     }
 
     /// The packet at a place, decoded from its bytes.
+    #[inline(always)]
     pub(crate) fn get(&self, place: usize) -> Option<Packet>
         ensures { result ≡ slice_get self.now place }
     {

@@ -11,6 +11,7 @@ use pv_nodes::a_centre_shows_what_the_list_shows;
 
 impl Network {
     /// Somebody calls a centre at a port.
+    #[inline(never)]
     pub(super) fn dial(&mut self, centre: usize, port: usize) -> Outcome
         requires centre { centre < length self.old.centres }
         requires port { port < PORTS }
@@ -22,6 +23,7 @@ impl Network {
     }
 
     /// The caller at a port of a centre keys a byte.
+    #[inline(never)]
     pub(super) fn press(&mut self, centre: u8, port: usize, key: u8) -> Outcome
         requires centre { centre < length self.old.centres }
         requires port { port < PORTS }
@@ -36,6 +38,7 @@ impl Network {
     }
 
     /// A centre stores what the call at a port owes.
+    #[inline(never)]
     pub(super) fn store(&mut self, centre: usize, port: usize) -> Outcome
         requires centre { centre < length self.old.centres }
         requires port { port < PORTS }
@@ -48,6 +51,7 @@ impl Network {
     }
 
     /// The caller at a port is shown what his call was stored for.
+    #[inline(never)]
     pub(super) fn show(&mut self, centre: usize, port: usize) -> Outcome
         requires centre { centre < length self.old.centres }
         requires port { port < PORTS }

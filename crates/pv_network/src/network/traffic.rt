@@ -99,6 +99,7 @@ impl Network {
     }
 
     /// Sends the next packet on a way: a record to a centre, or an item of it to the Update Centre.
+    #[inline(never)]
     pub(super) fn send(&mut self, way: Way, centre: u8) -> Outcome
         requires { centre < length self.old.centres }
         ensures performs { Performs self.old self.new result (λ w. step_of_sending way w centre) }
@@ -119,6 +120,7 @@ impl Network {
     }
 
     /// The packet of an index arrives, of those that went a way.
+    #[inline(never)]
     pub(super) fn arrive(&mut self, way: Way, centre: u8, index: u64) -> Outcome
         requires { centre < length self.old.centres }
         ensures performs { Performs self.old self.new result (λ w. step_of_arriving way w centre index) }
@@ -214,6 +216,7 @@ impl Network {
 
     /// Record after record goes to a centre, and item after item to the Update Centre, each with its acknowledgement,
     /// until both ends are idle or the carry cannot go on.
+    #[inline(never)]
     pub(super) fn carry(&mut self, centre: u8) -> Outcome
         requires { centre < length self.old.centres }
         ensures performs { Performs self.old self.new result (λ w. step_of_carry w centre) }
