@@ -124,6 +124,17 @@ module _ {W : Type 0} (contents : W → Option (List ℕ)) (centres : ℕ) (firs
       let q = rw is.1 at p in
       (q.0, transcript_is_prefix centres first _ _ _ kept text q.1.run (q.1.bad ∷ q.1.later) q.1.lines q.1.transcript)
 
+-- there was nothing to flush: the run ended as its play did
+pub as_played : {W : Type 0} (contents : W → Option (List ℕ)) (centres : ℕ) (first : World) (text : List ℕ) (network : Option State)
+    (left : Option (List ℕ)) (ended : Bool) (before now : StandardOutput W) (status : Status)
+    → IsPlayOf centres first text network left ended (written_bytes contents before) (written_bytes contents now) status
+    → (status ≡ Usage) ⊎ ((status ≡ ReadFault) ⊎ ((status ≡ TooLong) ⊎ (status ≡ WriteFault)))
+    → IsRunOf contents centres first text left ended before now status
+as_played contents centres first text network left ended before now status p (inl is) = absurd (rw is at p)
+as_played contents centres first text network left ended before now status p (inr (inl is)) = rw is (rw is at p)
+as_played contents centres first text network left ended before now status p (inr (inr (inl is))) = rw is (rw is at p)
+as_played contents centres first text network left ended before now status p (inr (inr (inr is))) = rw is (rw is at p)
+
 -- ---- the end of an evening
 
 -- one that is not done ended as its play did

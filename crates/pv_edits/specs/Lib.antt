@@ -2,8 +2,9 @@ pub mod Taken
 pub mod Record
 pub mod Down
 pub mod Edits
-pub mod Chain
 pub mod Owner
+pub mod Indexed
+pub mod Indexing
 pub mod OpenPages
 pub mod Sight
 pub mod Room

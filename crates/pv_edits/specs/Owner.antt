@@ -2,7 +2,9 @@
 use Rattle.std.specs.Prelude.{ℕ, Bool, true, ◌&&◌, List, Option, Some, None, if◌then◌else◌}
 use Rattle.std.specs.List.{fold}
 use Rattle.std.specs.Option.{option_or}
+use Rattle.pv_fields.specs.Reading.{◌>>=◌}
 use Rattle.pv_page.specs.Names.{covers}
+use Rattle.pv_edits.specs.Edits.{leases, last_record}
 use Rattle.pv_edits.specs.declared.owner.Lot.{Lot}
 use Rattle.pv_edits.specs.declared.record.Record.{Record}
 use Rattle.pv_edits.specs.declared.room.TheConstants.{OPERATOR}
@@ -21,6 +23,18 @@ better_lot page best (Account editor q account) = None
 better_lot page best (Lease editor q root account) =
     if covers root page && is_as_long best root then Some (record { root = root; account = account }) else None
 better_lot page best (Taken taken) = None
+
+-- the lot that the record gives
+abbrev pub lot_in : Record → Option Lot
+lot_in (Put editor q name frame) = None
+lot_in (Drop editor q name) = None
+lot_in (Account editor q account) = None
+lot_in (Lease editor q root account) = Some (record { root = root; account = account })
+lot_in (Taken taken) = None
+
+-- the lot of a root, by its last lease
+abbrev pub lot_at : List Record → ℕ → Option Lot
+lot_at records root = last_record (leases root) records >>= lot_in
 
 -- the best lot for a page after one record more
 abbrev pub lot_after : ℕ → Option Lot → Record → Option Lot

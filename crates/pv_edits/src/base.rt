@@ -7,11 +7,11 @@ ghost use Rattle.pv_edits.specs.Room.{frame_count, frames_after, account_count, 
 ghost use Rattle.pv_edits.specs.Edits.{is_about, leases, last_index, frame_at, frame_in, account_at, account_in, last_of, number_in, operator_profile};
 ghost use Rattle.pv_edits.specs.Standing.{empty_base, with_record_at};
 
-use crate::chain::{BUCKETS, bucket_in, last_in_bucket};
 use crate::owner::lot_of;
 use crate::record::Record;
+use crate::records::{Records, list_with_room};
 use crate::room::{MAX_ACCOUNTS, MAX_LEASES, OPERATOR};
-use crate::subject::{Subject, last_edit_of};
+use crate::subject::Subject;
 use pv_account::{Account, Groups, digest};
 use pv_frame::Frame;
 use pv_outside::Limits;
@@ -20,19 +20,17 @@ use std::alloc::{AllocError, Global};
 use std::marker::Model;
 
 /// The frames, the accounts, the leases and the editors' numbers of a list of records. All room is
-/// reserved when it is opened. A search goes through the records of one bucket, and for an editor's
-/// last edit from the last record back.
-#[derive(Debug, Drop)]
+/// reserved when it is opened. No call goes through the records: each finds the last one about a
+/// subject under its key.
+#[derive(Debug)]
 pub struct Base {
-    records: Vec<Record>,
+    records: Records,
     places: Vec<u64>,
     operator: Account,
     limits: Limits,
     frames: u32,
     accounts: u32,
     leased: u32,
-    heads: Vec<usize>,
-    links: Vec<usize>,
 }
 
 impl Model for Base {
@@ -51,6 +49,21 @@ impl Model for Base {
     ghost invariant = { IsKeptBase };
 }
 
+impl Drop for Base {
+    /// Written out, so that who lets go of it has one call to think of and not each part.
+    fn drop(self) {
+        let Base {
+            records: _,
+            places: _,
+            operator: _,
+            limits: _,
+            frames: _,
+            accounts: _,
+            leased: _,
+        } = self;
+    }
+}
+
 impl Base {
     /// The base of no records. It has the operator and nothing else. Room for `limits.records` records
     /// is reserved.
@@ -59,15 +72,13 @@ impl Base {
     {
         let room = limits.records as usize;
         Ok(Base {
-            records: Vec::with_capacity(alloc, room)?,
+            records: Records::open(alloc, room)?,
             places: Vec::with_capacity(alloc, room)?,
             operator: operator(),
             limits,
             frames: 0,
             accounts: 1,
             leased: 0,
-            heads: vec![in alloc; 0; BUCKETS]?,
-            links: Vec::with_capacity(alloc, room)?,
         })
     }
 
@@ -77,15 +88,13 @@ impl Base {
     {
         let room = self.limits.records as usize;
         Ok(Base {
-            records: list_with_room(alloc, &self.records, room)?,
+            records: self.records.copy(alloc)?,
             places: list_with_room(alloc, &self.places, room)?,
             operator: self.operator,
             limits: self.limits,
             frames: self.frames,
             accounts: self.accounts,
             leased: self.leased,
-            heads: Vec::from_slice(alloc, &self.heads)?,
-            links: list_with_room(alloc, &self.links, room)?,
         })
     }
 
@@ -98,12 +107,8 @@ impl Base {
         let frames = self.frames_after(rec);
         let accounts = self.accounts_after(rec);
         let leased = self.leases_after(rec);
-        let bucket = bucket_in(rec);
-        let before = self.heads[bucket];
-        self.records.push_reserved(*rec);
+        self.records.push(rec);
         self.places.push_reserved(place);
-        self.links.push_reserved(before);
-        self.heads[bucket] = self.records.len();
         self.frames = frames;
         self.accounts = accounts;
         self.leased = leased;
@@ -136,8 +141,8 @@ impl Base {
         ensures valid { IfSome result (λ frame. IsValid frame.now) }
         ensures frame { option_copied result ≡ frame_at self.now.records name }
     {
-        let index = self.last_about(Subject::Name(name))?;
-        frame_in(&self.records[index])
+        let index = self.records.last_about(Subject::Name(name))?;
+        frame_in(self.records.at(index))
     }
 
     /// The frame of a name, if it is open to the account: if its group is 0 or one of the account's.
@@ -158,21 +163,18 @@ impl Base {
     pub fn account(&self, number: AccountNo) -> Option<&Account>
         ensures { option_copied result ≡ account_at self.now.records number }
     {
-        match self.last_about(Subject::Account(number)) {
-            Some(index) => account_in(&self.records[index]),
+        match self.records.last_about(Subject::Account(number)) {
+            Some(index) => account_in(self.records.at(index)),
             None if number.number() == OPERATOR => Some(&self.operator),
             None => None,
         }
     }
 
     /// Whom a page belongs to: the account of the longest leased root whose digits are a prefix of the
-    /// page's, by the last lease of that root, or the operator. If no root is leased, no record is looked at.
+    /// page's, by the last lease of that root, or the operator.
     pub fn owner(&self, page: PageNo) -> AccountNo
         ensures { result ≡ owner_of self.now.records page }
     {
-        if self.leased == 0 {
-            return self.operator.number;
-        }
         match lot_of(&self.records, page) {
             Some(lot) => lot.account,
             None => self.operator.number,
@@ -224,8 +226,8 @@ impl Base {
     pub fn last(&self, editor: AccountNo) -> Option<(u32, u64)>
         ensures { result ≡ last_of self.now.records self.now.places editor }
     {
-        let index = self.last_about(Subject::Editor(editor))?;
-        let q = number_in(&self.records[index])?;
+        let index = self.records.last_about(Subject::Editor(editor))?;
+        let q = number_in(self.records.at(index))?;
         Some((q, self.places[index]))
     }
 
@@ -247,7 +249,7 @@ impl Base {
     fn has_lease(&self, root: PageNo) -> bool
         ensures { result ≡ is_some (last_index (leases root) self.now.records) }
     {
-        self.last_about(Subject::Root(root)).is_some()
+        self.records.last_about(Subject::Root(root)).is_some()
     }
 
     /// Whether the editor is an account.
@@ -314,27 +316,6 @@ impl Base {
             _ => self.leased,
         }
     }
-
-    /// The index of the last record about this.
-    fn last_about(&self, subject: Subject) -> Option<usize>
-        ensures last { result ≡ last_index (is_about subject) self.now.records }
-        ensures within { IfSome result (λ index. index < length self.now.records) }
-    {
-        match subject {
-            Subject::Editor(account) => last_edit_of(&self.records, account),
-            _ => last_in_bucket(&self.records, &self.heads, &self.links, &subject),
-        }
-    }
-}
-
-/// A copy of a list, with room for this many in all.
-fn list_with_room<T: Copy>(alloc: Global, list: &[T], room: usize) -> Result<Vec<T>, AllocError>
-    ensures same { IfOk result (λ copy. copy.items ≡ list.now) }
-    ensures room { IfOk result (λ copy. room ≤ vec_capacity copy) }
-{
-    let mut copy = Vec::with_capacity(alloc, room)?;
-    copy.extend_from_slice(list)?;
-    Ok(copy)
 }
 
 /// Whether the frame's group is 0 or one of the account's.

@@ -13,12 +13,13 @@
 #![tactic(auto)]
 
 mod base;
-mod chain;
 mod down;
+mod last_about;
 mod law;
 mod owner;
 mod parts;
 mod record;
+mod records;
 mod room;
 mod sight;
 mod subject;

@@ -1,7 +1,10 @@
-ghost use Rattle.std.specs.Prelude.{◌≡◌};
-ghost use Rattle.pv_edits.specs.Owner.{is_as_long, better_lot, lot_of};
+ghost use Rattle.std.specs.Prelude.{◌≡◌, ◌/◌, nat_lt, None, Some, if◌then◌else◌};
+ghost use Rattle.pv_page.specs.Names.{IsPage};
+ghost use Rattle.pv_edits.specs.Owner.{lot_in, lot_at, lot_of};
 
 use crate::record::Record;
+use crate::records::Records;
+use crate::subject::Subject;
 use pv_page::{AccountNo, PageNo};
 
 /// A leased root, and whose it is.
@@ -13,44 +16,52 @@ pub struct Lot {
     pub account: AccountNo,
 }
 
-/// The lot that a page is in. `None` exactly when no leased root covers it.
-pub(crate) fn lot_of(records: &[Record], page: PageNo) -> Option<Lot>
-    ensures { result ≡ lot_of records.now page }
+/// The lot that a page is in. `None` exactly when no leased root covers it. The longest root that can
+/// cover it is the page itself, and the shortest its first digit.
+pub(crate) fn lot_of(records: &Records, page: PageNo) -> Option<Lot>
+    ensures { result ≡ lot_of records.now.items page }
 {
-    let mut best = None;
-    for edit in records {
-        if let Some(lot) = better_lot(page, &best, edit) {
-            best = Some(lot);
+    records.within();
+    let mut next = Some(page);
+    while let Some(root) = next {
+        if let Some(lot) = lot_at(records, root) {
+            return Some(lot);
         }
+        next = without_last_digit(root);
     }
-    best
+    None
 }
 
-/// The lot that the record gives, if the page is in it and its root is as long as the best so far.
-fn better_lot(page: PageNo, best: &Option<Lot>, edit: &Record) -> Option<Lot>
-    ensures { result ≡ better_lot page best.now edit.now }
+/// The lot of a root, by its last lease.
+fn lot_at(records: &Records, root: PageNo) -> Option<Lot>
+    ensures { result ≡ lot_at records.now.items root }
+{
+    let index = records.last_about(Subject::Root(root))?;
+    lot_in(records.at(index))
+}
+
+/// The lot that the record gives.
+fn lot_in(edit: &Record) -> Option<Lot>
+    ensures { result ≡ lot_in edit.now }
 {
     match edit {
-        Record::Lease { root, account, .. } => {
-            if page.begins(*root) && is_as_long(best, *root) {
-                Some(Lot {
-                    root: *root,
-                    account: *account,
-                })
-            } else {
-                None
-            }
-        }
+        Record::Lease { root, account, .. } => Some(Lot {
+            root: *root,
+            account: *account,
+        }),
         _ => None,
     }
 }
 
-/// Whether the root is as long as that of the best lot so far, or longer.
-fn is_as_long(best: &Option<Lot>, root: PageNo) -> bool
-    ensures { result ≡ is_as_long best.now root }
+/// The page without its last digit. `None` exactly when that is its only digit.
+fn without_last_digit(page: PageNo) -> Option<PageNo>
+    ensures value { result ≡ (if nat_lt page 10 then None else Some (page / 10)) }
+    ensures within { IsPage page }
 {
-    match best {
-        Some(lot) => root.begins(lot.root),
-        None => true,
+    let number = page.number();
+    if number < 10 {
+        None
+    } else {
+        PageNo::of_number(number / 10)
     }
 }

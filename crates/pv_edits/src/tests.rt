@@ -162,93 +162,132 @@ fn what_is_left_out_is_one_byte(rt: HostRuntime) -> Result<(), Fail> {
     Ok(())
 }
 
+/// Whether the operator's password is the first one.
+fn has_first_password(base: &Base) -> Option<bool> {
+    let account = base.account(operator()?)?;
+    Some(account.matches(b"0000") && !account.matches(b"0001"))
+}
+
+/// Whether there is the caller's account.
+fn has_caller(base: &Base) -> Option<bool> {
+    Some(base.account(caller()?).is_some())
+}
+
+/// Whether page 12 is the operator's.
+fn is_operators(base: &Base) -> Option<bool> {
+    Some(base.owner(PageNo::of_number(12)?) == operator()?)
+}
+
+/// Whether the name has a frame.
+fn has_frame(base: &Base) -> Option<bool> {
+    Some(base.get(name()?).is_some())
+}
+
+/// The operator's last number, and its place.
+fn last(base: &Base) -> Option<(u32, u64)> {
+    base.last(operator()?)
+}
+
 #[test]
 fn a_new_base_has_the_operator_alone(rt: HostRuntime) -> Result<(), Fail> {
     let base = Base::open(rt.alloc(), LIMITS)?;
-    let operator = operator().ok_or("the operator")?;
-    let caller = caller().ok_or("an account")?;
-    let account = base.account(operator).ok_or("the operator's account")?;
-    assert!(rt; account.matches(b"0000"));
-    assert!(rt; !account.matches(b"0001"));
-    assert!(rt; base.account(caller).is_none());
-    assert_eq!(rt;
-        base.owner(PageNo::of_number(12).ok_or("a page")?),
-        operator
-    );
-    assert_eq!(rt; base.last(operator), None);
-    assert!(rt; base.get(name().ok_or("a name")?).is_none());
+    assert_eq!(rt; has_first_password(&base), Some(true));
+    assert_eq!(rt; has_caller(&base), Some(false));
+    assert_eq!(rt; is_operators(&base), Some(true));
+    assert_eq!(rt; has_frame(&base), Some(false));
+    assert_eq!(rt; last(&base), None);
     Ok(())
+}
+
+/// Whether the base has room for a record, and then takes it.
+fn takes(base: &mut Base, record: Option<Record>, place: u64) -> bool {
+    let Some(record) = record else {
+        return false;
+    };
+    let fits = base.count() < u64::from(base.limits().records) && base.has_room(&record);
+    if fits {
+        base.absorb(&record, place);
+    }
+    fits
+}
+
+/// The account, in no group.
+fn stranger() -> Option<Account> {
+    Some(Account {
+        groups: Groups::none(),
+        ..account()?
+    })
+}
+
+/// Whether the name's frame is open to an account.
+fn is_open(base: &Base, account: Option<Account>) -> Option<bool> {
+    Some(base.open_to(&account?, name()?).is_some())
 }
 
 #[test]
 fn a_frame_is_open_to_its_group(rt: HostRuntime) -> Result<(), Fail> {
     let mut base = Base::open(rt.alloc(), LIMITS)?;
-    let name = name().ok_or("a name")?;
-    let member = account().ok_or("an account")?;
-    let stranger = Account {
-        groups: Groups::none(),
-        ..member
-    };
-    let put = put().ok_or("a put")?;
-    assert!(rt; base.has_room(&put));
-    base.absorb(&put, 40);
-    assert!(rt; base.open_to(&member, name).is_some());
-    assert!(rt; base.open_to(&stranger, name).is_none());
-    assert_eq!(rt; base.last(operator().ok_or("the operator")?), Some((3, 40)));
+    assert!(rt; takes(&mut base, put(), 40));
+    assert_eq!(rt; is_open(&base, account()), Some(true));
+    assert_eq!(rt; is_open(&base, stranger()), Some(false));
+    assert_eq!(rt; last(&base), Some((3, 40)));
     Ok(())
 }
 
-/// The operator's record that makes an account.
-fn new_account(account: Account) -> Option<Record> {
+/// The operator's record that makes the account.
+fn new_account() -> Option<Record> {
     Some(Record::Account {
         editor: operator()?,
         q: 1,
-        account,
+        account: account()?,
     })
 }
 
-/// Whether the base has room for a record, and then takes it.
-fn takes(base: &mut Base, record: &Record) -> bool {
-    let place = base.count();
-    let fits = place < u64::from(base.limits().records) && base.has_room(record);
-    if fits {
-        base.absorb(record, place);
+/// Whether a caller at a centre sees his account, the frame, another one of its page, and a letter.
+fn sees(
+    base: &Base,
+    boxes: &Mailboxes,
+    centre: u8,
+    caller: Option<AccountNo>,
+) -> Option<[bool; 4]> {
+    let sight = Sight::new(base, boxes, centre, caller);
+    Some([
+        sight.account().is_some(),
+        sight.frame(name()?).is_some(),
+        sight.frame(FrameName::of_text(b"12b")?).is_some(),
+        sight.letter().is_some(),
+    ])
+}
+
+/// A centre, a caller there, whether he sees his account, and whether the frame and a letter.
+type Row = (u8, Option<AccountNo>, bool, bool);
+
+/// The first row that is not what its caller sees.
+fn first_amiss(base: &Base, boxes: &Mailboxes, rows: &[Row]) -> Option<Row> {
+    for row in rows {
+        let (centre, caller, known, shown) = *row;
+        if sees(base, boxes, centre, caller) != Some([known, shown, false, shown]) {
+            return Some(*row);
+        }
     }
-    fits
+    None
 }
 
 #[test]
 fn a_caller_sees_the_pages_open_to_him_at_home_alone(rt: HostRuntime) -> Result<(), Fail> {
     let mut base = Base::open(rt.alloc(), LIMITS)?;
-    let name = name().ok_or("a name")?;
-    let missing = FrameName::of_text(b"12b").ok_or("a name")?;
-    let member = account().ok_or("an account")?;
-    assert!(rt;
-        takes(
-            &mut base,
-            &new_account(member).ok_or("an account's record")?
-        )
-    );
-    assert!(rt; takes(&mut base, &put().ok_or("a put")?));
+    assert!(rt; takes(&mut base, new_account(), 0));
+    assert!(rt; takes(&mut base, put(), 1));
     let mut boxes = Mailboxes::open(rt.alloc(), 1)?;
-    boxes.arrive(member.number, &letter().ok_or("a letter")?);
+    let member = caller().ok_or("an account")?;
+    boxes.arrive(member, &letter().ok_or("a letter")?);
     let rows = [
-        (2, Some(member.number), true, true),
-        (1, Some(member.number), false, false),
+        (2, Some(member), true, true),
+        (1, Some(member), false, false),
         (0, operator(), true, false),
         (2, AccountNo::of_number(1_000_000_002), false, false),
         (2, None, false, false),
     ];
-    for (centre, caller, known, shown) in rows {
-        let sight = Sight::new(&base, &boxes, centre, caller);
-        assert_eq!(rt; sight.account().is_some(), known, "{caller:?} at {centre}");
-        assert_eq!(rt;
-            sight.frame(name).is_some(),
-            shown,
-            "{caller:?} at {centre}"
-        );
-        assert!(rt; sight.frame(missing).is_none());
-        assert_eq!(rt; sight.letter().is_some(), shown, "{caller:?} at {centre}");
-    }
+    assert_eq!(rt; first_amiss(&base, &boxes, &rows), None);
     Ok(())
 }

@@ -19,7 +19,7 @@ use std::marker::Model;
 
 /// What a centre knows: its number, the base of the records that it has applied, its items, the letters
 /// that wait for its callers, and its counts. All room is reserved when it is opened.
-#[derive(Debug, Drop)]
+#[derive(Debug)]
 pub struct IrcState {
     centre: u8,
     base: Base,
@@ -49,6 +49,22 @@ impl Model for IrcState {
     } };
 
     ghost invariant = { IsKeptCentre };
+}
+
+impl Drop for IrcState {
+    /// Written out, so that who lets go of it has one call to think of and not each part.
+    fn drop(self) {
+        let IrcState {
+            centre: _,
+            base: _,
+            limits: _,
+            applied: _,
+            items: _,
+            log_ons: _,
+            removals: _,
+            boxes: _,
+        } = self;
+    }
 }
 
 impl IrcState {

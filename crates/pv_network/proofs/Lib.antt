@@ -13,6 +13,7 @@ pub mod Crashing
 pub mod Cutting
 pub mod Facts
 pub mod Finding
+pub mod GoingBack
 pub mod Items
 pub mod KeptSerials
 pub mod KeyTurns

@@ -13,7 +13,8 @@ use pv_post::Item;
 use pv_udc::UdcState;
 use std::alloc::{AllocError, Global};
 
-/// The bill of an account: the charge lines that the Update Centre took up for it. The only error is that memory ran out.
+/// The bill of an account: the charge lines that the Update Centre took up for it. They are found from the
+/// last one back, and no other record is read. The only error is that memory ran out.
 pub(crate) fn bill(
     alloc: Global,
     update: &UdcState,
@@ -22,9 +23,12 @@ pub(crate) fn bill(
     ensures { IfOk result (λ outcome. outcome ≡ bill_answer (bill_lines update.now.records account)) }
 {
     let mut lines = BillLines::new(alloc);
-    for place in 0..update.front() {
+    let mut next = update.last_charge(account);
+    while let Some(place) = next {
         lines.add(billed_at(update, account, place))?;
+        next = update.charge_before(place);
     }
+    lines.reverse();
     Ok(answer(lines))
 }
 

@@ -1,4 +1,4 @@
-ghost use Rattle.std.specs.Prelude.{◌≡◌, ◌<◌, ◌++◌, [], length, OnOk};
+ghost use Rattle.std.specs.Prelude.{◌≡◌, ◌<◌, ◌++◌, [], length, reverse, OnOk};
 ghost use Rattle.std.specs.Option.{option_to_list};
 ghost use Rattle.pv_charge.specs.declared.bill.TheConstants.{MAX_BILLED_LINES};
 ghost use Rattle.pv_network.specs.Prices.{pence_of};
@@ -53,6 +53,13 @@ impl BillLines {
         self.lines.push_reserved(line);
         self.pence += u64::from(line.line.price);
         Ok(())
+    }
+
+    /// Puts the lines in the opposite order.
+    pub(crate) fn reverse(&mut self)
+        ensures { self.new ≡ reverse self.old }
+    {
+        self.lines.reverse();
     }
 
     /// The sum of their prices, in pence.

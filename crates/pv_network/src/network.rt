@@ -39,7 +39,6 @@ use std::alloc::{AllocError, Global};
 use std::marker::Model;
 
 /// One Update Centre and one to four retrieval centres, with the links between them.
-#[derive(Drop)]
 pub struct Network {
     update: UpdateNode,
     moment: Moment,
@@ -76,6 +75,20 @@ impl Model for Network {
       links = n.links;
       is_out = n.is_out;
     }) };
+}
+
+impl Drop for Network {
+    /// Written out, so that who lets go of it has one call to think of and not each part.
+    fn drop(self) {
+        let Network {
+            update: _,
+            moment: _,
+            seats: _,
+            centres: _,
+            links: _,
+            is_out: _,
+        } = self;
+    }
 }
 
 impl Network {
@@ -139,6 +152,8 @@ impl Network {
     fn try_step(&mut self, event: &Event) -> Result<Outcome, AllocError>
         requires possible { IsPossible self.old event.now }
         requires memory { IsTrue (takes_memory event.now) }
+
+        // The network and the outcome are those of the event, and a failure is noted.
         ensures performs { IfOk result (TakesPlace event.now self.old self.new) }
         ensures centres { length self.new.centres ≡ length self.old.centres }
         ensures stays_in { IsOk result → self.new.is_out ≡ false }

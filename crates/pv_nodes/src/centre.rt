@@ -41,7 +41,6 @@ macro_rules! on_node {
 }
 
 /// A retrieval centre's node, which contracts see as what the centre knows, with its number, and its disk.
-#[derive(Drop)]
 pub struct CentreNode {
     node: AnyNode,
 }
@@ -54,6 +53,13 @@ impl Model for CentreNode {
     ghost Value = { OnDisk CentreState };
 
     ghost view = { λ n. seen_of n.node };
+}
+
+impl Drop for CentreNode {
+    /// Written out, so that who lets go of it has one call to think of and not each part.
+    fn drop(self) {
+        let CentreNode { node: _ } = self;
+    }
 }
 
 impl CentreNode {

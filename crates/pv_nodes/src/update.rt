@@ -16,7 +16,6 @@ use std::alloc::{AllocError, Global};
 use std::marker::Model;
 
 /// The Update Centre's node, which contracts see as its edit list and its disk.
-#[derive(Drop)]
 pub struct UpdateNode {
     node: MemNode<UdcRules>,
 }
@@ -28,6 +27,13 @@ impl Model for UpdateNode {
     ghost Value = { OnDisk EditList };
 
     ghost view = { λ n. record { state = n.node.state; disk = n.node.journal.disk } };
+}
+
+impl Drop for UpdateNode {
+    /// Written out, so that who lets go of it has one call to think of and not each part.
+    fn drop(self) {
+        let UpdateNode { node: _ } = self;
+    }
 }
 
 impl UpdateNode {

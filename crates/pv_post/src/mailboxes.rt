@@ -11,7 +11,7 @@ use std::marker::Model;
 
 /// The letters that wait for each account, at most [`MAX_WAITING`](crate::MAX_WAITING) for each. An
 /// account is found by its number, and all room is reserved by `open`.
-#[derive(Debug, Drop)]
+#[derive(Debug)]
 pub struct Mailboxes {
     owners: IndexSet<AccountNo>,
     boxes: Vec<Mailbox>,
@@ -31,6 +31,16 @@ impl Model for Mailboxes {
     } };
 
     ghost invariant = { λ m. AreBoxes m.owners m.boxes.items };
+}
+
+impl Drop for Mailboxes {
+    /// Written out, so that who lets go of it has one call to think of and not each part.
+    fn drop(self) {
+        let Mailboxes {
+            owners: _,
+            boxes: _,
+        } = self;
+    }
 }
 
 impl Mailboxes {

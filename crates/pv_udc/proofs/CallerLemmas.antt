@@ -1,14 +1,13 @@
 -- What a proof in a crate above may cite: what is known of an edit that was stored, and of one that was answered at once.
-use Rattle.std.proofs.Common.{◌≡◌, ℕ, suc, ◌+◌, ◌<◌, Bool, true, false, cond, eqb, List, [], ◌∷◌, length, get_or, Option, Some, None, refl, ap, sym, subst, ◌∙◌, arith}
+use Rattle.std.proofs.Common.{◌≡◌, ℕ, ◌+◌, ◌<◌, Bool, true, false, eqb, List, [], ◌∷◌, length, Option, Some, None, refl, ap, sym, subst, ◌∙◌, arith}
 use Rattle.std.specs.Prelude.{slice_get, option_map}
-use Rattle.std.specs.List.{range_with_len}
 use Rattle.std.proofs.lemmas.Bool.{eqb-true, eq-eqb}
-use Rattle.std.proofs.lemmas.List.FromFn.{get_or-range_with_len, length-range_with_len}
+use Rattle.std.proofs.lemmas.List.FromFn.{get_or-range_with_len}
 use Rattle.std.proofs.lemmas.Option.{slice_get_within, get_or_from_slice_get}
 use Rattle.pv_outside.specs.declared.limits.Limits.{Limits}
 use Rattle.pv_fields.specs.Reading.{◌>>=◌}
 use Rattle.pv_fields.specs.Refusals.{first_of, some_if}
-use Rattle.pv_edits.specs.Edits.{is_edit_of, number_in, later_or_first, last_index}
+use Rattle.pv_edits.specs.Edits.{is_edit_of, number_in, last_index}
 use Rattle.pv_edits.specs.declared.record.Record.{Record}
 use Rattle.pv_edits.specs.declared.wish.EditWish.{EditWish}
 use Rattle.pv_node.specs.declared.decision.Decision.{Decision}
@@ -18,7 +17,7 @@ use Rattle.pv_udc.specs.Requests.{IsRequest, HasCentre, edit_of, record_of}
 use Rattle.pv_udc.specs.Judgement.{last_edit, next_number, kept_place, editor_refusal, refusal_of, reply_to, answers_of, decision_of, judge}
 use Rattle.pv_udc.specs.declared.refusal.Refusal.{Refusal}
 use Rattle.pv_udc.specs.declared.reply.UdcReply.{UdcReply}
-use Rattle.pv_udc.specs.declared.reply.UdcReply.TheVariants.{Stored, Again, Old, Early, Refused}
+use Rattle.pv_udc.specs.declared.reply.UdcReply.TheVariants.{Stored, Again, Refused}
 use Rattle.pv_udc.specs.declared.request.UdcRequest.{UdcRequest}
 use Rattle.pv_udc.specs.declared.request.UdcRequest.TheVariants.{Edit, TakeUp}
 use Rattle.pv_udc.specs.Deciding.{is_done, is_stored, numbered}
@@ -27,6 +26,10 @@ use Rattle.pv_udc.proofs.Numbering.{is_edit_of-wish, number_in-wish}
 pub use Rattle.pv_udc.specs.Rooms.{has_room-judged}
 -- one record more is its editor's last edit, and no other's
 pub use Rattle.pv_udc.proofs.LastEdits.{last_edit-his, last_edit-others}
+-- the last record that passes a test is in the list, and passes
+pub use Rattle.pv_udc.proofs.LastEdits.{last_index-within, last_index-passed}
+-- what is found of an account's lines, from the last one back
+pub use Rattle.pv_udc.proofs.Linking.{if_charged, billed_line-charge, charge_before-line, filter_map-none, filter_map-last}
 
 -- a number and a place
 abbrev pair : ℕ → ℕ → Option (ℕ × ℕ)
@@ -117,27 +120,6 @@ module _ (limits : Limits) (records : List Record) (editor q : ℕ) (wish : Edit
       by None None None last answered = absurd cc
 
 -- ---- an editor's last edit
-
--- the record at the last index passes
-last_index-passed : (test : Record → Bool) (records : List Record) (i : ℕ) (edit : Record) → last_index test records ≡ Some i
-    → slice_get records i ≡ Some edit
-    → test edit ≡ true
-last_index-passed test [] i edit last is = absurd cc
-last_index-passed test (first ∷ later) i edit last is = by (test first) refl (last_index test later)
-    (λ k found. last_index-passed test later k edit found) last
-  where
-    by : (passes : Bool) → test first ≡ passes → (found : Option ℕ)
-        → ((k : ℕ) → found ≡ Some k → slice_get later k ≡ Some edit → test edit ≡ true)
-        → later_or_first passes found ≡ Some i → test edit ≡ true
-    by passes how (Some k) later_one at =
-        let next : suc k ≡ i = cc in
-        later_one k refl (ap (slice_get (first ∷ later)) next ∙ is)
-    by true how None later_one at =
-        let next : 0 ≡ i = cc in
-        let here : Some first ≡ Some edit = ap (slice_get (first ∷ later)) next ∙ is in
-        let same : first ≡ edit = cc in
-        sym (ap test same) ∙ how
-    by false how None later_one at = absurd cc
 
 -- it stands at its place, under its number
 pub record IsThere (records : List Record) (editor q place : ℕ) : Type 0 where

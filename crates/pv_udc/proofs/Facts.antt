@@ -13,7 +13,7 @@ use Rattle.pv_edits.specs.declared.record.Record.TheVariants.{Put, Drop, Account
 use Rattle.pv_edits.specs.declared.down.DownRecord.TheVariants.{Whole, Blank}
 use Rattle.pv_edits.specs.declared.wish.EditWish.TheVariants as wishes
 use Rattle.pv_node.specs.declared.decision.Decision.TheVariants.{Answer, Store}
-use Rattle.pv_udc.specs.Bills.{billed_lines, billed_pence, charge_place}
+use Rattle.pv_udc.specs.Bills.{billed_lines, billed_pence, last_charge, charge_before}
 use Rattle.pv_udc.specs.Codes.{code_of}
 use Rattle.pv_udc.specs.Judgement.{last_edit, next_number, judge}
 use Rattle.pv_udc.specs.Numbers.{numbers_of, from_one}
@@ -152,12 +152,19 @@ bill-lines = refl
 pub bill-pence : billed_pence charges 5 ≡ 108
 bill-pence = refl
 
--- its lines are at these places
-pub charge-first : charge_place charges 5 0 ≡ Some 1
-charge-first = refl
+-- its lines are at these places, from the last one back
+pub charge-last : last_charge charges 5 ≡ Some 4
+charge-last = refl
 
-pub charge-next : charge_place charges 5 2 ≡ Some 4
-charge-next = refl
+pub charge-before : charge_before charges 4 ≡ Some 1
+charge-before = refl
 
-pub charge-no_more : charge_place charges 5 5 ≡ None
+pub charge-no_more : charge_before charges 1 ≡ None
 charge-no_more = refl
+
+-- another record is before none, and an account without lines has no last one
+pub charge-no_line : charge_before charges 3 ≡ None
+charge-no_line = refl
+
+pub charge-none : last_charge charges 7 ≡ None
+charge-none = refl

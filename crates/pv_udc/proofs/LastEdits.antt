@@ -34,18 +34,18 @@ longer false None n i inside is = absurd cc
 
 module _ (test : Record → Bool) where
   -- the last index is within the list
-  within : (records : List Record) (i : ℕ) → last_index test records ≡ Some i → i < length records
-  within [] i is = absurd cc
-  within (x ∷ xs) i is = longer (test x) (last_index test xs) (length xs) i (within xs) is
+  pub last_index-within : (records : List Record) (i : ℕ) → last_index test records ≡ Some i → i < length records
+  last_index-within [] i is = absurd cc
+  last_index-within (x ∷ xs) i is = longer (test x) (last_index test xs) (length xs) i (last_index-within xs) is
 
   -- a record that passes is the last one that does
-  last_index-passes : (records : List Record) (edit : Record) → test edit ≡ true
+  pub last_index-passes : (records : List Record) (edit : Record) → test edit ≡ true
       → last_index test (records ++ edit ∷ []) ≡ Some (length records)
   last_index-passes [] edit passes = rw passes refl
   last_index-passes (x ∷ xs) edit passes = rw (last_index-passes xs edit passes) refl
 
   -- one that does not pass changes nothing
-  last_index-fails : (records : List Record) (edit : Record) → test edit ≡ false
+  pub last_index-fails : (records : List Record) (edit : Record) → test edit ≡ false
       → last_index test (records ++ edit ∷ []) ≡ last_index test records
   last_index-fails [] edit fails = rw fails refl
   last_index-fails (x ∷ xs) edit fails = rw (last_index-fails xs edit fails) refl
@@ -56,12 +56,33 @@ module _ (test : Record → Bool) where
   last_record-fails : (records : List Record) (edit : Record) → test edit ≡ false
       → last_record test (records ++ edit ∷ []) ≡ last_record test records
   last_record-fails records edit fails =
-      rw (last_index-fails records edit fails) (there (last_index test records) (within records))
+      rw (last_index-fails records edit fails) (there (last_index test records) (last_index-within records))
     where
       there : (o : Option ℕ) → ((k : ℕ) → o ≡ Some k → k < length records)
           → (o >>= slice_get (records ++ edit ∷ [])) ≡ (o >>= slice_get records)
       there None inside = refl
       there (Some k) inside = slice_get-before records (edit ∷ []) k edit (inside k refl)
+
+-- the record at the last index passes
+pub last_index-passed : (test : Record → Bool) (records : List Record) (i : ℕ) (edit : Record) → last_index test records ≡ Some i
+    → slice_get records i ≡ Some edit
+    → test edit ≡ true
+last_index-passed test [] i edit last is = absurd cc
+last_index-passed test (first ∷ later) i edit last is = by (test first) refl (last_index test later)
+    (λ k found. last_index-passed test later k edit found) last
+  where
+    by : (passes : Bool) → test first ≡ passes → (found : Option ℕ)
+        → ((k : ℕ) → found ≡ Some k → slice_get later k ≡ Some edit → test edit ≡ true)
+        → later_or_first passes found ≡ Some i → test edit ≡ true
+    by passes how (Some k) later_one at =
+        let next : suc k ≡ i = cc in
+        later_one k refl (ap (slice_get (first ∷ later)) next ∙ is)
+    by true how None later_one at =
+        let next : 0 ≡ i = cc in
+        let here : Some first ≡ Some edit = ap (slice_get (first ∷ later)) next ∙ is in
+        let same : first ≡ edit = cc in
+        sym (ap test same) ∙ how
+    by false how None later_one at = absurd cc
 
 -- ---- an editor's last edit
 
@@ -96,7 +117,7 @@ pub last_edit-others : (records : List Record) (edit : Record) (editor : ℕ) �
     → last_edit (records ++ edit ∷ []) editor ≡ last_edit records editor
 last_edit-others records edit editor other =
     rw (last_index-fails (is_edit_of editor) records edit other, all_places-push records edit)
-    (numbered_at-before records edit (last_index (is_edit_of editor) records) (within (is_edit_of editor) records))
+    (numbered_at-before records edit (last_index (is_edit_of editor) records) (last_index-within (is_edit_of editor) records))
 
 -- ---- accounts stay
 

@@ -1,9 +1,10 @@
+mod BillsKept
 pub mod CallerLemmas
 mod Facts
 mod Growing
 mod LastEdits
 mod Least
-mod NextLine
+mod Linking
 mod Numbering
 mod Repeating
 mod Replying

@@ -1,14 +1,14 @@
 -- Bills: the charge lines that came up for an account.
-use Rattle.std.specs.Prelude.{ℕ, ◌==◌, Bool, List, Option, Some, None, is_some, if◌then◌else◌}
+use Rattle.std.specs.Prelude.{ℕ, ◌==◌, Bool, List, take, length, slice_get, Option, Some, None, is_some, option_map, if◌then◌else◌}
 use Rattle.std.specs.List.{filter_map, sum_by}
+use Rattle.pv_fields.specs.Reading.{◌>>=◌}
 use Rattle.pv_charge.specs.Line.{Charge}
+use Rattle.pv_charge.specs.declared.bill.Bill.{Bill}
 use Rattle.pv_post.specs.declared.item.Item.{Item}
 use Rattle.pv_post.specs.declared.item.Item.TheVariants as items
+use Rattle.pv_edits.specs.Edits.{last_index}
 use Rattle.pv_edits.specs.declared.record.Record.{Record}
 use Rattle.pv_edits.specs.declared.record.Record.TheVariants.{Put, Drop, Account, Lease, Taken}
-use Rattle.pv_udc.specs.Replies.{brings_reply_to, place_from}
-use Rattle.pv_udc.specs.declared.sought.Sought.{Sought}
-use Rattle.pv_udc.specs.declared.sought.Sought.TheVariants as sought
 
 -- the item's charge line, if it is one of this account
 abbrev pub line_of_item : ℕ → Item → Option Charge
@@ -32,15 +32,38 @@ billed_lines records account = filter_map (billed_line account) records
 abbrev pub billed_pence : List Record → ℕ → ℕ
 billed_pence records account = sum_by (λ line. line.price) (billed_lines records account)
 
+-- the bill of an account
+abbrev pub bill_of : List Record → ℕ → Bill
+bill_of records account = record { lines = length (billed_lines records account); pence = billed_pence records account }
+
+-- ---- from line to line
+
 -- the record brought a charge line of this account
 abbrev pub brings_charge_to : ℕ → Record → Bool
 brings_charge_to account edit = is_some (billed_line account edit)
 
--- the first place, from this one on, of such a record
-abbrev pub charge_place : List Record → ℕ → ℕ → Option ℕ
-charge_place records account from = place_from (brings_charge_to account) records from
+-- the place of an account's last charge line
+abbrev pub last_charge : List Record → ℕ → Option ℕ
+last_charge records account = last_index (brings_charge_to account) records
 
--- the record brought what is sought
-abbrev pub brings : List Record → Sought → Record → Bool
-brings records (sought.Reply editor) = brings_reply_to records editor
-brings records (sought.Charge account) = brings_charge_to account
+-- the charge line that an item is, whatever account it is charged to
+abbrev pub charge_of_item : Item → Option Charge
+charge_of_item (items.Charge line) = Some line
+charge_of_item (items.Reply reply) = None
+charge_of_item (items.Mail mail) = None
+
+-- the charge line that the record brought
+abbrev pub charge_in : Record → Option Charge
+charge_in (Put editor q name frame) = None
+charge_in (Drop editor q name) = None
+charge_in (Account editor q profile) = None
+charge_in (Lease editor q root lessee) = None
+charge_in (Taken taken) = charge_of_item taken.item
+
+-- the account that it is charged to
+abbrev pub charged_to : Record → Option ℕ
+charged_to edit = option_map (λ line. line.account) (charge_in edit)
+
+-- the place of the charge line before the one at this place, of the same account
+abbrev pub charge_before : List Record → ℕ → Option ℕ
+charge_before records place = slice_get records place >>= charged_to >>= last_charge (take place records)

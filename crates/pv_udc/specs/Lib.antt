@@ -1,9 +1,11 @@
 pub mod Bills
+pub mod Charges
 pub mod Codes
 pub mod Counts
 pub mod Deciding
 pub mod EditList
 pub mod Judgement
+pub mod Keeping
 pub mod Numbers
 pub mod Replies
 pub mod Requests

@@ -100,7 +100,7 @@ impl UdcState {
     {
         match wish {
             EditWish::Put { name, frame } => self.put(editor, q, *name, frame),
-            EditWish::Drop { name } => self.drop(editor, q, *name),
+            EditWish::Drop { name } => self.drop_frame(editor, q, *name),
             EditWish::Account { account } => self.account(editor, q, account),
             EditWish::Lease { root, account } => self.lease(editor, q, *root, *account),
         }
@@ -130,7 +130,7 @@ impl UdcState {
     }
 
     /// The record that drops a name's frame.
-    fn drop(&self, editor: AccountNo, q: u32, name: FrameName) -> Result<Record, Refusal>
+    fn drop_frame(&self, editor: AccountNo, q: u32, name: FrameName) -> Result<Record, Refusal>
         ensures { result ≡ unless (refusal_of self.now.limits self.now.records editor q
             (wishes.Drop name)) (edit_of editor q (wishes.Drop name)) }
     {

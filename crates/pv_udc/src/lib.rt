@@ -7,7 +7,9 @@
 //! - A [`Refusal`] says why an edit is not stored. Its [`Code`] is what goes to the editor: a number,
 //!   and the number that its text shows.
 //! - [`down`] is what a centre gets of a record.
-//! - [`UdcState::bill`] is how many charge lines came up for an account, and the sum of their prices.
+//! - [`UdcState::bill`] is how many charge lines came up for an account, and the sum of their prices. Its
+//!   lines are found one after the other, from the last one: [`UdcState::last_charge`] and
+//!   [`UdcState::charge_before`].
 //!
 //! An editor numbers his edits 1, 2, 3 and on. A request under his last number is the same edit again,
 //! whatever it asks: its reply is [`UdcReply::Again`] with the place that is kept, and nothing is stored.
@@ -26,6 +28,7 @@
 #![tactic(auto)]
 
 mod billing;
+mod charges;
 mod judging;
 mod law;
 mod refusal;
@@ -33,7 +36,6 @@ mod reply;
 mod request;
 mod rules;
 mod sending;
-mod sought;
 mod state;
 
 pub use law::{

@@ -6,7 +6,7 @@ ghost use Rattle.pv_edits.specs.Taken.{IsCentre};
 ghost use Rattle.pv_edits.specs.declared.record.Record.{Record};
 ghost use Rattle.pv_udc.specs.Counts.{counted_on};
 
-use crate::sought::Sought;
+use crate::charges::Charges;
 use pv_account::LAST_CENTRE;
 use pv_edits::{Base, Record};
 use pv_outside::Limits;
@@ -18,31 +18,46 @@ use std::marker::Model;
 /// How many centres there can be.
 pub const CENTRES: usize = 4;
 
-/// What the Update Centre knows: its edit list, what follows from it, and how many items of each centre
-/// were taken up. All room is reserved when it is opened.
-#[derive(Debug, Drop)]
+/// What the Update Centre knows: its edit list, what follows from it, how many items of each centre were
+/// taken up, and the charge lines among them. All room is reserved when it is opened.
+#[derive(Debug)]
 pub struct UdcState {
     base: Base,
     limits: Limits,
     count: u64,
     counts: [u64; CENTRES],
+    charges: Charges,
 }
 
 impl Model for UdcState {
-    ghost use Rattle.pv_udc.specs.EditList.{EditList, IsCounted};
+    ghost use Rattle.pv_udc.specs.EditList.{EditList};
+    ghost use Rattle.pv_udc.specs.Keeping.{IsKeptList};
 
     ghost Value = { EditList };
 
     ghost view = { λ s. record { limits = s.limits; records = s.base.records } };
 
-    ghost invariant = { λ s. IsCounted s.base s.limits s.count s.counts };
+    ghost invariant = { λ s. IsKeptList s.base s.limits s.count s.counts s.charges };
+}
+
+impl Drop for UdcState {
+    /// Written out, so that who lets go of it has one call to think of and not each part.
+    fn drop(self) {
+        let UdcState {
+            base: _,
+            limits: _,
+            count: _,
+            counts: _,
+            charges: _,
+        } = self;
+    }
 }
 
 impl UdcState {
     ghost use Rattle.pv_udc.specs.EditList.{empty_list, with_record, all_places};
     ghost use Rattle.pv_udc.specs.Judgement.{last_edit};
-    ghost use Rattle.pv_udc.specs.Bills.{brings, charge_place};
-    ghost use Rattle.pv_udc.specs.Replies.{brings_reply_to, place_from, reply_place};
+    ghost use Rattle.pv_udc.specs.Charges.{AreChargesOf};
+    ghost use Rattle.pv_udc.specs.Replies.{brings_reply_to, reply_place};
 
     /// The state of no records. Room for `limits.records` records is reserved.
     pub fn open(alloc: Global, limits: Limits) -> Result<UdcState, AllocError>
@@ -53,6 +68,7 @@ impl UdcState {
             limits,
             count: 0,
             counts: [0; CENTRES],
+            charges: Charges::open(alloc, limits.records as usize)?,
         })
     }
 
@@ -65,6 +81,7 @@ impl UdcState {
             limits: self.limits,
             count: self.count,
             counts: self.counts,
+            charges: self.charges.copy(alloc, self.limits.records as usize)?,
         })
     }
 
@@ -86,6 +103,7 @@ impl UdcState {
         self.base.absorb(rec, place);
         self.count += 1;
         count_item(&mut self.counts, rec);
+        self.charges.push(rec);
     }
 
     /// The base of the records: frames, accounts, leases and editors' numbers.
@@ -130,39 +148,12 @@ impl UdcState {
     pub fn reply_for(&self, editor: AccountNo, from: u64) -> Option<u64>
         ensures { result ≡ reply_place self.now.records editor from }
     {
-        self.first_place(&Sought::Reply(editor), from)
-    }
-
-    /// The first place, from this one on, of a record that brought a charge line of the account. `None`
-    /// exactly when there is none.
-    pub fn charge_for(&self, account: AccountNo, from: u64) -> Option<u64>
-        ensures { result ≡ charge_place self.now.records account from }
-    {
-        self.first_place(&Sought::Charge(account), from)
-    }
-
-    /// The first place, from this one on, of a record that brought what is sought.
-    fn first_place(&self, sought: &Sought, from: u64) -> Option<u64>
-        ensures { result ≡ place_from (brings self.now.records sought.now) self.now.records from }
-    {
         for place in from..self.count {
-            if self.brings(sought, place) {
+            if self.brings_reply_to(editor, place) {
                 return Some(place);
             }
         }
         None
-    }
-
-    /// Whether the record at a place brought what is sought.
-    fn brings(&self, sought: &Sought, place: u64) -> bool
-        requires { place < length self.now.records }
-        ensures { (rec : Record) → slice_get self.now.records place ≡ Some rec →
-            result ≡ brings self.now.records sought.now rec }
-    {
-        match sought {
-            Sought::Reply(editor) => self.brings_reply_to(*editor, place),
-            Sought::Charge(account) => self.line_at(*account, place).is_some(),
-        }
     }
 
     /// Whether the record at a place brought a reply to a page that is the editor's now.
@@ -227,6 +218,14 @@ impl UdcState {
         ensures { result ≡ lease_fits self.now.records root }
     {
         self.base.lease_fits(root)
+    }
+
+    /// The charge lines among the records.
+    pub(crate) fn charges(&self) -> &Charges
+        ensures charged { AreChargesOf result.now self.now.limits.records self.now.records }
+        ensures within { length self.now.records ≤ self.now.limits.records }
+    {
+        &self.charges
     }
 
     /// How many frames there may be.

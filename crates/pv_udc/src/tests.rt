@@ -443,25 +443,60 @@ fn a_reply_is_for_whoever_has_the_page_now(rt: HostRuntime) -> Result<(), Fail> 
     Ok(())
 }
 
-/// Two charge lines of the first account, with a reply and a line of the second account between them.
-const CHARGES: [Arrival; 4] = [
+/// Charge lines of two accounts in turn, and a reply among them.
+const CHARGES: [Arrival; 6] = [
     (0, 0, Sent::Charge, UdcReply::Stored(0)),
     (0, 1, Sent::Reply(b"12a"), UdcReply::Stored(1)),
     (1, 0, Sent::ChargeToSecond, UdcReply::Stored(2)),
     (0, 2, Sent::Charge, UdcReply::Stored(3)),
+    (2, 0, Sent::Charge, UdcReply::Stored(4)),
+    (1, 1, Sent::ChargeToSecond, UdcReply::Stored(5)),
 ];
+
+/// An account, how many lines its bill has, their pence, and the place of the last one.
+type Billed = (u64, u32, u64, Option<u64>);
+
+/// The first row that is not the bill of its account.
+fn first_unlike(state: &UdcState, rows: &[Billed]) -> Result<Option<Billed>, Fail> {
+    for row in rows {
+        let (number, lines, pence, last) = *row;
+        let account = account_no(number)?;
+        if state.bill(account) != (Bill { lines, pence }) || state.last_charge(account) != last {
+            return Ok(Some(*row));
+        }
+    }
+    Ok(None)
+}
+
+/// The first place whose line before is not at the place beside it.
+fn first_astray(state: &UdcState, rows: &[(u64, Option<u64>)]) -> Option<u64> {
+    for (place, before) in rows {
+        if state.charge_before(*place) != *before {
+            return Some(*place);
+        }
+    }
+    None
+}
 
 #[test]
 fn a_bill_has_the_lines_of_its_account(rt: HostRuntime) -> Result<(), Fail> {
     let mut state = UdcState::open(rt.alloc(), LARGE)?;
     assert_eq!(rt; first_amiss(&mut state, &CHARGES)?, None);
-    for (number, lines, pence) in [(FIRST, 2, 50), (SECOND, 1, 99), (0, 0, 0)] {
-        let bill = state.bill(account_no(number)?);
-        assert_eq!(rt; bill, Bill { lines, pence }, "{number}");
-    }
-    let first = account_no(FIRST)?;
-    for (from, place) in [(0, Some(0)), (1, Some(3)), (4, None), (u64::MAX, None)] {
-        assert_eq!(rt; state.charge_for(first, from), place);
-    }
+    let bills = [
+        (FIRST, 3, 75, Some(4)),
+        (SECOND, 2, 198, Some(5)),
+        (0, 0, 0, None),
+    ];
+    assert_eq!(rt; first_unlike(&state, &bills)?, None);
+    let links = [
+        (5, Some(2)),
+        (4, Some(3)),
+        (3, Some(0)),
+        (2, None),
+        (1, None),
+        (0, None),
+        (6, None),
+    ];
+    assert_eq!(rt; first_astray(&state, &links), None);
     Ok(())
 }

@@ -32,26 +32,54 @@ fn edit(node: &mut Udc, q: u32, asked: Ask) -> Result<(UdcReply, Option<u64>), F
     }
 }
 
-#[test]
-fn stored_edits_are_there_after_a_crash(rt: HostRuntime) -> Result<(), Fail> {
-    let mut disk = MemDisk::new(rt.alloc(), 10_000, &[])?;
-    format(&mut disk)?;
-    let mut node = open(disk, rt.alloc(), LARGE)?;
-    let put = Ask::Put(b"1a");
-    assert_eq!(rt; edit(&mut node, 1, put)?, (UdcReply::Stored(0), Some(0)));
-    assert_eq!(rt; edit(&mut node, 1, put)?, (UdcReply::Again(0), None));
-    let drop = Ask::Drop(b"1a");
-    assert_eq!(rt; edit(&mut node, 2, drop)?, (UdcReply::Stored(1), Some(1)));
-    let mut disk = node.into_disk();
-    disk.crash(97);
-    let mut node = open(disk, rt.alloc(), LARGE)?;
-    assert_eq!(rt; node.count(), 2);
-    let last = Record::Drop {
+/// A number of the operator's, what he asks, the reply, and the place of the record that it stored.
+type Asked = (u32, Ask, UdcReply, Option<u64>);
+
+/// The index of the first edit that has another reply, or stores at another place.
+fn first_unlike(node: &mut Udc, edits: &[Asked]) -> Result<Option<usize>, Fail> {
+    for (i, (q, asked, reply, place)) in edits.iter().enumerate() {
+        if edit(node, *q, *asked)? != (*reply, *place) {
+            return Ok(Some(i));
+        }
+    }
+    Ok(None)
+}
+
+const BEFORE: [Asked; 3] = [
+    (1, Ask::Put(b"1a"), UdcReply::Stored(0), Some(0)),
+    (1, Ask::Put(b"1a"), UdcReply::Again(0), None),
+    (2, Ask::Drop(b"1a"), UdcReply::Stored(1), Some(1)),
+];
+
+const AFTER: [Asked; 1] = [(2, Ask::Drop(b"1a"), UdcReply::Again(1), None)];
+
+/// A node's disk after these edits, and the index of the first that went wrong.
+fn edited(disk: MemDisk, alloc: Global, edits: &[Asked]) -> Result<(MemDisk, Option<usize>), Fail> {
+    let mut node = open(disk, alloc, LARGE)?;
+    let amiss = first_unlike(&mut node, edits)?;
+    Ok((node.into_disk(), amiss))
+}
+
+/// Whether a node has two records, of which the last is the drop.
+fn has_the_drop(node: &Udc) -> Result<bool, Fail> {
+    let drop = Record::Drop {
         editor: account_no(0)?,
         q: 2,
         name: name(b"1a")?,
     };
-    assert!(rt; node.state().rec_at(1) == Some(&last));
-    assert_eq!(rt; edit(&mut node, 2, drop)?, (UdcReply::Again(1), None));
+    Ok(node.count() == 2 && node.state().rec_at(1) == Some(&drop))
+}
+
+#[test]
+fn stored_edits_are_there_after_a_crash(rt: HostRuntime) -> Result<(), Fail> {
+    let mut disk = MemDisk::new(rt.alloc(), 10_000, &[])?;
+    format(&mut disk)?;
+    let (mut disk, amiss) = edited(disk, rt.alloc(), &BEFORE)?;
+    assert_eq!(rt; amiss, None);
+    disk.crash(97);
+    let node = open(disk, rt.alloc(), LARGE)?;
+    assert!(rt; has_the_drop(&node)?);
+    let (_, amiss) = edited(node.into_disk(), rt.alloc(), &AFTER)?;
+    assert_eq!(rt; amiss, None);
     Ok(())
 }

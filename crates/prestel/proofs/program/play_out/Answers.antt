@@ -1,5 +1,5 @@
 use Rattle.pv_script.specs.Play.{first_world}
-use Rattle.prestel.proofs.Flushing.{flushed, out_of_memory, not_flushed}
+use Rattle.prestel.proofs.Flushing.{as_played, flushed, not_flushed, out_of_memory}
 use Rattle.prestel.proofs.program.play_out.Goals as goal
 
 -- the buffer was flushed
@@ -24,3 +24,9 @@ returns-in-Memory-clause-runs g c = λ centres asks.
       out_of_memory g.W.Write.contents centres (first_world centres) plays.0 _ _ _ c.args.out.now c.play-status.new.out c.flush-in-Memory.new.self flush.kept
           _ c.flush-in-Memory.result plays.2 c.in-Memory.is flush.flushed flush.failed c.play-status.ensures.counted.1,
     )
+
+-- there was nothing to flush
+pub returns-in-Usage-clause-runs : goal.returns-in-Usage-clause-runs
+returns-in-Usage-clause-runs g c = λ centres asks.
+    let plays = c.play-status.ensures.plays centres asks in
+    (plays.0, plays.1, as_played g.W.Write.contents centres (first_world centres) plays.0 _ _ _ c.args.out.now c.play-status.new.out _ plays.2 c.in-Usage.is)

@@ -1,8 +1,9 @@
-use Rattle.std.proofs.Common.{◌≡◌, None, take}
-use Rattle.std.specs.List.{fold}
-use Rattle.pv_edits.specs.Owner.{lot_after}
+use Rattle.pv_edits.proofs.Search.{IsSearch, left}
 use Rattle.pv_edits.proofs.owner.lot_of.Given as goal
 
--- the best lot so far
-abbrev pub invariant-loop-edit : goal.invariant-loop-edit
-invariant-loop-edit l = l.best ≡ fold (lot_after l.page) None (take l.edit-index l.records)
+-- no longer root that covers the page is leased
+abbrev pub invariant-loop-next : goal.invariant-loop-next
+invariant-loop-next l = IsSearch l.records.items l.fn.page l.next
+
+abbrev pub decreases-loop-next : goal.decreases-loop-next
+decreases-loop-next l = left l.next

@@ -1,26 +1,46 @@
-use Rattle.std.proofs.Common.{◌<◌, ◌++◌, List, length, ap, sym, ◌∙◌, arith}
-use Rattle.std.specs.Option.{option_to_list}
-use Rattle.pv_edits.specs.declared.record.Record.{Record}
-use Rattle.pv_edits.specs.declared.record.Record.TheVariants.{Drop}
-use Rattle.pv_network.specs.Bills.{billed_in}
+use Rattle.std.proofs.Common.{rules, ◌≡◌, Some, None, ap, ◌∙◌}
+use Rattle.std.specs.Prelude.{List}
+use Rattle.pv_network.specs.Bills.{bill_answer}
 use Rattle.pv_network.specs.declared.outcome.BillLine.{BillLine}
-use Rattle.pv_network.proofs.Finding.{found_more, one_more_at_most}
+use Rattle.pv_network.proofs.GoingBack.{begins, there, fewer, falls, goes_on, ends}
 use Rattle.pv_network.proofs.bills.bill.Goals as goal
 
--- some record
-some : Record
-some = Drop 0 0 (record { page = 0; letter = 0 })
+-- no line was found
+pub loop-next-init : goal.loop-next-init
+loop-next-init c = rw (c.last_charge-next.ensures.value, c.new-lines.ensures) (begins c.args.update.now.records c.args.account)
 
--- one more is found, or none
-pub loop-place-preserved : goal.loop-place-preserved
-loop-place-preserved c =
-    let before = c.loop-place.invariant in
-    let found = c.billed_at.result in
-    let within : c.loop-place.place < length c.args.update.now.records = omega (arith, c.loop-place-test.true, before.end) in
-    let more = found_more (billed_in c.args.account) c.args.update.now.records c.loop-place.place some within found c.billed_at.ensures in
-    let added = c.in_ok-add.ensures in
-    record {
-      lines = added ∙ ap (λ (l : List BillLine). l ++ option_to_list found) before.lines ∙ sym more;
-      few = omega (arith, one_more_at_most c.loop-place.lines found, ap (λ (l : List BillLine). length l) added, before.few);
-      end = before.end;
-    }
+-- the next place is that of a record
+pub billed_at-requires : goal.billed_at-requires
+billed_at-requires c =
+    let place : c.loop-next.next ≡ Some c.in-Some.place = search rules in
+    there c.args.update.now.records c.args.account c.loop-next.next c.in-Some.place c.loop-next.lines c.loop-next.invariant place
+
+-- there are fewer lines than a bill may have
+pub add-requires : goal.add-requires
+add-requires c =
+    let place : c.loop-next.next ≡ Some c.in-Some.place = search rules in
+    let few = fewer c.args.update.now.records c.args.account c.loop-next.next c.in-Some.place c.loop-next.lines c.loop-next.invariant place in
+    let within = c.last_charge-next.ensures.within in
+    search (rules, few, within)
+
+-- its line is found
+pub loop-next-preserved : goal.loop-next-preserved
+loop-next-preserved c =
+    let place : c.loop-next.next ≡ Some c.in-Some.place = search rules in
+    rw (c.charge_before-next.ensures, c.in_ok-add.ensures)
+    (goes_on c.args.update.now.records c.args.account c.loop-next.next c.in-Some.place c.loop-next.lines c.loop-next.invariant place
+    c.billed_at.result c.billed_at.ensures)
+
+-- the line before it is farther back
+pub loop-next-smaller : goal.loop-next-smaller
+loop-next-smaller c =
+    let place : c.loop-next.next ≡ Some c.in-Some.place = search rules in
+    rw (c.charge_before-next.ensures, place)
+    (falls c.args.update.now.records c.args.account c.loop-next.next c.in-Some.place c.loop-next.lines c.loop-next.invariant place)
+
+-- all lines were found
+pub returns : goal.returns
+returns c =
+    let none : c.loop-next.next ≡ None = search rules in
+    let lines = ends c.args.update.now.records c.args.account c.loop-next.next c.loop-next.lines c.loop-next.invariant none in
+    c.answer.ensures ∙ ap (λ (l : List BillLine). bill_answer l) (c.reverse.ensures ∙ lines)

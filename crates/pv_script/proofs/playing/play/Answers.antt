@@ -2,9 +2,20 @@ use Rattle.std.proofs.Common.{◌≡◌, ◌⊎◌, ℕ, List, subst, sym, ◌�
 use Rattle.pv_outside.specs.declared.status.Status.{Status}
 use Rattle.pv_outside.specs.declared.status.Status.TheVariants.{Done, Memory}
 use Rattle.pv_script.specs.Ends.{IsRunEnd}
-use Rattle.pv_script.specs.Play.{IsScript, first_world}
+use Rattle.pv_script.specs.Play.{IsPlayed, IsScript, first_world}
 use Rattle.pv_script.proofs.Ending.{run_completes}
 use Rattle.pv_script.proofs.playing.play.Goals as goal
+
+-- the whole text was run
+pub returns-in-Ok-run-clause-plays : goal.returns-in-Ok-run-clause-plays
+returns-in-Ok-run-clause-plays g c = λ centres asks.
+    let read = c.in-Ok.ensures.read in
+    let before = g.K.Sink.written c.args.out.now in
+    let now = g.K.Sink.written c.run.new.out in
+    let asked : c.in-Some.centres ≡ centres = let is = c.in-Some.ensures.only centres asks in cc in
+    let played = subst (λ (t : List ℕ). IsPlayed c.in-Some.centres (first_world c.in-Some.centres) t c.in-Ok-run.network before now)
+    (c.deref.ensures.value ∙ read.2.0) c.in-Ok-run.ensures.ok.played in
+    (read.0, read.1, (read.2.1, subst (λ (n : ℕ). IsPlayed n (first_world n) read.0 c.in-Ok-run.network before now) asked played))
 
 -- all lines of a valid script are run, unless a write failed or memory ran out
 pub returns-clause-succeeds : goal.returns-clause-succeeds
