@@ -1,6 +1,6 @@
 -- Keys one after another: each does in the world what it does at the network.
-use Rattle.std.proofs.Common.{◌≡◌, ℕ, ◌+◌, ◌*◌, ◌<◌, Bool, true, false, cond, List, [], ◌∷◌, ◌++◌, length, get_or, Option, Some, None, refl, sym, ap, subst, ◌∙◌, append_assoc, arith}
-use Rattle.std.specs.Prelude.{map, ◌==◌}
+use Rattle.std.proofs.Common.{◌≡◌, ℕ, ◌+◌, ◌*◌, ◌<◌, Bool, true, false, cond, List, [], ◌∷◌, ◌++◌, length, get_or, Option, Some, None, Result, Ok, Err, refl, sym, ap, subst, ◌∙◌, append_assoc, arith}
+use Rattle.std.specs.Prelude.{map, ◌==◌, IfOk, OnOk}
 use Rattle.std.specs.Char.{digit_value}
 use Rattle.std.proofs.lemmas.List.{append-nil}
 use Rattle.pv_fields.specs.Refusals.{some_if}
@@ -13,7 +13,7 @@ use Rattle.pv_network.specs.Calling.{call_at, step_of_press, step_of_store, step
 use Rattle.pv_network.specs.Calls.{Calls, call_in, IsPortEntry}
 use Rattle.pv_network.specs.Centre.{Held, calls_of}
 use Rattle.pv_network.specs.Keying.{KeyedByte, bytes_of, is_owes, is_storing, step_of_payment, step_of_key, screens_in, is_over, keys_from, TakesAll, turns_answer, keys_refusal, step_of_keys, TakesAllAt}
-use Rattle.pv_network.specs.Standing.{State, StandsFor}
+use Rattle.pv_network.specs.Standing.{State, StandsFor, PaysKey, TakesKey}
 use Rattle.pv_network.specs.World.{World}
 use Rattle.pv_network.proofs.Calling.{calls_there}
 
@@ -49,6 +49,13 @@ module _ (c port : ℕ) (w : World) (new : State) (outcome : Outcome) where
     pub key_free : outcome ≡ (step_of_press w c port byte entry).1 → is_owes outcome ≡ false
         → Done (step_of_press w c port byte entry) → Done (step_of_key w c port this)
     key_free is test done = let here : is_owes (step_of_press w c port byte entry).1 ≡ false = ap is_owes (sym is) ∙ test in rw here done
+
+-- a key was taken, and its screen added
+pub key_taken : {E : Type 0} (old new : State) (before after : List Turn) (c port byte : ℕ) (outcome : Outcome) (result : Result Bool E)
+    → PaysKey old new outcome c port byte → OnOk result (after ≡ before ++ screens_in outcome)
+    → IfOk result (λ over. over ≡ is_over outcome) → IfOk result (λ over. TakesKey old new before after over c port byte)
+key_taken old new before after c port byte outcome (Ok over) pays turns is = (outcome, pays, turns, is)
+key_taken old new before after c port byte outcome (Err failed) pays turns is = tt
 
 -- ---- notation
 

@@ -19,7 +19,7 @@ use Rattle.pv_network.specs.Calls.{IsPortEntry}
 use Rattle.pv_network.specs.Centre.{Held, CentresStand}
 use Rattle.pv_network.specs.Charging.{IsChargedWorld}
 use Rattle.pv_network.specs.Cutting.{MayBeKept, step_of_cut, IsSaid}
-use Rattle.pv_network.specs.Keying.{KeyedByte, bytes_of, step_of_key, keys_from, TakesAll, step_of_keys, TakesAllAt}
+use Rattle.pv_network.specs.Keying.{KeyedByte, bytes_of, step_of_key, screens_in, is_over, keys_from, TakesAll, step_of_keys, TakesAllAt}
 use Rattle.pv_network.specs.Link.{Link}
 use Rattle.pv_packet.specs.declared.packet.Packet.{Packet}
 use Rattle.pv_network.specs.Sound.{IsGenuine, IsSound}
@@ -71,6 +71,11 @@ PaysKey old new outcome c port byte = (w : World) → StandsFor old w
     → (entry : Option Entry) × IsPortEntry (call_at w c port) byte entry
     × StandsFor new (step_of_key w c port (record { byte = byte; entry = entry })).0
     × (outcome ≡ (step_of_key w c port (record { byte = byte; entry = entry })).1)
+
+-- the same, with the screen that it adds, and whether the call ended
+abbrev pub TakesKey : State → State → List Turn → List Turn → Bool → ℕ → ℕ → ℕ → Type 0
+TakesKey old new before after over c port byte = (outcome : Outcome) × PaysKey old new outcome c port byte
+    × (after ≡ before ++ screens_in outcome) × (over ≡ is_over outcome)
 
 -- the same of all keys of a notation, and the screens that they add
 abbrev pub TakesKeys : State → State → List Turn → List Turn → ℕ → ℕ → List ℕ → Type 0

@@ -1,5 +1,5 @@
-ghost use Rattle.std.specs.Prelude.{◌≡◌, ◌++◌, ◌∷◌, [], OnOk};
-ghost use Rattle.pv_network.specs.Keying.{screens_in, turns_answer};
+ghost use Rattle.std.specs.Prelude.{◌≡◌, ◌++◌, ◌∷◌, [], IfOk, OnOk};
+ghost use Rattle.pv_network.specs.Keying.{screens_in, is_over, turns_answer};
 
 use crate::outcome::{Outcome, Turn};
 use pv_screen::Screen;
@@ -43,7 +43,7 @@ impl Turns {
     }
 
     /// Adds the screen that an outcome shows, if it shows one. The only error is that memory ran out.
-    pub(crate) fn add(&mut self, outcome: &Outcome) -> Result<(), AllocError>
+    fn add(&mut self, outcome: &Outcome) -> Result<(), AllocError>
         ensures { OnOk result (self.new ≡ self.old ++ screens_in outcome.now) }
     {
         match outcome {
@@ -51,6 +51,16 @@ impl Turns {
             Outcome::StoreFull { screen, .. } => self.push(*screen, Some(Why::Full)),
             _ => Ok(()),
         }
+    }
+
+    /// Adds the screen that an outcome shows, if it shows one, and returns whether the call ended with it. The only error
+    /// is that memory ran out.
+    pub(crate) fn take(&mut self, outcome: &Outcome) -> Result<bool, AllocError>
+        ensures turns { OnOk result (self.new ≡ self.old ++ screens_in outcome.now) }
+        ensures over { IfOk result (λ over. over ≡ is_over outcome.now) }
+    {
+        self.add(outcome)?;
+        Ok(outcome.is_over())
     }
 
     /// The answer to keys that showed these screens.

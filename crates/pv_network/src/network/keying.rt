@@ -1,7 +1,7 @@
 ghost use Rattle.std.specs.Prelude.{◌≡◌, ◌<◌, Some, None, length, IfOk, IfSome, OnOk};
 ghost use Rattle.pv_network.specs.declared.event.TheConstants.{PORTS};
 ghost use Rattle.pv_network.specs.Keying.{step_of_payment};
-ghost use Rattle.pv_network.specs.Standing.{Performs, IsNotation, PaysKey, TakesKeys, AnswersKeys};
+ghost use Rattle.pv_network.specs.Standing.{Performs, IsNotation, TakesKey, TakesKeys, AnswersKeys};
 
 use crate::network::Network;
 use crate::outcome::Outcome;
@@ -51,9 +51,7 @@ impl Network {
     {
         let mut rest = text;
         while let Some((byte, later)) = first_byte(rest) {
-            let outcome = self.key(centre, port, byte);
-            turns.add(&outcome)?;
-            if outcome.is_over() {
+            if self.key(centre, port, byte, turns)? {
                 return Ok(());
             }
             rest = later;
@@ -61,19 +59,27 @@ impl Network {
         Ok(())
     }
 
-    /// Takes a byte at a port; what it owes is stored and shown at once.
-    fn key(&mut self, centre: u8, port: usize, byte: u8) -> Outcome
+    /// Takes a byte at a port; what it owes is stored and shown at once. Adds the screen that it shows, and returns
+    /// whether the call ended. The outcome stays here: it has about a thousand bytes, and most keys show nothing.
+    fn key(
+        &mut self,
+        centre: u8,
+        port: usize,
+        byte: u8,
+        turns: &mut Turns,
+    ) -> Result<bool, AllocError>
         requires centre { centre < length self.old.centres }
         requires port { port < PORTS }
-        ensures performs { PaysKey self.old self.new result centre port byte }
+        ensures performs { IfOk result
+            (λ over. TakesKey self.old self.new turns.old turns.new over centre port byte) }
         ensures centres { length self.new.centres ≡ length self.old.centres }
     {
         let pressed = self.press(centre, port, byte);
         if pressed.is_owes() {
-            self.pay(centre as usize, port)
-        } else {
-            pressed
+            let paid = self.pay(centre as usize, port);
+            return turns.take(&paid);
         }
+        turns.take(&pressed)
     }
 
     /// Stores what the call at a port owes, and shows it, if the centre has room.

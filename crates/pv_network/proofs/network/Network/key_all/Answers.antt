@@ -1,11 +1,7 @@
-use Rattle.std.proofs.Common.{rules, ◌≡◌, false, refl, sym, Some, ◌∙◌}
+use Rattle.std.proofs.Common.{rules, refl, sym, ◌∙◌}
 use Rattle.std.specs.Prelude.{IsNone}
-use Rattle.pv_cells.specs.Notation.{notation_at}
-use Rattle.pv_network.specs.Standing.{StandsFor}
-use Rattle.pv_network.specs.World.{World}
-use Rattle.pv_network.proofs.Keying.{Taken, notation_shorter, taken_none, taken_all, taken_over, taken_more}
+use Rattle.pv_network.proofs.Keying.{notation_shorter, taken_none, taken_all, taken_over, taken_more}
 use Rattle.pv_network.proofs.network.Network.key_all.Goals as goal
-use Rattle.pv_network.proofs.network.Network.key_all.Goals.{After-is_over}
 
 -- no key was taken yet
 pub loop-byte-init : goal.loop-byte-init
@@ -16,46 +12,27 @@ loop-byte-init c = record {
   centres = refl;
 }
 
--- the rest has this first byte
-read : (c : After-is_over) → notation_at c.loop-byte.rest.now ≡ Some (c.in-Some.byte, c.in-Some.later.now)
-read c = c.in-Some.ensures.found
-
 -- the call is over
-pub returns-then-is_over-clause-performs : goal.returns-then-is_over-clause-performs
-returns-then-is_over-clause-performs c = λ w stands.
+pub returns-then-branch-clause-performs : goal.returns-then-branch-clause-performs
+returns-then-branch-clause-performs c = λ w stands.
     let p = c.loop-byte.invariant.taken w stands in
-    let one = c.key-outcome.ensures.performs p.world p.stands in
+    let key = c.in_ok-key.ensures.performs in
+    let one = key.1 p.world p.stands in
     taken_over c.args.centre c.args.port c.args.text.now c.args.turns.now w c.loop-byte.rest.now c.loop-byte.self c.loop-byte.turns p
-    c.in-Some.byte one.0 c.in-Some.later.now c.key-outcome.new.self c.key-outcome.result c.add.new.self
-    c.in-Some.ensures.found one.1 one.2 one.3 (search rules) (sym c.is_over.ensures ∙ c.if-is_over.true)
+    c.in-Some.byte one.0 c.in-Some.later.now c.key.new.self key.0 c.key.new.turns
+    c.in-Some.ensures.found one.1 one.2 one.3 key.2 (sym key.3 ∙ c.if-branch.true)
 
 -- the call is not over: with this key taken, the rest follows
-goes_on : (c : After-is_over) → c.is_over.result ≡ false → (w : World) → StandsFor c.args.self.now w
-    → Taken c.args.centre c.args.port c.args.text.now c.args.turns.now w c.in-Some.later.now c.key-outcome.new.self c.add.new.self
-goes_on c on w stands =
-    let p = c.loop-byte.invariant.taken w stands in
-    let one = c.key-outcome.ensures.performs p.world p.stands in
-    taken_more c.args.centre c.args.port c.args.text.now c.args.turns.now w c.loop-byte.rest.now c.loop-byte.self c.loop-byte.turns p
-    c.in-Some.byte one.0 c.in-Some.later.now c.key-outcome.new.self c.key-outcome.result c.add.new.self
-    c.in-Some.ensures.found one.1 one.2 one.3 (search rules) (sym c.is_over.ensures ∙ on)
-
--- more keys follow
 pub loop-byte-preserved : goal.loop-byte-preserved
 loop-byte-preserved c = record {
-  taken = goes_on (goal.at.loop-byte-preserved c).After-is_over c.if-is_over.false;
-  centres = c.key-outcome.ensures.centres ∙ c.loop-byte.invariant.centres;
-}
-
-pub loop-byte-preserved-else-is_over : goal.loop-byte-preserved-else-is_over
-loop-byte-preserved-else-is_over c = record {
-  taken = goes_on (goal.at.loop-byte-preserved-else-is_over c).After-is_over c.if-is_over.false;
-  centres = c.key-outcome.ensures.centres ∙ c.loop-byte.invariant.centres;
-}
-
-pub loop-byte-preserved-else-is_over-2 : goal.loop-byte-preserved-else-is_over-2
-loop-byte-preserved-else-is_over-2 c = record {
-  taken = goes_on (goal.at.loop-byte-preserved-else-is_over-2 c).After-is_over c.if-is_over.false;
-  centres = c.key-outcome.ensures.centres ∙ c.loop-byte.invariant.centres;
+  taken = λ w stands.
+      let p = c.loop-byte.invariant.taken w stands in
+      let key = c.in_ok-key.ensures.performs in
+      let one = key.1 p.world p.stands in
+      taken_more c.args.centre c.args.port c.args.text.now c.args.turns.now w c.loop-byte.rest.now c.loop-byte.self c.loop-byte.turns p
+      c.in-Some.byte one.0 c.in-Some.later.now c.key.new.self key.0 c.key.new.turns
+      c.in-Some.ensures.found one.1 one.2 one.3 key.2 (sym key.3 ∙ c.if-branch.false);
+  centres = c.key.ensures.centres ∙ c.loop-byte.invariant.centres;
 }
 
 -- the rest is shorter
