@@ -72,7 +72,7 @@ append_more f xs i d first now next within before one =
     ∙ ap (λ last. flat_map f (take i xs) ++ last) (append-nil (f x)) in
     rw more (appends_then before one)
 
--- the same for an item x of a loop
+-- one more spelling is appended in a loop whose item is x
 pub appends_more : {X : Type 0} (f : X → List ℕ) (xs : List X) (i : ℕ) (x : X) (first now next : Out) → i < length xs → x ≡ get_or xs i x
     → Appends first now (flat_map f (take i xs)) → Appends now next (f x) → Appends first next (flat_map f (take (i + 1) xs))
 appends_more f xs i x first now next within is before one =
@@ -170,11 +170,11 @@ module _ {X : Type 0} where
   some_if-some false x y some = absurd cc
 
 module _ {X Y : Type 0} where
-  -- a refusal made of an index, if there is one
+  -- with an index, the refusal is the one made of it
   pub option_map-some : (f : X → Y) (o : Option X) (x : X) → o ≡ Some x → option_map f o ≡ Some (f x)
   option_map-some f o x is = ap (option_map f) is
 
-  -- none, if there is no index
+  -- without an index there is no refusal
   pub option_map-none : (f : X → Y) (o : Option X) → o ≡ None → option_map f o ≡ None
   option_map-none f o is = ap (option_map f) is
 

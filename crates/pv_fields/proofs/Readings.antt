@@ -8,7 +8,7 @@ use Rattle.std.proofs.lemmas.List.{take_at, drop_at, append-nil, nil_from_length
 use Rattle.std.proofs.lemmas.List.Concat.{flat_map-cons}
 use Rattle.std.proofs.lemmas.Nat.{be_bytes_2, be_bytes_4, be_bytes_8, from_be_bytes-to_be_bytes_2, from_be_bytes-to_be_bytes_4, from_be_bytes-to_be_bytes_8}
 use Rattle.pv_fields.proofs.CallerLemmas.{IsBytes-drop, IsBytes-take}
-use Rattle.pv_fields.specs.Reading.{Parser, ◌>>=◌, Gives, byte_at, number_at, run_at, nothing_at, passing, ◌⊗◌, map_at, chain_at, rest_at, list_at, text_at, with_prefix, times, many_at, whole, GivesAll, within, at_most, IsBytes, ReadsBefore, ReadsLast, Reads, ReadsBack, Missing}
+use Rattle.pv_fields.specs.Reading.{Parser, ◌>>=◌, GivesFound, byte_at, number_at, run_at, nothing_at, passing, ◌⊗◌, map_at, chain_at, rest_at, list_at, text_at, with_prefix, times, many_at, whole, GivesAll, within, at_most, IsBytes, ReadsBefore, ReadsLast, Reads, ReadsBack, Missing}
 
 -- a step that found a value
 bind_some : {A B : Type 0} (r : Option A) (f : A → Option B) (y : B) → (r >>= f) ≡ Some y → (x : A) × (r ≡ Some x) × (f x ≡ Some y)
@@ -54,13 +54,13 @@ whole_found Has spell read reads bytes a fits e =
 module _ {X A E : Type 0} (view : X → A) (Has : A → Type 0) (spell : A → List ℕ) (read : Parser A) (reads : Reads Has spell read)
     (bytes : List ℕ) where
   -- the bytes begin with the spelling of what it gave
-  pub given_found : (result : Result X E) (left : List ℕ) → IsBytes bytes → Gives view result (read bytes) left
+  pub given_found : (result : Result X E) (left : List ℕ) → IsBytes bytes → GivesFound view result (read bytes) left
       → IfOk result (λ x. Has (view x) × (bytes ≡ spell (view x) ++ left))
   given_found (Ok x) left fits gives = reads.found bytes (view x) left fits gives
   given_found (Err e) left fits gives = tt
 
   -- if it failed, the bytes begin with no spelling
-  pub given_missing : (result : Result X E) (left : List ℕ) → Gives view result (read bytes) left → IsErr result → Missing Has spell bytes
+  pub given_missing : (result : Result X E) (left : List ℕ) → GivesFound view result (read bytes) left → IsErr result → Missing Has spell bytes
   given_missing (Ok x) left gives err a rest has e = absurd cc
   given_missing (Err e) left gives err a rest has is =
       let again = reads.again a rest tt has in

@@ -13,9 +13,9 @@ abbrev pub ◌>>=◌ : {A B : Type 0} → Option A → (A → Option B) → Opti
 None >>= f = None
 
 -- a call that reads gave the value that a parser finds, seen through view, and left the bytes after it; or it failed as the parser does
-abbrev pub Gives : {X A E : Type 0} → (X → A) → Result X E → Option (A × List ℕ) → List ℕ → Type 0
-Gives view (Ok x) found left = found ≡ Some (view x, left)
-Gives view (Err e) found left = found ≡ None
+abbrev pub GivesFound : {X A E : Type 0} → (X → A) → Result X E → Option (A × List ℕ) → List ℕ → Type 0
+GivesFound view (Ok x) found left = found ≡ Some (view x, left)
+GivesFound view (Err e) found left = found ≡ None
 
 -- the view of a value that is its own model
 abbrev pub same : {A : Type 0} → A → A
@@ -111,11 +111,11 @@ pub record ReadsBefore (IsRest : List ℕ → Type 0) {A : Type 0} (Has : A → 
   -- it finds each valid value by its spelling
   pub again : (a : A) (rest : List ℕ) → IsRest rest → Has a → read (spell a ++ rest) ≡ Some (a, rest)
 
--- the same with any bytes after the value
+-- the parser finds exactly the valid values, whatever bytes follow
 abbrev pub Reads : {A : Type 0} → (A → Type 0) → (A → List ℕ) → Parser A → Type 0
 Reads = ReadsBefore (λ rest. Unit {0})
 
--- the same with no byte after the value
+-- the parser finds exactly the valid values that no byte follows
 abbrev pub ReadsLast : {A : Type 0} → (A → Type 0) → (A → List ℕ) → Parser A → Type 0
 ReadsLast = ReadsBefore (λ rest. rest ≡ [])
 

@@ -33,7 +33,7 @@
 //! Four forms for the crates above are defined here:
 //!
 //! - `specs/Reading.antt`: how a value is spelled, part by part, and that no spelling is a prefix of
-//!   another. A decoder's contract is `Gives same result (x_at bytes.old) bytes.new`, where the parser
+//!   another. A decoder's contract is `GivesFound same result (x_at bytes.old) bytes.new`, where the parser
 //!   `x_at` has one line for each part, and `proofs/Readings.antt` has a lemma for each.
 //! - `specs/Out.antt`: how it is written. An encoder's contract is `Puts` or `Appends`.
 //! - `specs/Refusals.antt`: the first refusal that applies, of a list of tests.
@@ -49,6 +49,3 @@ pub use error::{NoRoom, NoSpelling, Short};
 pub use law::numbers_are_read_back;
 pub use reading::In;
 pub use writing::Out;
-
-#[cfg(test)]
-mod tests;

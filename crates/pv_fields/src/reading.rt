@@ -1,6 +1,6 @@
 ghost use Rattle.std.specs.Prelude.{◌≡◌, ◌<◌, ◌≤◌, ◌↔◌, [], ◌∷◌, ◌++◌, length, IsErr, OnOk, OnErr, IfOk};
 ghost use Rattle.std.specs.Int.{w16, w32, w64, to_be_bytes};
-ghost use Rattle.pv_fields.specs.Reading.{Gives, IsBytes, same, byte_at, number_at, run_at, within, at_most};
+ghost use Rattle.pv_fields.specs.Reading.{GivesFound, IsBytes, same, byte_at, number_at, run_at, within, at_most};
 
 use crate::error::{NoSpelling, Short};
 use std::marker::Model;
@@ -72,7 +72,7 @@ impl<'a> In<'a> {
     pub fn u8(&mut self) -> Result<u8, Short>
         ensures found { IfOk result (λ byte. self.old ≡ byte ∷ self.new) }
         ensures short { IsErr result ↔ (length self.old < 1) }
-        ensures gives { Gives same result (byte_at self.old) self.new }
+        ensures gives { GivesFound same result (byte_at self.old) self.new }
         ensures err { OnErr result (self.new ≡ self.old) }
     {
         let [byte] = self.array::<1>()?;
@@ -83,7 +83,7 @@ impl<'a> In<'a> {
     pub fn u16(&mut self) -> Result<u16, Short>
         ensures found { IfOk result (λ number. self.old ≡ to_be_bytes w16 number ++ self.new) }
         ensures short { IsErr result ↔ (length self.old < 2) }
-        ensures gives { Gives same result (number_at w16 self.old) self.new }
+        ensures gives { GivesFound same result (number_at w16 self.old) self.new }
         ensures err { OnErr result (self.new ≡ self.old) }
     {
         let bytes = self.array::<2>()?;
@@ -94,7 +94,7 @@ impl<'a> In<'a> {
     pub fn u32(&mut self) -> Result<u32, Short>
         ensures found { IfOk result (λ number. self.old ≡ to_be_bytes w32 number ++ self.new) }
         ensures short { IsErr result ↔ (length self.old < 4) }
-        ensures gives { Gives same result (number_at w32 self.old) self.new }
+        ensures gives { GivesFound same result (number_at w32 self.old) self.new }
         ensures err { OnErr result (self.new ≡ self.old) }
     {
         let bytes = self.array::<4>()?;
@@ -105,7 +105,7 @@ impl<'a> In<'a> {
     pub fn u64(&mut self) -> Result<u64, Short>
         ensures found { IfOk result (λ number. self.old ≡ to_be_bytes w64 number ++ self.new) }
         ensures short { IsErr result ↔ (length self.old < 8) }
-        ensures gives { Gives same result (number_at w64 self.old) self.new }
+        ensures gives { GivesFound same result (number_at w64 self.old) self.new }
         ensures err { OnErr result (self.new ≡ self.old) }
     {
         let bytes = self.chunk::<8>()?;
@@ -114,7 +114,7 @@ impl<'a> In<'a> {
 
     /// Takes one byte, which is from `first` to `last`.
     pub fn u8_within(&mut self, first: u8, last: u8) -> Result<u8, NoSpelling>
-        ensures gives { Gives same result (within first last byte_at self.old) self.new }
+        ensures gives { GivesFound same result (within first last byte_at self.old) self.new }
         ensures range { IfOk result (λ byte. (first ≤ byte) × (byte ≤ last)) }
     {
         let byte = self.u8()?;
@@ -127,7 +127,7 @@ impl<'a> In<'a> {
 
     /// Takes a number of two bytes, which is at most `last`.
     pub fn u16_to(&mut self, last: u16) -> Result<u16, NoSpelling>
-        ensures gives { Gives same result (at_most last (number_at w16) self.old) self.new }
+        ensures gives { GivesFound same result (at_most last (number_at w16) self.old) self.new }
         ensures range { IfOk result (λ number. number ≤ last) }
     {
         let number = self.u16()?;
@@ -140,7 +140,7 @@ impl<'a> In<'a> {
 
     /// Takes a number of four bytes, which is at most `last`.
     pub fn u32_to(&mut self, last: u32) -> Result<u32, NoSpelling>
-        ensures gives { Gives same result (at_most last (number_at w32) self.old) self.new }
+        ensures gives { GivesFound same result (at_most last (number_at w32) self.old) self.new }
         ensures range { IfOk result (λ number. number ≤ last) }
     {
         let number = self.u32()?;
@@ -153,7 +153,7 @@ impl<'a> In<'a> {
 
     /// Takes a number of eight bytes, which is at most `last`.
     pub fn u64_to(&mut self, last: u64) -> Result<u64, NoSpelling>
-        ensures gives { Gives same result (at_most last (number_at w64) self.old) self.new }
+        ensures gives { GivesFound same result (at_most last (number_at w64) self.old) self.new }
         ensures range { IfOk result (λ number. number ≤ last) }
     {
         let number = self.u64()?;
@@ -169,7 +169,7 @@ impl<'a> In<'a> {
     pub fn run(&mut self, into: &mut [u8]) -> Result<(), Short>
         ensures found { OnOk result (self.old ≡ into.new ++ self.new) }
         ensures short { IsErr result ↔ (length self.old < length into.old) }
-        ensures gives { Gives (λ _. into.new) result (run_at (length into.old) self.old) self.new }
+        ensures gives { GivesFound (λ _. into.new) result (run_at (length into.old) self.old) self.new }
         ensures err { OnErr result (self.new ≡ self.old) }
         ensures untouched { OnErr result (into.new ≡ into.old) }
     {
@@ -186,7 +186,7 @@ impl<'a> In<'a> {
     pub fn array<const N: usize>(&mut self) -> Result<[u8; N], Short>
         ensures found { IfOk result (λ bytes. self.old ≡ bytes ++ self.new) }
         ensures short { IsErr result ↔ (length self.old < N) }
-        ensures gives { Gives same result (run_at N self.old) self.new }
+        ensures gives { GivesFound same result (run_at N self.old) self.new }
         ensures err { OnErr result (self.new ≡ self.old) }
     {
         let (bytes, left) = self.from.split_first_chunk::<N>().ok_or(Short)?;
