@@ -16,7 +16,8 @@ other byte differs = go (eqb byte 10) (eqb-true byte 10)
 pub line_first : (line rest : List ℕ) → HasNone 10 line → lines_of (line ++ 10 ∷ rest) ≡ line ∷ lines_of rest
 line_first [] rest none = refl
 line_first (byte ∷ line) rest none =
-    ap (λ (t : Bool). cond t ([] ∷ lines_of (line ++ 10 ∷ rest)) (before_first_line byte (lines_of (line ++ 10 ∷ rest)))) (other byte none.0)
+    ap (λ (t : Bool). cond t ([] ∷ lines_of (line ++ 10 ∷ rest)) (before_first_line byte (lines_of (line ++ 10 ∷ rest))))
+    (other byte none.0)
     ∙ ap (before_first_line byte) (line_first line rest none.1)
 
 -- a text without a newline is one line

@@ -1,6 +1,6 @@
 -- The parts of a line's tail, and what is made of them.
 use Rattle.std.specs.Prelude.{◌≡◌, ℕ, List, [], ◌∷◌, Option, Some, IfSome}
-use Rattle.pv_words.specs.Split.{word_gap, IsNext}
+use Rattle.pv_words.specs.Split.{word_gap, IsNextWord}
 
 -- the value is the one of which this holds, and is `None` when it holds of none
 pub record Exactly {A : Type 0} (Is : A → Type 0) (value : Option A) : Type 0 where
@@ -22,7 +22,7 @@ pub record AreTwo {A B : Type 0} (IsFirst : A → List ℕ → Type 0) (IsSecond
     (tail : List ℕ) (parts : A × B) : Type 0 where
   pub word : List ℕ
   pub later : List ℕ
-  pub next : IsNext tail word later
+  pub next : IsNextWord tail word later
   pub first : IsFirst parts.0 word
   pub second : IsOne IsSecond later parts.1
 
@@ -31,7 +31,7 @@ pub record AreThree {A B C : Type 0} (IsFirst : A → List ℕ → Type 0) (IsSe
     (tail : List ℕ) (parts : A × B × C) : Type 0 where
   pub word : List ℕ
   pub later : List ℕ
-  pub next : IsNext tail word later
+  pub next : IsNextWord tail word later
   pub first : IsFirst parts.0 word
   pub others : AreTwo IsSecond IsThird later (parts.1, parts.2)
 

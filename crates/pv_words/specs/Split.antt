@@ -21,7 +21,7 @@ pub record IsSplit (line word tail : List ℕ) : Type 0 where
   pub after : IsTail tail
 
 -- the tail goes on with a word, and has this tail after it
-pub record IsNext (tail word later : List ℕ) : Type 0 where
+pub record IsNextWord (tail word later : List ℕ) : Type 0 where
   pub text : List ℕ
   pub parts : tail ≡ word_gap ∷ text
   pub split : IsSplit text word later

@@ -21,6 +21,3 @@ pub use number::{Below, Number, number_of};
 pub use part::{AllOf, Part};
 pub use parts::{Reader, none_as, one, one_as, three, three_as, two, two_as};
 pub use split::{next_word, split_word};
-
-#[cfg(test)]
-mod tests;

@@ -52,7 +52,7 @@ pub fn number_of(text: &[u8]) -> Option<u64>
     parsed_number(text)
 }
 
-/// The same by the parser and the writer of decimal numbers.
+/// Reads a number by the standard parser, and refuses a text that the number is not written as.
 fn parsed_number(text: &[u8]) -> Option<u64>
     ensures found { IfSome result (λ number. IsNumber number text.now) }
     ensures only { (number : ℕ) → IsNumber number text.now → result ≡ Some number }

@@ -1,5 +1,5 @@
 ghost use Rattle.std.specs.Prelude.{◌≡◌, ℕ, List, IfSome, IsSome};
-ghost use Rattle.pv_words.specs.Split.{IsSplit, IsNext};
+ghost use Rattle.pv_words.specs.Split.{IsSplit, IsNextWord};
 
 /// A line's first word, and its tail: nothing, or a space and all that follows it.
 pub fn split_word(line: &[u8]) -> (&[u8], &[u8])
@@ -24,9 +24,9 @@ fn split_of(line: &[u8]) -> (&[u8], &[u8])
 
 /// The word with which a tail goes on, and the tail after it. `None` exactly when the tail is nothing.
 pub fn next_word(tail: &[u8]) -> Option<(&[u8], &[u8])>
-    ensures found { IfSome result (λ parts. IsNext tail.now parts.0.now parts.1.now) }
-    ensures some { (word later : List ℕ) → IsNext tail.now word later → IsSome result }
-    ensures only { (word later : List ℕ) → IsNext tail.now word later →
+    ensures found { IfSome result (λ parts. IsNextWord tail.now parts.0.now parts.1.now) }
+    ensures some { (word later : List ℕ) → IsNextWord tail.now word later → IsSome result }
+    ensures only { (word later : List ℕ) → IsNextWord tail.now word later →
         IfSome result (λ parts. (parts.0.now ≡ word) × (parts.1.now ≡ later)) }
 {
     let (space, text) = tail.split_first()?;

@@ -13,18 +13,21 @@ returns-in_default-clause-only c = λ number is_number. let small = is_number.0 
 -- they are parsed
 pub returns-in_default-parse-clause-only : goal.returns-in_default-parse-clause-only
 returns-in_default-parse-clause-only c = λ number is_number. let small = is_number.0 in let is = is_number.1 in
-    absurd (c.in_default-parse.not-Ok number (parse-decimal 64 number c.in-Ok.digits.now c.parse.result small small (c.in-Ok.ensures.cases.0 ∙ is) c.parse.ensures.value.0))
+    absurd (c.in_default-parse.not-Ok number
+    (parse-decimal 64 number c.in-Ok.digits.now c.parse.result small small (c.in-Ok.ensures.cases.0 ∙ is) c.parse.ensures.value.0))
 
 -- what is parsed is their number
 pub returns-then-eq-clause-only : goal.returns-then-eq-clause-only
 returns-then-eq-clause-only c = λ number is_number. let small = is_number.0 in let is = is_number.1 in
-    ap result_ok (sym c.in-Ok-parse.is ∙ parse-decimal 64 number c.in-Ok.digits.now c.parse.result small small (c.in-Ok.ensures.cases.0 ∙ is) c.parse.ensures.value.0)
+    ap result_ok (sym c.in-Ok-parse.is
+    ∙ parse-decimal 64 number c.in-Ok.digits.now c.parse.result small small (c.in-Ok.ensures.cases.0 ∙ is) c.parse.ensures.value.0)
 
 -- and that number's digits are the text
 pub returns-else-eq-clause-only : goal.returns-else-eq-clause-only
 returns-else-eq-clause-only c = λ number is_number. let small = is_number.0 in let is = is_number.1 in
     let parsed : Some c.in-Ok-parse.number ≡ Some number =
-    ap result_ok (sym c.in-Ok-parse.is ∙ parse-decimal 64 number c.in-Ok.digits.now c.parse.result small small (c.in-Ok.ensures.cases.0 ∙ is) c.parse.ensures.value.0) in
+    ap result_ok (sym c.in-Ok-parse.is
+    ∙ parse-decimal 64 number c.in-Ok.digits.now c.parse.result small small (c.in-Ok.ensures.cases.0 ∙ is) c.parse.ensures.value.0) in
     let equal : c.in-Ok-parse.number ≡ number = cc in
     let same : c.as_bytes.result.now ≡ c.args.text.now = c.as_bytes.ensures.value ∙ c.format.ensures.text ∙ ap decimal equal ∙ sym is in
     search rules
