@@ -28,7 +28,7 @@ record IsFound (n : ℕ) (text : List ℕ) (found : List ℕ × List ℕ) : Type
   are_cells : All IsCell found.0
   fits : length found.0 ≤ n
 
--- the first cell, if there is one, and those of the rest
+-- what is found is the first cell and those of the rest, or nothing if no cell comes first
 found_next : (n : ℕ) (text : List ℕ) (o : Option (ℕ × List ℕ)) → cell_at text ≡ o
     → ((rest : List ℕ) → IsFound n rest (many_at cell_at n rest))
     → IsFound (suc n) text (unwrap_or (option_map (λ x. let more = many_at cell_at n x.1 in (x.0 ∷ more.0, more.1)) o) ([], text))

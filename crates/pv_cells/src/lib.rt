@@ -34,6 +34,3 @@ pub use mosaics::{
 };
 pub use reading::{BLANK, LAST_CELL, ROW_LENGTH, cells_of, first_byte, row_of};
 pub use writing::{BACKSLASH, FIRST_PRINTABLE, LAST_PRINTABLE, notation, push_notation};
-
-#[cfg(test)]
-mod tests;

@@ -94,6 +94,14 @@ fn push_first(bytes: &[u8], text: &mut Vec<u8>) -> Result<usize, AllocError>
 {
     let first = bytes[0];
     if !is_plain(first) {
+        if let [b'\r', b'\n', b'\r', b'\n', b'\r', b'\n', b'\r', b'\n', ..] = bytes {
+            text.extend_from_slice(b"\\0d\\0a\\0d\\0a\\0d\\0a\\0d\\0a")?;
+            return Ok(8);
+        }
+        if let [b'\r', b'\n', ..] = bytes {
+            text.extend_from_slice(b"\\0d\\0a")?;
+            return Ok(2);
+        }
         text.extend_from_slice(&escape(first))?;
         return Ok(1);
     }
