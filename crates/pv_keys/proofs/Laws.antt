@@ -2,7 +2,7 @@
 use Rattle.std.proofs.Common.{◌≡◌, ℕ, List, [], ◌∷◌, ◌++◌, length, Option, Some, None, refl, sym, ap, subst, ◌∙◌, append_assoc, append-nil, arith}
 use Rattle.pv_keys.specs.declared.command.Command.{Command}
 use Rattle.pv_keys.specs.declared.progress.Progress.TheVariants.{Idle}
-use Rattle.pv_keys.specs.Commands.{IsSpelling, HasNoCommand, IsCut, AreCommandsOf, key_of_byte, keys_of}
+use Rattle.pv_keys.specs.Commands.{IsSpelling, HasNoCommand, IsSplitInto, AreCommandsOf, key_of_byte, keys_of}
 use Rattle.pv_keys.specs.Reader.{TakesByte, TakesBytes, commands_in}
 use Rattle.pv_keys.proofs.Machine.{first_in, first-spelling, none_kept}
 
@@ -16,7 +16,7 @@ same_first first second x y a b same is_a is_b =
     (ap (λ (p : Command × List ℕ). p.0) pair, ap (λ (p : Command × List ℕ). p.1) pair)
 
 -- so there is one cut
-pub one_cut : (keys x y : List ℕ) (a b : List Command) → IsCut keys a x → IsCut keys b y → (a ≡ b) × (x ≡ y)
+pub one_cut : (keys x y : List ℕ) (a b : List Command) → IsSplitInto keys a x → IsSplitInto keys b y → (a ≡ b) × (x ≡ y)
 one_cut keys x y [] [] (is_x, no_command) (is_y, _) = (refl, sym is_x ∙ is_y)
 one_cut keys x y [] (b ∷ q) (is_x, no_command) (first, later, same, spelling, more) =
     absurd (no_command first later b (sym is_x ∙ same) spelling)
@@ -24,7 +24,7 @@ one_cut keys x y (a ∷ p) [] (first, later, same, spelling, more) (is_y, no_com
     absurd (no_command first later a (sym is_y ∙ same) spelling)
 one_cut keys x y (a ∷ p) (b ∷ q) (first, later, same, spelling, more) (second, other, equal, spells, rest) =
     let heads = same_first first second later other a b (sym same ∙ equal) spelling spells in
-    let tails = one_cut later x y p q more (subst (λ (keys : List ℕ). IsCut keys q y) (sym heads.1) rest) in
+    let tails = one_cut later x y p q more (subst (λ (keys : List ℕ). IsSplitInto keys q y) (sym heads.1) rest) in
     ((λ i. heads.0 i ∷ tails.0 i), tails.1)
 
 -- the keys of a byte before those of others
@@ -36,20 +36,21 @@ keys_of-cons before byte bytes =
 
 -- what is answered after some keys is the cut of these keys and of those of the bytes
 answers_cut : (bytes before after : List ℕ) (answers : List (Option Command)) → HasNoCommand before
-    → TakesBytes before bytes answers after → IsCut (before ++ keys_of bytes) (commands_in answers) after
+    → TakesBytes before bytes answers after → IsSplitInto (before ++ keys_of bytes) (commands_in answers) after
 answers_cut [] before after [] no_command same = (append-nil before ∙ same, subst HasNoCommand same no_command)
 answers_cut [] before after (answer ∷ answers) no_command impossible = absurd impossible
 answers_cut (byte ∷ bytes) before after [] no_command impossible = absurd impossible
 answers_cut (byte ∷ bytes) before after (None ∷ answers) no_command (next, takes, more) =
     let keys = ap (λ (kept : List ℕ). kept ++ keys_of bytes) (takes.waits refl) ∙ sym (keys_of-cons before byte bytes) in
-    subst (λ (keys : List ℕ). IsCut keys (commands_in answers) after) keys (answers_cut bytes next after answers takes.no_command more)
+    subst (λ (keys : List ℕ). IsSplitInto keys (commands_in answers) after) keys
+    (answers_cut bytes next after answers takes.no_command more)
 answers_cut (byte ∷ bytes) before after (Some command ∷ answers) no_command (next, takes, more) =
     let cut = answers_cut bytes next after answers takes.no_command more in (
       before ++ keys_of (byte ∷ []),
       keys_of bytes,
       keys_of-cons before byte bytes,
       takes.given.0,
-      subst (λ (kept : List ℕ). IsCut (kept ++ keys_of bytes) (commands_in answers) after) takes.given.1 cut,
+      subst (λ (kept : List ℕ). IsSplitInto (kept ++ keys_of bytes) (commands_in answers) after) takes.given.1 cut,
     )
 
 -- a new reader has no keys before

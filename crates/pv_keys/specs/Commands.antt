@@ -104,11 +104,11 @@ abbrev pub HasNoCommand : List ℕ → Type 0
 HasNoCommand keys = (first rest : List ℕ) (command : Command) → keys ≡ first ++ rest → IsSpelling first command → ⊥
 
 -- the keys are those of the commands, one after another, and a rest that begins with no whole command
-abbrev pub IsCut : List ℕ → List Command → List ℕ → Type 0
-IsCut keys [] rest = (keys ≡ rest) × HasNoCommand rest
-IsCut keys (command ∷ commands) rest =
-    (first : List ℕ) × (later : List ℕ) × (keys ≡ first ++ later) × IsSpelling first command × IsCut later commands rest
+abbrev pub IsSplitInto : List ℕ → List Command → List ℕ → Type 0
+IsSplitInto keys [] rest = (keys ≡ rest) × HasNoCommand rest
+IsSplitInto keys (command ∷ commands) rest =
+    (first : List ℕ) × (later : List ℕ) × (keys ≡ first ++ later) × IsSpelling first command × IsSplitInto later commands rest
 
 -- the commands of a caller's bytes, and the keys after the last of them
 abbrev pub AreCommandsOf : List ℕ → List Command → List ℕ → Type 0
-AreCommandsOf bytes commands rest = IsCut (keys_of bytes) commands rest
+AreCommandsOf bytes commands rest = IsSplitInto (keys_of bytes) commands rest

@@ -1,6 +1,6 @@
 ghost use Rattle.std.specs.Prelude.{◌≡◌, ℕ, List, [], ◌++◌, length, Option};
 ghost use Rattle.pv_keys.specs.declared.command.Command.{Command};
-ghost use Rattle.pv_keys.specs.Commands.{IsSpelling, IsCut, AreCommandsOf};
+ghost use Rattle.pv_keys.specs.Commands.{IsSpelling, IsSplitInto, AreCommandsOf};
 ghost use Rattle.pv_keys.specs.Reader.{TakesBytes, commands_in};
 
 /// A law: no command's keys are the beginning of another's, and no keys are two commands.
@@ -13,7 +13,7 @@ pub fn no_spelling_begins_another()
 /// A law: keys are cut into commands in one way.
 #[tactic(auto, using(crate::proofs::Laws::one_cut))]
 pub fn keys_are_cut_in_one_way()
-    ensures { (keys x y : List ℕ) (a b : List Command) → IsCut keys a x → IsCut keys b y →
+    ensures { (keys x y : List ℕ) (a b : List Command) → IsSplitInto keys a x → IsSplitInto keys b y →
         (a ≡ b) × (x ≡ y) }
 {}
 

@@ -29,6 +29,3 @@ pub use law::{
     pieces_are_answered_as_one,
 };
 pub use reader::KeyReader;
-
-#[cfg(test)]
-mod tests;
