@@ -2,7 +2,7 @@
 use Rattle.std.proofs.Common.{refl, lit<}
 use Rattle.pv_fields.specs.Reading.{Reads}
 use Rattle.pv_fields.proofs.Readings.{Reads-byte, Reads-four, Reads-eight, Reads-at_most, Reads-within, ◌&◌, Reads-map}
-use Rattle.pv_page.specs.{Names.{IsPage, IsAccount, IsName}, Spelling.{page_bytes, page_at, account_bytes, account_at, name_bytes, name_at}}
+use Rattle.pv_page.specs.{Names.{IsPage, IsAccount, IsName}, Spelling.{page_bytes, page_at, account_bytes, account_number_at, name_bytes, name_at}}
 use Rattle.pv_page.specs.declared.{page_no.TheConstants.LAST_PAGE, account_no.TheConstants.LAST_ACCOUNT}
 use Rattle.pv_page.specs.declared.frame_name.TheConstants.{FIRST_LETTER, LAST_LETTER}
 
@@ -11,7 +11,7 @@ pub Reads-page : Reads IsPage page_bytes page_at
 Reads-page = Reads-at_most LAST_PAGE (lit< tt) Reads-four
 
 -- an account
-pub Reads-account : Reads IsAccount account_bytes account_at
+pub Reads-account : Reads IsAccount account_bytes account_number_at
 Reads-account = Reads-at_most LAST_ACCOUNT (lit< tt) Reads-eight
 
 -- a name

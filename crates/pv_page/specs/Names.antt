@@ -53,7 +53,7 @@ account_text n = replicate (ACCOUNT_DIGITS - length (decimal n)) zero_digit ++ d
 abbrev pub Covers : ℕ → ℕ → Type 0
 Covers root page = (more : List ℕ) × (decimal page ≡ decimal root ++ more)
 
--- the same as a test
+-- whether a root covers a page
 abbrev pub covers : ℕ → ℕ → Bool
 covers root page = starts_with nat_eq (decimal page) (decimal root)
 

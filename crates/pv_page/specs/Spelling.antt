@@ -20,8 +20,8 @@ abbrev pub account_bytes : ℕ → List ℕ
 account_bytes account = to_be_bytes w64 account
 
 -- the account that bytes begin with
-abbrev pub account_at : Parser ℕ
-account_at = at_most LAST_ACCOUNT (number_at w64)
+abbrev pub account_number_at : Parser ℕ
+account_number_at = at_most LAST_ACCOUNT (number_at w64)
 
 -- a name: its page, and then its letter
 abbrev pub name_bytes : Name → List ℕ

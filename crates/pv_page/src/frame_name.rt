@@ -68,7 +68,7 @@ impl FrameName {
         out.written()
     }
 
-    /// The name's parts are within their ranges, by its type. This does nothing.
+    /// The name's parts are within their ranges, by its type. A call states this and has no effect.
     pub fn within(&self)
         ensures { IsName self.now }
     {

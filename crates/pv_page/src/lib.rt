@@ -32,6 +32,3 @@ pub use account_no::{ACCOUNT_DIGITS, AccountNo, LAST_ACCOUNT};
 pub use frame_name::{FIRST_LETTER, FrameName, LAST_LETTER, one_text_is_one_name, texts_of_names};
 pub use page_error::PageError;
 pub use page_no::{LAST_PAGE, PAGE_DIGITS, PageNo};
-
-#[cfg(test)]
-mod tests;

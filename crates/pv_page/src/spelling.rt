@@ -1,6 +1,6 @@
 ghost use Rattle.pv_fields.specs.Out.{Puts};
-ghost use Rattle.pv_fields.specs.Reading.{Gives, same};
-ghost use Rattle.pv_page.specs.Spelling.{page_bytes, page_at, account_bytes, account_at, name_bytes, name_at};
+ghost use Rattle.pv_fields.specs.Reading.{GivesFound, same};
+ghost use Rattle.pv_page.specs.Spelling.{page_bytes, page_at, account_bytes, account_number_at, name_bytes, name_at};
 
 use crate::account_no::{AccountNo, LAST_ACCOUNT};
 use crate::frame_name::{FIRST_LETTER, FrameName, LAST_LETTER};
@@ -18,7 +18,7 @@ impl PageNo {
     /// Takes a page's four bytes. [`NoSpelling`] if there are fewer, or the number is above
     /// [`LAST_PAGE`].
     pub fn read(bytes: &mut In) -> Result<PageNo, NoSpelling>
-        ensures { Gives same result (page_at bytes.old) bytes.new }
+        ensures { GivesFound same result (page_at bytes.old) bytes.new }
     {
         let number = bytes.u32_to(LAST_PAGE)?;
         PageNo::of_number(number).ok_or(NoSpelling)
@@ -36,7 +36,7 @@ impl AccountNo {
     /// Takes an account's eight bytes. [`NoSpelling`] if there are fewer, or the number is above
     /// [`LAST_ACCOUNT`].
     pub fn read(bytes: &mut In) -> Result<AccountNo, NoSpelling>
-        ensures { Gives same result (account_at bytes.old) bytes.new }
+        ensures { GivesFound same result (account_number_at bytes.old) bytes.new }
     {
         let number = bytes.u64_to(LAST_ACCOUNT)?;
         AccountNo::of_number(number).ok_or(NoSpelling)
@@ -56,7 +56,7 @@ impl FrameName {
     /// of its range.
     #[tactic(auto, unfolding(crate::specs::Spelling::name_at))]
     pub fn read(bytes: &mut In) -> Result<FrameName, NoSpelling>
-        ensures { Gives same result (name_at bytes.old) bytes.new }
+        ensures { GivesFound same result (name_at bytes.old) bytes.new }
     {
         let page = PageNo::read(bytes)?;
         let letter = bytes.u8_within(FIRST_LETTER, LAST_LETTER)?;
