@@ -3,9 +3,9 @@ use Rattle.std.proofs.Common.{◌≡◌, ◌∷◌, [], refl}
 use Rattle.pv_link.specs.Sending.{new_end, end_that_heard, numbers_to_give}
 
 -- of two numbers neither of which is acknowledged
-pub two_in_turn : numbers_to_give 5 new_end 2 ≡ 0 ∷ 1 ∷ 0 ∷ 1 ∷ 0 ∷ []
+pub two_repeated : numbers_to_give 5 new_end 2 ≡ 0 ∷ 1 ∷ 0 ∷ 1 ∷ 0 ∷ []
 unfolding numbers_to_give
-two_in_turn = refl
+two_repeated = refl
 
 -- an acknowledgement is passed over if it is of more than there are
 pub too_many : end_that_heard new_end 3 2 ≡ new_end

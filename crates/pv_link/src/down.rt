@@ -31,7 +31,7 @@ impl DownEnd {
     }
 
     /// The number of the next packet, if there are `front` records. The end gives the numbers from the
-    /// acknowledged one to below that count in turn, and then again from the acknowledged one. `None`
+    /// acknowledged one to below that count in order, and then again from the acknowledged one. `None`
     /// exactly when all below that count are acknowledged.
     pub fn next(&mut self, front: u64) -> Option<u64>
         ensures given { result ≡ number_to_give self.old front }

@@ -29,6 +29,3 @@ mod up;
 pub use down::DownEnd;
 pub use law::each_number_comes_round;
 pub use up::UpEnd;
-
-#[cfg(test)]
-mod tests;

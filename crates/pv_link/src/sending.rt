@@ -1,5 +1,5 @@
 ghost use Rattle.std.specs.Prelude.{◌≡◌, ◌↔◌, ◌<◌, ◌≤◌, None};
-ghost use Rattle.pv_link.specs.Sending.{new_end, number_in_turn, number_to_give, end_after, end_that_heard};
+ghost use Rattle.pv_link.specs.Sending.{new_end, number_due, number_to_give, end_after, end_that_heard};
 
 use std::marker::Model;
 
@@ -31,10 +31,10 @@ impl Sending {
         }
     }
 
-    /// The number in turn, of those that are not acknowledged.
-    fn in_turn(&self, front: u64) -> u64
+    /// The number that is due, of those that are not acknowledged.
+    fn due(&self, front: u64) -> u64
         requires { self.now.acknowledged < front }
-        ensures value { result ≡ number_in_turn self.now front }
+        ensures value { result ≡ number_due self.now front }
         ensures below { result < front }
     {
         if self.acknowledged <= self.next && self.next < front {
@@ -53,7 +53,7 @@ impl Sending {
         if self.acknowledged >= front {
             return None;
         }
-        let number = self.in_turn(front);
+        let number = self.due(front);
         self.next = number + 1;
         Some(number)
     }
