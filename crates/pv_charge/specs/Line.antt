@@ -3,7 +3,7 @@ use Rattle.std.specs.Prelude.{ℕ, ◌<◌, ◌≤◌, ◌^◌, List, ◌++◌}
 use Rattle.std.specs.Int.{w16, w32, w64, to_be_bytes}
 use Rattle.pv_fields.specs.Reading.{Parser, number_at, at_most, ◌⊗◌, map_at}
 use Rattle.pv_page.specs.Names.{Name, IsAccount, IsName}
-use Rattle.pv_page.specs.Spelling.{account_bytes, account_at, name_bytes, name_at}
+use Rattle.pv_page.specs.Spelling.{account_bytes, account_number_at, name_bytes, name_at}
 use Rattle.pv_charge.specs.declared.line.TheConstants.{MAX_PRICE, LAST_MOMENT}
 
 -- a charge line: the call, the line's number in it, who pays, the frame, its price in pence, and when
@@ -40,7 +40,7 @@ charge_at =
     map_at (λ x. record { serial = x.0; number = x.1.0; account = x.1.1.0; name = x.1.1.1.0; price = x.1.1.1.1.0; moment = x.1.1.1.1.1 })
     (number_at w64
     ⊗ number_at w32
-    ⊗ account_at
+    ⊗ account_number_at
     ⊗ name_at
     ⊗ at_most MAX_PRICE (number_at w16)
     ⊗ at_most LAST_MOMENT (number_at w32))

@@ -24,6 +24,3 @@ mod line;
 pub use bill::{Bill, MAX_BILLED_LINES, MAX_BILLED_PENCE};
 pub use law::no_line_begins_another;
 pub use line::{LAST_MOMENT, LINE_BYTES, Line, MAX_PRICE};
-
-#[cfg(test)]
-mod tests;

@@ -1,6 +1,6 @@
 ghost use Rattle.std.specs.Prelude.{◌≡◌, ◌++◌, IsNone, IfSome};
 ghost use Rattle.pv_fields.specs.Out.{Puts};
-ghost use Rattle.pv_fields.specs.Reading.{Gives, Missing, same};
+ghost use Rattle.pv_fields.specs.Reading.{GivesFound, Missing, same};
 ghost use Rattle.pv_charge.specs.Line.{IsCharge, charge_bytes, charge_at};
 
 use pv_fields::{In, NoRoom, NoSpelling, Out};
@@ -67,7 +67,7 @@ impl Model for Line {
 }
 
 impl Line {
-    /// The line's parts are within their ranges, by its type. This does nothing.
+    /// The charge line's parts are within their ranges, by its type. A call states this and has no effect.
     pub fn within(&self)
         ensures { IsCharge self.now }
     {
@@ -108,7 +108,7 @@ impl Line {
     /// Takes a line's spelling, as a part of another.
     #[tactic(auto, unfolding(crate::specs::Line::charge_at))]
     pub fn read(bytes: &mut In) -> Result<Line, NoSpelling>
-        ensures { Gives same result (charge_at bytes.old) bytes.new }
+        ensures { GivesFound same result (charge_at bytes.old) bytes.new }
     {
         let serial = bytes.u64()?;
         let number = bytes.u32()?;
