@@ -7,7 +7,7 @@ use Rattle.pv_fields.specs.Reading.{times}
 use Rattle.pv_account.specs.Groups.{rises, occurrences, groups_bytes, groups_at}
 use Rattle.pv_account.specs.Profile.{Profile, digest_of, profile_bytes}
 use Rattle.pv_account.specs.declared.groups.TheConstants.{ACCOUNT_GROUPS}
-use Rattle.pv_account.specs.declared.account.TheConstants.{LAST_CENTRE}
+use Rattle.pv_account.specs.declared.account.TheConstants.{LAST_CENTRE, MAX_CENTRES}
 use Rattle.pv_account.specs.declared.password.TheConstants.{DIGEST_BYTES, PASSWORD_BYTES}
 
 -- an account is in at most 32 groups, its centre is one of four, a password has four bytes and a digest 32
@@ -16,6 +16,9 @@ groups-of_an_account = refl
 
 pub last-centre : LAST_CENTRE ≡ 3
 last-centre = refl
+
+pub most-centres : MAX_CENTRES ≡ 4
+most-centres = refl
 
 pub bytes-of_a_password : PASSWORD_BYTES ≡ 4
 bytes-of_a_password = refl

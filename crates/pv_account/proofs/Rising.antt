@@ -58,7 +58,7 @@ abbrev pub Ascends : ℕ → List ℕ → Type 0
 Ascends last [] = Unit {0}
 Ascends last (x ∷ xs) = (last ≤ x) × Ascends x xs
 
--- the same by index
+-- numbers ascend if each is at least the one at the index before it
 ascends : (last : ℕ) (numbers : List ℕ) → ((i : ℕ) → i < length numbers → get_or (last ∷ numbers) i 0 ≤ get_or numbers i 0)
     → Ascends last numbers
 ascends last [] each = tt

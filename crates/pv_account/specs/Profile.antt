@@ -3,7 +3,7 @@ use Rattle.std.specs.Prelude.{◌≡◌, ℕ, ◌≤◌, List, ◌∷◌, ◌++�
 use Rattle.sha2.specs.Sha256.{sha256}
 use Rattle.pv_fields.specs.Reading.{Parser, IsBytes, byte_at, run_at, within, ◌⊗◌, map_at}
 use Rattle.pv_page.specs.Names.{IsAccount, account_text}
-use Rattle.pv_page.specs.Spelling.{account_bytes, account_at}
+use Rattle.pv_page.specs.Spelling.{account_bytes, account_number_at}
 use Rattle.pv_account.specs.Groups.{AreGroups, groups_bytes, groups_at}
 use Rattle.pv_account.specs.declared.account.TheConstants.{LAST_CENTRE}
 use Rattle.pv_account.specs.declared.groups.TheConstants.{ACCOUNT_GROUPS}
@@ -35,4 +35,4 @@ profile_bytes account = account_bytes account.number ++ (account.digest ++ (acco
 unfoldable pub profile_at : Parser Profile
 profile_at =
     map_at (λ x. record { number = x.0; digest = x.1.0; home = x.1.1.0; groups = x.1.1.1 })
-    (account_at ⊗ run_at DIGEST_BYTES ⊗ within 0 LAST_CENTRE byte_at ⊗ groups_at ACCOUNT_GROUPS)
+    (account_number_at ⊗ run_at DIGEST_BYTES ⊗ within 0 LAST_CENTRE byte_at ⊗ groups_at ACCOUNT_GROUPS)

@@ -1,6 +1,6 @@
 ghost use Rattle.std.specs.Prelude.{◌≡◌, ◌++◌, ◌↔◌, IsNone, IfSome, IsTrue};
 ghost use Rattle.pv_fields.specs.Out.{Puts};
-ghost use Rattle.pv_fields.specs.Reading.{Gives, Missing, same};
+ghost use Rattle.pv_fields.specs.Reading.{GivesFound, Missing, same};
 ghost use Rattle.pv_account.specs.Profile.{IsProfile, digest_of, profile_bytes, profile_at};
 
 use crate::groups::{ACCOUNT_GROUPS, Groups};
@@ -11,6 +11,9 @@ use std::marker::Model;
 
 /// The greatest number of a retrieval centre.
 pub const LAST_CENTRE: u8 = 3;
+
+/// How many retrieval centres a network has at most.
+pub const MAX_CENTRES: u8 = LAST_CENTRE + 1;
 
 /// An account.
 #[derive(Clone, Copy, Debug, PartialEq, Eq)]
@@ -51,7 +54,7 @@ impl Account {
         digest(self.number, password) == self.digest
     }
 
-    /// The account's parts are within their ranges, by its type. This does nothing.
+    /// The account's parts are within their ranges, by its type. A call states this and has no effect.
     pub fn within(&self)
         ensures { IsProfile self.now }
     {
@@ -91,7 +94,7 @@ impl Account {
     /// Takes an account's spelling, as a part of another.
     #[tactic(auto, unfolding(crate::specs::Profile::profile_at))]
     pub fn read(bytes: &mut In) -> Result<Account, NoSpelling>
-        ensures { Gives same result (profile_at bytes.old) bytes.new }
+        ensures { GivesFound same result (profile_at bytes.old) bytes.new }
     {
         let number = AccountNo::read(bytes)?;
         let digest = bytes.array::<DIGEST_BYTES>()?;

@@ -4,7 +4,7 @@ ghost use Rattle.std.specs.List.{list_any};
 ghost use Rattle.std.specs.List.Sorted.{IsPermutation, IsNonDecreasing};
 ghost use Rattle.pv_fields.specs.Out.{Puts};
 ghost use Rattle.pv_fields.specs.Padded.{IsPadded};
-ghost use Rattle.pv_fields.specs.Reading.{Gives, number_at, same, times};
+ghost use Rattle.pv_fields.specs.Reading.{GivesFound, number_at, same, times};
 ghost use Rattle.pv_account.specs.Groups.{AreGroups, rises, occurrences, HasTwoEqual, groups_bytes, groups_at};
 
 use pv_fields::{In, NoRoom, NoSpelling, Out, Short};
@@ -108,7 +108,7 @@ impl<const N: usize> Groups<N> {
     #[tactic(auto, unfolding(crate::specs::Groups::groups_at))]
     pub fn read(bytes: &mut In) -> Result<Groups<N>, NoSpelling>
         requires { N < 256 }
-        ensures { Gives same result (groups_at N bytes.old) bytes.new }
+        ensures { GivesFound same result (groups_at N bytes.old) bytes.new }
     {
         let count = bytes.u8_within(0, N as u8)?;
         let numbers = read_numbers::<N>(bytes, count)?;
@@ -147,7 +147,7 @@ fn put_numbers(numbers: &[u16], out: &mut Out) -> Result<(), NoRoom>
 /// Takes this many numbers, with zeros after them.
 fn read_numbers<const N: usize>(bytes: &mut In, count: u8) -> Result<[u16; N], Short>
     requires { count ≤ N }
-    ensures gives { Gives (take count) result (times (number_at w16) count bytes.old) bytes.new }
+    ensures gives { GivesFound (take count) result (times (number_at w16) count bytes.old) bytes.new }
     ensures padded { IfOk result (IsPadded 0 N count) }
 {
     let mut numbers = [0; N];

@@ -26,11 +26,8 @@ mod groups;
 mod law;
 mod password;
 
-pub use account::{Account, LAST_CENTRE};
+pub use account::{Account, LAST_CENTRE, MAX_CENTRES};
 pub use groups::{ACCOUNT_GROUPS, Groups};
 pub use law::no_account_begins_another;
 pub use password::{DIGEST_BYTES, PASSWORD_BYTES, digest};
 pub use pv_page::AccountNo;
-
-#[cfg(test)]
-mod tests;

@@ -65,4 +65,5 @@ pub returns-else-rise-clause-only : goal.returns-else-rise-clause-only
 returns-else-rise-clause-only g c = λ groups order are.
     let sorted = take (length c.args.list.now) c.in_order-numbers.result in
     absurd (not_refused c.args.list.now groups order are.rises
-    (refused c.args.list.now sorted c.in_order-numbers.ensures.moved c.in_order-numbers.ensures.sorted (sym c.rise.ensures ∙ c.if-rise.false)))
+    (refused c.args.list.now sorted c.in_order-numbers.ensures.moved c.in_order-numbers.ensures.sorted
+    (sym c.rise.ensures ∙ c.if-rise.false)))
