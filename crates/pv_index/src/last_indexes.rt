@@ -79,11 +79,4 @@ impl LastIndexes {
             }
         }
     }
-
-    /// How many keys have an index.
-    pub fn len(&self) -> usize
-        ensures { result ≡ length self.now.pairs }
-    {
-        self.indexes.len()
-    }
 }

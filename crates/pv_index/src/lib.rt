@@ -21,6 +21,3 @@
 mod last_indexes;
 
 pub use last_indexes::LastIndexes;
-
-#[cfg(test)]
-mod tests;
