@@ -5,7 +5,7 @@ use Rattle.std.proofs.lemmas.List.{Elements.All-append, Folds.list_all-append, Q
 use Rattle.std.proofs.Common.{◌≡◌, ℕ, zero, suc, ◌+◌, ◌<◌, ◌≤◌, Bool, true, false, not, List, [], ◌∷◌, ◌++◌, length, get_or, All, Option, Some, None, refl, sym, subst, ◌∙◌, inl, inr, max, min, arith}
 use Rattle.std.specs.{Prelude.{option_map, position, nat_lt, nat_le, ◌==◌, ◌&&◌, ◌↔◌, Any, AllPairs}, Int.{is_in_range, IsInRange}}
 use Rattle.std.specs.{List.list_all, Bool.Decides}
-use Rattle.pv_frame.proofs.Vocabulary.{LAST_CELL, IsCell, first_of, some_if, Kind, Information, Response, Mail, Field, FieldKind, Digits, Words, FrameError, Cell, Price, FieldRange, FieldsMeet, Shape, Code, LAST_PRICE, ACCOUNT_DIGITS, MAIL_TEXTS, Content, is_cell, end_of, lies_in_body, meets, ShareCell, first_meeting, is_digits, takes_text, has_shape, price_error, meeting_error, shape_error, field_errors, error_of, IsValid, HasRanges, LiesInBody, HasShape, IsWellFormed, field_at, IsBefore, IsFirstMeeting, HasCause, no_field}
+use Rattle.pv_frame.proofs.Vocabulary.{LAST_CELL, IsCell, first_of, some_if, Kind, Information, Response, Mail, Field, FieldKind, Digits, Words, FrameError, Cell, Price, FieldRange, FieldsMeet, Shape, Code, LAST_PRICE, ACCOUNT_DIGITS, MAIL_TEXTS, Content, is_cell, column_after, lies_in_body, meets, ShareCell, first_meeting, is_digits, takes_text, has_shape, price_error, meeting_error, shape_error, field_errors, error_of, IsValid, HasRanges, LiesInBody, HasShape, IsWellFormed, field_at, IsBefore, IsFirstMeeting, HasCause, no_field}
 use Rattle.pv_frame.proofs.{Cells.Decides-cells, Searching.all_fail}
 
 -- ---- what each test decides
@@ -17,13 +17,13 @@ Decides-range : (low high n : ℕ) → Decides (is_in_range low high n) (IsInRan
 Decides-range low high n = Decides-and (nat_le low n) (nat_le n high) (Decides-leb low n) (Decides-leb n high)
 
 Decides-lies_in_body : (field : Field) → Decides (lies_in_body field) (LiesInBody field)
-Decides-lies_in_body field = grind (arith, common_steps, Decides-and, Decides-leb, Decides-range, end_of)
+Decides-lies_in_body field = grind (arith, common_steps, Decides-and, Decides-leb, Decides-range, column_after)
 
 -- two fields meet exactly if some cell lies in both
 pub Decides-meets : (a b : Field) → Decides (meets a b) (ShareCell a b)
 Decides-meets a b =
     let from = max a.column b.column in
-    let to = min (end_of a) (end_of b) in
+    let to = min (column_after a) (column_after b) in
     Decides-like _ (λ both. (a.row, from, (refl, omega arith, omega arith), (both.0, omega arith, omega arith)))
     (λ shared. (sym shared.2.0 ∙ shared.3.0, omega (arith, shared.2.1, shared.2.2, shared.3.1, shared.3.2)))
     (Decides-and (a.row == b.row) (nat_lt from to) (Decides-eqb a.row b.row) (Decides-ltb from to))

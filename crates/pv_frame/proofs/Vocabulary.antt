@@ -10,7 +10,7 @@ pub use Rattle.pv_frame.specs.Codes.{is_route, page_of, field_code, field_kind_o
 pub use Rattle.pv_frame.specs.Content.{Content, IsFrame, blank_frame, with_row}
 unfoldable pub use Rattle.pv_frame.specs.Content.{frame_of_row}
 unfoldable pub use Rattle.pv_frame.specs.Raw.{raw_at}
-pub use Rattle.pv_frame.specs.Errors.{is_cell, end_of, lies_in_body, meets, ShareCell, first_meeting, is_digits, takes_text, has_shape}
+pub use Rattle.pv_frame.specs.Errors.{is_cell, column_after, lies_in_body, meets, ShareCell, first_meeting, is_digits, takes_text, has_shape}
 pub use Rattle.pv_frame.specs.Errors.{price_error, meeting_error, shape_error, field_errors, error_of, IsValid, HasRanges}
 pub use Rattle.pv_frame.specs.Meaning.{LiesInBody, HasShape, IsWellFormed, field_at, IsBefore, IsFirstMeeting, HasCause}
 pub use Rattle.pv_frame.specs.Memory.{no_field}

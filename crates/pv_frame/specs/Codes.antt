@@ -47,7 +47,7 @@ route_bytes None = to_be_bytes w32 NO_ROUTE
 abbrev pub is_route : ℕ → Bool
 is_route number = nat_le number LAST_PAGE || number == NO_ROUTE
 
--- the page with a number, if there is one
+-- the page of a number, if the number is one of a page
 abbrev pub page_of : ℕ → Option ℕ
 page_of number = if nat_le number LAST_PAGE then Some number else None
 

@@ -20,23 +20,23 @@ abbrev pub is_cell : ℕ → Bool
 is_cell cell = nat_le cell LAST_CELL
 
 -- the column after a field's last cell
-abbrev pub end_of : Field → ℕ
-end_of field = field.column + field.length
+abbrev pub column_after : Field → ℕ
+column_after field = field.column + field.length
 
 -- a field has 1 to 40 cells in one row of the body
 abbrev pub lies_in_body : Field → Bool
 lies_in_body field =
     is_in_range FIRST_ROW LAST_ROW field.row
     && is_in_range 1 ROW_LENGTH field.length
-    && nat_le (end_of field) ROW_LENGTH
+    && nat_le (column_after field) ROW_LENGTH
 
 -- two fields are in one row, and the later begins before the earlier ends
 abbrev pub meets : Field → Field → Bool
-meets a b = a.row == b.row && nat_lt (max a.column b.column) (min (end_of a) (end_of b))
+meets a b = a.row == b.row && nat_lt (max a.column b.column) (min (column_after a) (column_after b))
 
 -- a field has the cell at a row and a column
 abbrev pub HasCell : Field → ℕ → ℕ → Type 0
-HasCell field row column = (row ≡ field.row) × (field.column ≤ column) × (column < end_of field)
+HasCell field row column = (row ≡ field.row) × (field.column ≤ column) × (column < column_after field)
 
 -- some cell lies in both fields
 abbrev pub ShareCell : Field → Field → Type 0

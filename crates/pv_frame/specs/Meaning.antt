@@ -10,13 +10,13 @@ use Rattle.pv_frame.specs.declared.frame_error.FrameError.{FrameError}
 use Rattle.pv_frame.specs.declared.frame_error.FrameError.TheVariants.{Cell, Price, FieldRange, FieldsMeet, Shape, Code}
 use Rattle.pv_frame.specs.declared.layout.TheConstants.{LAST_PRICE, FIRST_ROW, LAST_ROW, ACCOUNT_DIGITS, MAIL_TEXTS}
 use Rattle.pv_frame.specs.Content.{Content}
-use Rattle.pv_frame.specs.Errors.{end_of, ShareCell, HasRanges}
+use Rattle.pv_frame.specs.Errors.{column_after, ShareCell, HasRanges}
 use Rattle.pv_frame.specs.Memory.{no_field}
 
 -- a field has 1 to 40 cells in one row of the body
 abbrev pub LiesInBody : Field → Type 0
 LiesInBody field =
-    (IsInRange FIRST_ROW LAST_ROW field.row × IsInRange 1 ROW_LENGTH field.length) × (end_of field ≤ ROW_LENGTH)
+    (IsInRange FIRST_ROW LAST_ROW field.row × IsInRange 1 ROW_LENGTH field.length) × (column_after field ≤ ROW_LENGTH)
 
 -- the fields that a kind of frame has: none; or some; or one for the ten digits of an account and then one to six for words
 abbrev pub HasShape : Kind → List Field → Type 0

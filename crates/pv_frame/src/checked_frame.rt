@@ -66,7 +66,7 @@ impl CheckedFrame {
         Ok(CheckedFrame { frame })
     }
 
-    /// The frame has a spelling, by its type. This does nothing.
+    /// The frame has a spelling, by its type. A call states this and has no effect.
     pub fn within(&self)
         ensures { HasSpelling self.now }
     {

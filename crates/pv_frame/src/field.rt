@@ -36,11 +36,11 @@ impl Field {
 }
 
 impl Field {
-    ghost use Rattle.pv_frame.specs.Errors.{end_of, lies_in_body, meets, takes_account, takes_text};
+    ghost use Rattle.pv_frame.specs.Errors.{column_after, lies_in_body, meets, takes_account, takes_text};
 
     /// The column after the last cell.
     fn end(&self) -> usize
-        ensures { result ≡ end_of self.now }
+        ensures { result ≡ column_after self.now }
     {
         usize::from(self.column) + usize::from(self.length)
     }

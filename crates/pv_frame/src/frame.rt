@@ -114,7 +114,7 @@ impl Frame {
         self.body[at..at + ROW_LENGTH].copy_from_slice(cells);
     }
 
-    /// The frame's parts are within their ranges, by its type. This does nothing.
+    /// The frame's parts are within their ranges, by its type. A call states this and has no effect.
     pub fn within(&self)
         ensures { IsFrame self.now }
     {

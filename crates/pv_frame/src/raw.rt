@@ -1,6 +1,6 @@
 ghost use Rattle.std.specs.Prelude.{◌≡◌, [], ◌+◌, ◌*◌, ◌<◌, ◌≤◌, ◌++◌, length, OnOk, IfOk, IfErr, IfSome, None, Some, Ok, Err, map, take};
 ghost use Rattle.pv_frame.specs.declared.layout.TheConstants.{TITLE_CELLS, BODY_CELLS};
-ghost use Rattle.pv_fields.specs.Reading.{Gives, same, run_at};
+ghost use Rattle.pv_fields.specs.Reading.{GivesFound, same, run_at};
 ghost use Rattle.pv_frame.specs.Codes.{spells_route, route_of, spells_field, field_of, fours};
 ghost use Rattle.pv_fields.specs.Refusals.{first_of};
 ghost use Rattle.pv_fields.specs.Padded.{IsPadded, padded_list};
@@ -59,7 +59,7 @@ impl<'a> RawFrame<'a> {
     /// Takes all the bytes, which are those after the version.
     #[tactic(auto, unfolding(crate::specs::Raw::raw_at))]
     pub(crate) fn read(bytes: &mut In<'a>) -> Result<RawFrame<'a>, Short>
-        ensures gives { Gives same result (raw_at bytes.old) bytes.new }
+        ensures gives { GivesFound same result (raw_at bytes.old) bytes.new }
         ensures all { IfOk result (λ _. bytes.new ≡ []) }
     {
         let title = run::<TITLE_CELLS>(bytes)?;
@@ -84,7 +84,7 @@ impl<'a> RawFrame<'a> {
 
 /// Takes a run of bytes without a copy.
 fn run<'a, const N: usize>(bytes: &mut In<'a>) -> Result<&'a [u8; N], Short>
-    ensures gives { Gives (λ run. run.now) result (run_at N bytes.old) bytes.new }
+    ensures gives { GivesFound (λ run. run.now) result (run_at N bytes.old) bytes.new }
     ensures size { IfOk result (λ run. length run.now ≡ N) }
 {
     let (run, rest) = bytes.rest().split_first_chunk::<N>().ok_or(Short)?;
