@@ -141,7 +141,8 @@ length-inserted owner owners count few within = by (list_any (eqb owner) owners)
 -- ---- the boxes
 
 -- a box that there is, is read with any default
-pub box_there : {X : Type 0} (boxes : List X) (index : ℕ) (one other : X) → index < length boxes → get_or boxes index one ≡ get_or boxes index other
+pub box_there : {X : Type 0} (boxes : List X) (index : ℕ) (one other : X) → index < length boxes
+    → get_or boxes index one ≡ get_or boxes index other
 box_there [] index one other within = let none : ⊥ = omega (arith, within) in absurd none
 box_there (box ∷ boxes) zero one other within = refl
 box_there (box ∷ boxes) (suc index) one other within = box_there boxes index one other (omega (arith, within))
@@ -169,7 +170,8 @@ module _ {X : Type 0} (nothing : X) (owners : List ℕ) (boxes : List X)
       others differs false is =
           let absent = ltb-false _ _ is in
           let beyond = index_of-absent account to owners differs absent in
-          get_or-set_other boxes (index_of to owners) (index_of account (insert_key eqb owners to)) box nothing (omega (arith, below, beyond))
+          get_or-set_other boxes (index_of to owners) (index_of account (insert_key eqb owners to)) box nothing
+          (omega (arith, below, beyond))
           ∙ empty _ (omega (arith, beyond, grown to owners)) ∙ sym (empty _ absent)
 
       by : (same : Bool) → eqb account to ≡ same

@@ -110,14 +110,17 @@ pub three-wait : waiting_letters each_place [] 13 3 ≡ letter_under 0 ∷ lette
 three-wait = refl
 
 -- a removal takes its letter out, and no other's letter
-pub second-removed : waiting_letters each_place (record { account = 13; number = 1; place = 3 } ∷ []) 13 3 ≡ letter_under 0 ∷ letter_under 2 ∷ []
+pub second-removed : waiting_letters each_place (record { account = 13; number = 1; place = 3 } ∷ []) 13 3 ≡ letter_under 0
+    ∷ letter_under 2 ∷ []
 second-removed = refl
 
-pub anothers-removal : waiting_letters each_place (record { account = 12; number = 1; place = 3 } ∷ []) 13 3 ≡ waiting_letters each_place [] 13 3
+pub anothers-removal : waiting_letters each_place (record { account = 12; number = 1; place = 3 } ∷ []) 13 3
+    ≡ waiting_letters each_place [] 13 3
 anothers-removal = refl
 
 -- a removal before the letter came takes nothing
-pub removed-too_early : waiting_letters each_place (record { account = 13; number = 1; place = 1 } ∷ []) 13 3 ≡ waiting_letters each_place [] 13 3
+pub removed-too_early : waiting_letters each_place (record { account = 13; number = 1; place = 1 } ∷ []) 13 3
+    ≡ waiting_letters each_place [] 13 3
 removed-too_early = refl
 
 -- the twentieth letter waits, and the next one is dropped for good, also if one is removed after it

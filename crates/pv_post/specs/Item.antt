@@ -5,7 +5,7 @@ use Rattle.std.specs.List.{All, list_all}
 use Rattle.pv_fields.specs.Padded.{IsPadded}
 use Rattle.pv_fields.specs.Reading.{Parser, number_at, run_at, passing, at_most, ◌⊗◌, map_at, list_at, text_at}
 use Rattle.pv_page.specs.Names.{Name, IsAccount, IsName}
-use Rattle.pv_page.specs.Spelling.{account_bytes, account_at, name_bytes, name_at}
+use Rattle.pv_page.specs.Spelling.{account_bytes, account_number_at, name_bytes, name_at}
 use Rattle.pv_charge.specs.declared.line.TheConstants.{LAST_MOMENT}
 use Rattle.pv_post.specs.declared.fields.TheConstants.{MAX_FIELDS}
 use Rattle.pv_post.specs.declared.filled.TheConstants.{FILLED_BYTES}
@@ -84,7 +84,7 @@ response_bytes reply = account_bytes reply.account ++ name_bytes reply.name ++ t
 unfoldable pub response_at : Parser Response
 response_at =
     map_at (λ x. record { account = x.0; name = x.1.0; moment = x.1.1.0; fields = x.1.1.1 })
-    (account_at ⊗ name_at ⊗ at_most LAST_MOMENT (number_at w32) ⊗ fields_at)
+    (account_number_at ⊗ name_at ⊗ at_most LAST_MOMENT (number_at w32) ⊗ fields_at)
 
 -- ---- a letter
 
@@ -111,4 +111,4 @@ message_bytes mail = account_bytes mail.sender ++ account_bytes mail.to ++ to_be
 unfoldable pub message_at : Parser Message
 message_at =
     map_at (λ x. record { sender = x.0; to = x.1.0; moment = x.1.1.0; text = x.1.1.1 })
-    (account_at ⊗ account_at ⊗ at_most LAST_MOMENT (number_at w32) ⊗ passing (list_all is_text_cell) (run_at TEXT_CELLS))
+    (account_number_at ⊗ account_number_at ⊗ at_most LAST_MOMENT (number_at w32) ⊗ passing (list_all is_text_cell) (run_at TEXT_CELLS))

@@ -1,7 +1,7 @@
 ghost use Rattle.std.specs.Prelude.{◌≡◌, ◌<◌, ◌≤◌, ◌↔◌, [], ◌∷◌, ◌++◌, length, take, flat_map, All, IfOk, IfSome, IsSome};
 ghost use Rattle.pv_fields.specs.Out.{Puts};
 ghost use Rattle.pv_fields.specs.Padded.{IsPadded};
-ghost use Rattle.pv_fields.specs.Reading.{Gives, same, times};
+ghost use Rattle.pv_fields.specs.Reading.{GivesFound, same, times};
 ghost use Rattle.pv_post.specs.Item.{AreFields, IsFilled, filled_bytes, filled_at, fields_bytes, fields_at};
 
 use crate::filled::Filled;
@@ -93,7 +93,7 @@ impl Fields {
     /// Takes the number of fields and then each. [`NoSpelling`] if the bytes begin with no fields.
     #[tactic(auto, unfolding(crate::specs::Item::fields_at))]
     pub fn read(from: &mut In) -> Result<Fields, NoSpelling>
-        ensures { Gives same result (fields_at from.old) from.new }
+        ensures { GivesFound same result (fields_at from.old) from.new }
     {
         let count = from.u8_within(1, MAX_FIELDS as u8)?;
         let places = read_each(from, count)?;
@@ -128,7 +128,7 @@ fn places_of(list: &[Filled]) -> [Filled; MAX_FIELDS]
 /// Takes this many fields, with empty ones after them.
 fn read_each(from: &mut In, count: u8) -> Result<[Filled; MAX_FIELDS], NoSpelling>
     requires { count ≤ MAX_FIELDS }
-    ensures gives { Gives (take count) result (times filled_at count from.old) from.new }
+    ensures gives { GivesFound (take count) result (times filled_at count from.old) from.new }
     ensures padded { IfOk result (IsPadded [] MAX_FIELDS count) }
     ensures filled { IfOk result (λ places. All IsFilled (take count places)) }
 {

@@ -2,7 +2,7 @@ ghost use Rattle.std.specs.Prelude.{◌≡◌, ◌<◌, ◌≤◌, [], ◌∷◌
 ghost use Rattle.std.specs.List.{list_all};
 ghost use Rattle.pv_fields.specs.Out.{Puts};
 ghost use Rattle.pv_fields.specs.Padded.{IsPadded};
-ghost use Rattle.pv_fields.specs.Reading.{Gives, same};
+ghost use Rattle.pv_fields.specs.Reading.{GivesFound, same};
 ghost use Rattle.pv_post.specs.Item.{is_field_byte, IsFilled, filled_bytes, filled_at};
 
 use pv_fields::{In, NoRoom, NoSpelling, Out, Short};
@@ -85,7 +85,7 @@ impl Filled {
         &self.bytes[..usize::from(self.length)]
     }
 
-    /// The same field. The caller learns what its type guarantees.
+    /// A copy of the field. Its contract says what the type guarantees.
     pub(crate) fn copy(&self) -> Filled
         ensures same { result ≡ self.now }
         ensures filled { IsFilled self.now }
@@ -108,7 +108,7 @@ impl Filled {
     /// takes.
     #[tactic(auto, unfolding(crate::specs::Item::filled_at))]
     pub fn read(from: &mut In) -> Result<Filled, NoSpelling>
-        ensures gives { Gives same result (filled_at from.old) from.new }
+        ensures gives { GivesFound same result (filled_at from.old) from.new }
         ensures filled { IfOk result IsFilled }
     {
         let length = from.u8_within(0, FILLED_BYTES as u8)?;

@@ -1,6 +1,6 @@
 ghost use Rattle.std.specs.Prelude.{◌≡◌, ◌++◌, IsNone, IfSome};
 ghost use Rattle.pv_fields.specs.Out.{Puts};
-ghost use Rattle.pv_fields.specs.Reading.{Gives, Missing, same};
+ghost use Rattle.pv_fields.specs.Reading.{GivesFound, Missing, same};
 ghost use Rattle.pv_post.specs.Spelling.{IsItem, item_bytes, item_at};
 
 use crate::mail::Mail;
@@ -20,7 +20,7 @@ pub enum Item {
 }
 
 impl Item {
-    /// The item's parts are within their ranges, by its type. This does nothing.
+    /// The item's parts are within their ranges, by its type. A call states this and has no effect.
     pub fn within(&self)
         ensures { IsItem self.now }
     {
@@ -73,7 +73,7 @@ impl Item {
     /// Takes an item's spelling, as a part of another.
     #[tactic(auto, unfolding(crate::specs::Spelling::item_at))]
     pub fn read(bytes: &mut In) -> Result<Item, NoSpelling>
-        ensures { Gives same result (item_at bytes.old) bytes.new }
+        ensures { GivesFound same result (item_at bytes.old) bytes.new }
     {
         match bytes.u8()? {
             1 => Ok(Item::Charge(Line::read(bytes)?)),

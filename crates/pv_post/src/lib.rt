@@ -42,6 +42,3 @@ pub use mail::{FIRST_CELL, LAST_CELL, Mail, TEXT_CELLS};
 pub use mailboxes::Mailboxes;
 pub use removal::Removal;
 pub use reply::Reply;
-
-#[cfg(test)]
-mod tests;

@@ -1,7 +1,7 @@
 ghost use Rattle.std.specs.Prelude.{◌≡◌};
 ghost use Rattle.std.specs.List.{list_all};
 ghost use Rattle.pv_fields.specs.Out.{Puts};
-ghost use Rattle.pv_fields.specs.Reading.{Gives, same};
+ghost use Rattle.pv_fields.specs.Reading.{GivesFound, same};
 ghost use Rattle.pv_post.specs.Item.{IsMessage, is_text_cell, message_bytes, message_at};
 
 use pv_charge::LAST_MOMENT;
@@ -45,7 +45,7 @@ impl Model for Mail {
 }
 
 impl Mail {
-    /// The letter's parts are within their ranges, by its type. This does nothing.
+    /// The letter's parts are within their ranges, by its type. A call states this and has no effect.
     pub fn within(&self)
         ensures { IsMessage self.now }
     {
@@ -66,7 +66,7 @@ impl Mail {
     /// Takes a letter's spelling. [`NoSpelling`] if the bytes begin with none.
     #[tactic(auto, unfolding(crate::specs::Item::message_at))]
     pub fn read(from: &mut In) -> Result<Mail, NoSpelling>
-        ensures { Gives same result (message_at from.old) from.new }
+        ensures { GivesFound same result (message_at from.old) from.new }
     {
         let sender = AccountNo::read(from)?;
         let to = AccountNo::read(from)?;

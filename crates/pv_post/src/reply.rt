@@ -1,5 +1,5 @@
 ghost use Rattle.pv_fields.specs.Out.{Puts};
-ghost use Rattle.pv_fields.specs.Reading.{Gives, same};
+ghost use Rattle.pv_fields.specs.Reading.{GivesFound, same};
 ghost use Rattle.pv_post.specs.Item.{IsResponse, response_bytes, response_at};
 
 use crate::fields::Fields;
@@ -40,7 +40,7 @@ impl Model for Reply {
 }
 
 impl Reply {
-    /// The reply's parts are within their ranges, by its type. This does nothing.
+    /// The reply's parts are within their ranges, by its type. A call states this and has no effect.
     pub fn within(&self)
         ensures { IsResponse self.now }
     {
@@ -61,7 +61,7 @@ impl Reply {
     /// Takes a reply's spelling. [`NoSpelling`] if the bytes begin with none.
     #[tactic(auto, unfolding(crate::specs::Item::response_at))]
     pub fn read(from: &mut In) -> Result<Reply, NoSpelling>
-        ensures { Gives same result (response_at from.old) from.new }
+        ensures { GivesFound same result (response_at from.old) from.new }
     {
         let account = AccountNo::read(from)?;
         let name = FrameName::read(from)?;

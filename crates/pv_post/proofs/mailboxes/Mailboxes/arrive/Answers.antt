@@ -32,7 +32,8 @@ invariant_of-self c =
     let inside = index_of-within c.args.to c.self.inside.owners.keys _ c.self.invariant.within room in
     let at = c.index_for-index.ensures.index in
     let keys = c.index_for-index.ensures.owners in
-    let below : position_or_len (eqb c.args.to) c.self.inside.owners.keys < length (insert_key eqb c.self.inside.owners.keys c.args.to) = search rules in
+    let below : position_or_len (eqb c.args.to) c.self.inside.owners.keys
+    < length (insert_key eqb c.self.inside.owners.keys c.args.to) = search rules in
     rw at (record {
       within = rw keys (search (rules, length-inserted c.args.to c.self.inside.owners.keys _ c.self.invariant.within inside));
       distinct = c.index_for-index.ensures.unique c.self.invariant.distinct;
@@ -47,7 +48,8 @@ returns-clause-letters c = λ account.
     let inside = index_of-within c.args.to c.self.inside.owners.keys _ c.self.invariant.within room in
     let at = c.index_for-index.ensures.index in
     let keys = c.index_for-index.ensures.owners in
-    let below : position_or_len (eqb c.args.to) c.self.inside.owners.keys < length (insert_key eqb c.self.inside.owners.keys c.args.to) = search rules in
+    let below : position_or_len (eqb c.args.to) c.self.inside.owners.keys
+    < length (insert_key eqb c.self.inside.owners.keys c.args.to) = search rules in
     let was : c.index_mut.result.now ≡ get_or c.self.inside.boxes.items c.index_for-index.result c.index_mut.result.now = search rules in
     let there = box_there c.self.inside.boxes.items c.index_for-index.result c.index_mut.result.now [] (rw at inside) in
     let box : c.arrive.new.self ≡ with_letter (get_or c.self.inside.boxes.items c.index_for-index.result []) c.args.letter.now =

@@ -15,4 +15,5 @@ returns-clause-letters c = λ other.
     let box : c.remove.new.self ≡ without_letter (get_or c.self.inside.boxes.items c.in-Some.index []) c.args.number =
     c.remove.ensures.rest ∙ ap (λ letters. without_letter letters c.args.number) (was ∙ there) in
     rw (sym c.self.view_is, box, at)
-    (box-changed [] _ _ c.self.invariant.empty c.args.account other (λ letters. without_letter letters c.args.number) here c.self.invariant.within)
+    (box-changed [] _ _ c.self.invariant.empty c.args.account other (λ letters. without_letter letters c.args.number) here
+    c.self.invariant.within)
