@@ -7,7 +7,7 @@ use Rattle.std.proofs.lemmas.List.{append-nil, append_assoc, length-append, take
 use Rattle.std.proofs.lemmas.{Simd.splat_is_map, List.Sums.{fold-append, suffix_len-le-length, prefix_len_passes}}
 use Rattle.std.proofs.{lemmas.List.Elements.{All-head, All-tail, All-take, All-get_or, All-set}, Math.Nat.add-sub_cancel}
 use Rattle.std.specs.{Prelude.IsFalse, List.{flat_map, suffix_len}}
-use Rattle.pv_screen.proofs.Vocabulary.{IsCell, IsGrid, IsRow, cell_bytes, cells_bytes, shown_cells, row_bytes, line_end, line_bytes, painting_of, message_text, Display, IsReady, new_display, row_below, with_cell, after_cell, after_byte, terminal_after}
+use Rattle.pv_screen.proofs.Vocabulary.{IsCell, IsGrid, IsRow, cell_bytes, cells_bytes, shown_cells, row_bytes, line_end, line_bytes, painting_of, message_text, Display, IsReadyDisplay, new_display, row_below, with_cell, after_cell, after_byte, terminal_after}
 use Rattle.pv_screen.proofs.{Grids.IsGrid-blank, Bytes.{line_end_short, line_end_full, length-shown-le}}
 
 -- a display that waits for no second byte
@@ -192,8 +192,8 @@ cells-behind : (rows : List (List ℕ)) (row column : ℕ) → (behind rows row 
 cells-behind rows row column = grind (arith, common_steps, cond_both, row_below)
 
 -- where they are a grid, the terminal is ready for the next bytes
-IsReady-behind : (rows : List (List ℕ)) (row column : ℕ) → IsGrid rows → IsReady (behind rows row column)
-IsReady-behind rows row column is = grind (arith, common_steps, cond_both, row_below)
+IsReadyDisplay-behind : (rows : List (List ℕ)) (row column : ℕ) → IsGrid rows → IsReadyDisplay (behind rows row column)
+IsReadyDisplay-behind rows row column is = grind (arith, common_steps, cond_both, row_below)
 
 -- after the bytes of a screen the terminal shows it, whatever it showed
 painted_shown : (grid : List (List ℕ)) (d : Display) → IsGrid grid → IsFalse d.waiting
@@ -246,8 +246,8 @@ pub IsRow-last : (rows : List (List ℕ)) (cells : List ℕ) → length rows ≡
 IsRow-last rows cells height is = grind (arith, nat_tests, All-get_or, get_or-set_same)
 
 -- a new terminal is ready
-pub IsReady-new : IsReady new_display
-IsReady-new = record { cells = IsGrid-blank; first = refl }
+pub IsReadyDisplay-new : IsReadyDisplay new_display
+IsReadyDisplay-new = record { cells = IsGrid-blank; first = refl }
 
 module _ (grid : List (List ℕ)) (is : IsGrid grid) (d : Display) (first : IsFalse d.waiting) where
   -- a terminal that takes the bytes of a painted grid shows that grid
@@ -255,10 +255,10 @@ module _ (grid : List (List ℕ)) (is : IsGrid grid) (d : Display) (first : IsFa
   painted_shows = grind (arith, common_steps, cells-behind, painted_shown, shown_cells)
 
   -- and is ready for the next bytes
-  pub painted_ready : IsReady (terminal_after d (painting_of grid))
-  painted_ready = grind (arith, common_steps, IsReady-behind, painted_shown, shown_cells)
+  pub painted_ready : IsReadyDisplay (terminal_after d (painting_of grid))
+  painted_ready = grind (arith, common_steps, IsReadyDisplay-behind, painted_shown, shown_cells)
 
-module _ (cells : List ℕ) (is : IsRow cells) (d : Display) (before : IsReady d) where
+module _ (cells : List ℕ) (is : IsRow cells) (d : Display) (before : IsReadyDisplay d) where
   -- a terminal that takes the bytes of a message shows it in row 24, and in the other rows what it showed
   pub message_shows : (terminal_after d (message_text cells)).cells ≡ set d.cells 23 cells
   message_shows =
@@ -266,8 +266,8 @@ module _ (cells : List ℕ) (is : IsRow cells) (d : Display) (before : IsReady d
       ∙ cells-behind (set d.cells 23 cells) 24 (0 + length cells)
 
   -- and is ready for the next bytes
-  pub message_ready : IsReady (terminal_after d (message_text cells))
-  message_ready = grind (arith, common_steps, IsGrid-last_row, IsReady-behind, message_shown)
+  pub message_ready : IsReadyDisplay (terminal_after d (message_text cells))
+  message_ready = grind (arith, common_steps, IsGrid-last_row, IsReadyDisplay-behind, message_shown)
 
 -- a message after a painted screen changes its row 24 alone
 pub message_after_painted : (grid : List (List ℕ)) (cells : List ℕ) (d : Display) → IsGrid grid → IsRow cells → IsFalse d.waiting

@@ -9,7 +9,7 @@ pub use Rattle.pv_screen.specs.Grid.{IsGrid, IsRow, blank_grid}
 pub use Rattle.pv_screen.specs.Painting.{screen_bytes, cell_bytes, cells_bytes, shown_cells, row_bytes, line_end, line_bytes, painting_of}
 pub use Rattle.pv_screen.specs.Painting.{message_text, is_ordinary}
 pub use Rattle.pv_screen.specs.Showing.{IsShowable, shown_after, HasCells}
-pub use Rattle.pv_screen.specs.Terminal.{Display, IsReady, after_byte, terminal_after, new_display, row_below, with_cell, after_cell}
+pub use Rattle.pv_screen.specs.Terminal.{Display, IsReadyDisplay, after_byte, terminal_after, new_display, row_below, with_cell, after_cell}
 pub use Rattle.pv_screen.specs.Terminal.{IsDisplay, down, up, row_start, home, forward, back, clear, after_first, after_second}
 pub use Rattle.pv_screen.specs.declared.attributes.TheConstants.{ALPHA_RED, ALPHA_GREEN, ALPHA_YELLOW, ALPHA_BLUE, ALPHA_MAGENTA}
 pub use Rattle.pv_screen.specs.declared.attributes.TheConstants.{ALPHA_CYAN, ALPHA_WHITE, MOSAIC_RED, MOSAIC_GREEN, MOSAIC_YELLOW}

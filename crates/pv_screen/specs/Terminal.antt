@@ -19,7 +19,7 @@ pub record IsDisplay (display : Display) : Type 0 where
   pub column : display.column < COLUMNS
 
 -- the cells are a grid, and the next byte does not follow an escape
-pub record IsReady (display : Display) : Type 0 where
+pub record IsReadyDisplay (display : Display) : Type 0 where
   pub cells : IsGrid display.cells
   pub first : IsFalse display.waiting
 

@@ -4,7 +4,7 @@ ghost use Rattle.std.specs.Prelude.{◌≡◌, ℕ, List, All, fold};
 ghost use Rattle.std.specs.List.{flat_map};
 ghost use Rattle.pv_screen.specs.Painting.{screen_bytes};
 ghost use Rattle.pv_screen.specs.Showing.{IsShowable, shown_after};
-ghost use Rattle.pv_screen.specs.Terminal.{Display, IsDisplay, IsReady, terminal_after};
+ghost use Rattle.pv_screen.specs.Terminal.{Display, IsDisplay, IsReadyDisplay, terminal_after};
 ghost use Rattle.pv_screen.specs.declared.screen.Screen.{Screen};
 
 /// Whatever bytes a terminal takes, its cells stay 24 rows of 40 cells of 0 to 127, and its cursor stays on them.
@@ -17,6 +17,6 @@ pub fn any_bytes_leave_a_screen()
 /// since then as its row 24.
 #[tactic(auto, using(crate::proofs::Runs::screens_shown))]
 pub fn screens_are_shown()
-    ensures { (screens : List Screen) → All IsShowable screens → (t : Display) → IsReady t
+    ensures { (screens : List Screen) → All IsShowable screens → (t : Display) → IsReadyDisplay t
         → (terminal_after t (flat_map screen_bytes screens)).cells ≡ fold shown_after t.cells screens }
 {}

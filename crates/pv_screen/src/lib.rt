@@ -15,7 +15,7 @@
 //! let grid = compose(&frame, name);
 //! let mut bytes = [0; BUFFER];
 //! let count = paint(&grid, &mut bytes);
-//! line.write_all(&bytes[..count])?;
+//! caller.write_all(&bytes[..count])?;
 //! ```
 #![tactic(auto)]
 
@@ -34,6 +34,3 @@ pub use laws::{any_bytes_leave_a_screen, screens_are_shown};
 pub use painting::{BUFFER, LONGEST, message, paint};
 pub use screen::Screen;
 pub use terminal::Terminal;
-
-#[cfg(test)]
-mod tests;

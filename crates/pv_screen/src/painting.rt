@@ -3,7 +3,7 @@ ghost use Rattle.std.specs.List.{flat_map, list_all};
 ghost use Rattle.pv_cells.specs.Row.{IsCell};
 ghost use Rattle.pv_fields.specs.Out.{Appends, room_of};
 ghost use Rattle.pv_screen.specs.Grid.{IsGrid, IsRow};
-ghost use Rattle.pv_screen.specs.Terminal.{Display, IsReady, terminal_after};
+ghost use Rattle.pv_screen.specs.Terminal.{Display, IsReadyDisplay, terminal_after};
 ghost use Rattle.pv_screen.specs.Painting.{painting_of, message_text, cell_bytes, cells_bytes, is_ordinary, is_space, shown_cells, line_bytes};
 
 use crate::codes::{ATTRIBUTES, CLEAR, DOWN, ESCAPE, HOME, RETURN, SPACE, UP};
@@ -29,7 +29,7 @@ pub fn paint(grid: &Grid, into: &mut [u8; BUFFER]) -> usize
     ensures shows { (t : Display) → IsFalse t.waiting
         → (terminal_after t (take result into.new)).cells ≡ grid.now }
     ensures ready { (t : Display) → IsFalse t.waiting
-        → IsReady (terminal_after t (take result into.new)) }
+        → IsReadyDisplay (terminal_after t (take result into.new)) }
 {
     let mut out = Out::new(into);
     put_screen(grid, &mut out);
@@ -45,10 +45,10 @@ pub fn message(cells: &[u8; COLUMNS], into: &mut [u8; BUFFER]) -> usize
     ensures rest { drop result into.new ≡ drop result into.old }
 
     // The terminal that takes these bytes shows the cells in row 24, and in the other rows what it showed.
-    ensures shows { All IsCell cells.now → (t : Display) → IsReady t
+    ensures shows { All IsCell cells.now → (t : Display) → IsReadyDisplay t
         → (terminal_after t (take result into.new)).cells ≡ slice_set t.cells (ROWS - 1) cells.now }
-    ensures ready { All IsCell cells.now → (t : Display) → IsReady t
-        → IsReady (terminal_after t (take result into.new)) }
+    ensures ready { All IsCell cells.now → (t : Display) → IsReadyDisplay t
+        → IsReadyDisplay (terminal_after t (take result into.new)) }
 
     // After any painted screen, they change row 24 of that screen alone.
     ensures after_a_screen { All IsCell cells.now → (grid : List (List ℕ)) → IsGrid grid

@@ -14,7 +14,7 @@ impl Screen {
     ghost use Rattle.std.specs.Prelude.{◌≡◌, ◌≤◌, length, take, drop};
     ghost use Rattle.pv_screen.specs.Painting.{screen_bytes};
     ghost use Rattle.pv_screen.specs.Showing.{HasCells, IsShowable, shown_after};
-    ghost use Rattle.pv_screen.specs.Terminal.{Display, IsReady, terminal_after};
+    ghost use Rattle.pv_screen.specs.Terminal.{Display, IsReadyDisplay, terminal_after};
 
     /// Writes the bytes that show this screen to the beginning of `into`, and returns their number.
     pub fn bytes(&self, into: &mut [u8; BUFFER]) -> usize
@@ -27,10 +27,10 @@ impl Screen {
         ensures screen { HasCells self.now → IsShowable self.now }
 
         // The terminal that takes these bytes shows the whole screen, or what it showed with another row 24.
-        ensures shows { HasCells self.now → (t : Display) → IsReady t
+        ensures shows { HasCells self.now → (t : Display) → IsReadyDisplay t
             → (terminal_after t (take result into.new)).cells ≡ shown_after t.cells self.now }
-        ensures ready { HasCells self.now → (t : Display) → IsReady t
-            → IsReady (terminal_after t (take result into.new)) }
+        ensures ready { HasCells self.now → (t : Display) → IsReadyDisplay t
+            → IsReadyDisplay (terminal_after t (take result into.new)) }
     {
         match self {
             Screen::Whole(grid) => paint(grid, into),

@@ -57,7 +57,7 @@ impl Terminal {
         &self.grid
     }
 
-    /// Takes a byte from the line.
+    /// Takes a byte that it was sent.
     #[tactic(auto, using(crate::proofs::Steps::taking))]
     pub fn take(&mut self, byte: u8)
         ensures step { self.new ≡ after_byte self.old byte }

@@ -1,5 +1,5 @@
 use Rattle.std.proofs.Common.{refl, subst, sym}
-use Rattle.pv_screen.proofs.{Vocabulary.{IsGrid, blank_grid, HasCells, IsShowable, new_display}, Shows.{IsReady-new, IsRow-last}}
+use Rattle.pv_screen.proofs.{Vocabulary.{IsGrid, blank_grid, HasCells, IsShowable, new_display}, Shows.{IsReadyDisplay-new, IsRow-last}}
 use Rattle.pv_screen.proofs.screen.Screen.bytes.Goals as goal
 
 -- a terminal that shows the screen has a grid
@@ -12,6 +12,6 @@ returns-in-Whole-clause-screen c = λ _.
 pub returns-in-Row-clause-screen : goal.returns-in-Row-clause-screen
 returns-in-Row-clause-screen c = λ has.
     let fits = subst HasCells c.in-Row.is has in
-    let after = c.message.ensures.ready fits new_display IsReady-new in
+    let after = c.message.ensures.ready fits new_display IsReadyDisplay-new in
     subst IsShowable (sym c.in-Row.is)
-    (IsRow-last blank_grid c.in-Row.cells refl (subst IsGrid (c.message.ensures.shows fits new_display IsReady-new) after.cells))
+    (IsRow-last blank_grid c.in-Row.cells refl (subst IsGrid (c.message.ensures.shows fits new_display IsReadyDisplay-new) after.cells))
