@@ -16,13 +16,13 @@ use Rattle.pv_frame.proofs.RoundTrip.{decode_of-spelling, is_found}
 use Rattle.pv_account.proofs.CallerLemmas.{Reads-profile}
 use Rattle.pv_account.specs.declared.account.TheConstants.{LAST_CENTRE}
 use Rattle.pv_post.proofs.CallerLemmas.{Reads-item}
-use Rattle.pv_edits.specs.Taken.{IsTaken, taken_bytes, taken_at}
+use Rattle.pv_edits.specs.Taken.{IsTakenUp, taken_bytes, taken_at}
 use Rattle.pv_edits.specs.Record.{IsRecord, record_tag, record_body, record_bytes, record_after, record_at, frame_of_bytes, frame_at_end, put_bytes, put_at, drop_bytes, drop_at, account_edit_bytes, account_edit_at, lease_bytes, lease_at}
 use Rattle.pv_edits.specs.declared.record.Record.{Record}
 use Rattle.pv_edits.specs.declared.record.Record.TheVariants.{Put, Drop, Account, Lease, Taken}
 
 -- an item that was taken up
-pub Reads-taken : Reads IsTaken taken_bytes taken_at
+pub Reads-taken : Reads IsTakenUp taken_bytes taken_at
 unfolding taken_at taken_bytes
 Reads-taken =
     Reads-map _ (Reads-within 0 LAST_CENTRE (lit< tt) Reads-byte & Reads-eight & Reads-item)

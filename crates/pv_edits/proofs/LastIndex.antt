@@ -32,7 +32,7 @@ module _ (test : Record → Bool) where
   at (x ∷ xs) (suc i) d within passes later =
       rw (at xs i d (omega arith) passes (λ k e below inside. later (suc k) e (omega arith) (omega arith))) refl
 
-  -- the same, whatever is read past the end
+  -- the last index that passes is known from the elements alone, whatever is read past the end
   pub last_index-at : (records : List Record) (i : ℕ) → i < length records → ((d : Record) → test (get_or records i d) ≡ true)
       → ((k : ℕ) (e : Record) → i < k → k < length records → test (get_or records k e) ≡ false) → last_index test records ≡ Some i
   last_index-at [] i within passes later = absurd (omega arith)

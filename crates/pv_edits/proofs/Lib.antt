@@ -5,6 +5,7 @@ mod Facts
 mod Growing
 mod LastIndex
 mod LastRecord
+mod Leases
 mod Lots
 pub mod Lengths
 mod OneSpelling

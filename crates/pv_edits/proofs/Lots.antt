@@ -80,18 +80,21 @@ module _ (records : List Record) (page : ℕ) (best : Option Lot) (was : IsLonge
     -- the new root covers the page, and is as long as the best
     takes : covers r page ≡ true → is_as_long best r ≡ true → IsLongest (records ++ edit ∷ []) page (Some new)
     takes over long = record {
-      there = λ lot is. let same : new ≡ lot = cc in subst (λ (l : Lot). (covers l.root page ≡ true) × (lot_at (records ++ edit ∷ []) l.root ≡ Some l)) same (over, at_new);
+      there = λ lot is. let same : new ≡ lot = cc in
+          subst (λ (l : Lot). (covers l.root page ≡ true) × (lot_at (records ++ edit ∷ []) l.root ≡ Some l)) same (over, at_new);
       longest = λ root lot covered has. (new, refl, under root lot covered has (eqb root r) refl);
     }
       where
         -- the best of before covers the new root
-        through : (root : ℕ) (best' : Option Lot) → is_as_long best' r ≡ true → (b : Lot) → best' ≡ Some b → covers root b.root ≡ true → covers root r ≡ true
+        through : (root : ℕ) (best' : Option Lot) → is_as_long best' r ≡ true → (b : Lot) → best' ≡ Some b → covers root b.root ≡ true
+            → covers root r ≡ true
         through root None long b is covered = absurd cc
         through root (Some x) long b is covered =
             let same : x ≡ b = cc in
             covers-through root b.root r covered (subst (λ (l : Lot). covers l.root r ≡ true) same long)
 
-        under : (root : ℕ) (lot : Lot) → covers root page ≡ true → lot_at (records ++ edit ∷ []) root ≡ Some lot → (here : Bool) → eqb root r ≡ here → covers root r ≡ true
+        under : (root : ℕ) (lot : Lot) → covers root page ≡ true → lot_at (records ++ edit ∷ []) root ≡ Some lot → (here : Bool)
+            → eqb root r ≡ here → covers root r ≡ true
         under root lot covered has true here = subst (λ n. covers root n ≡ true) (eqb-true root r here) (covers-itself root)
         under root lot covered has false here =
             let b = was.longest root lot covered (sym (at_other root here) ∙ has) in
@@ -100,7 +103,11 @@ module _ (records : List Record) (page : ℕ) (best : Option Lot) (was : IsLonge
     -- the new root does not cover the page
     outside : covers r page ≡ false → IsLongest (records ++ edit ∷ []) page best
     outside off = record {
-      there = λ lot is. ((was.there lot is).0, at_other lot.root (apart lot.root (was.there lot is).0 (eqb lot.root r) refl) ∙ (was.there lot is).1);
+      there = λ lot is. (
+        (was.there lot is).0,
+        at_other lot.root (apart lot.root (was.there lot is).0 (eqb lot.root r) refl)
+            ∙ (was.there lot is).1,
+      );
       longest = λ root lot covered has. was.longest root lot covered (sym (at_other root (apart root covered (eqb root r) refl)) ∙ has);
     }
       where
@@ -112,8 +119,11 @@ module _ (records : List Record) (page : ℕ) (best : Option Lot) (was : IsLonge
     shorter : (b : Lot) → best ≡ Some b → covers r page ≡ true → covers b.root r ≡ false → IsLongest (records ++ edit ∷ []) page best
     shorter b is over short = record {
       there = λ lot now.
-          let same : b ≡ lot = cc in
-          ((was.there lot now).0, at_other lot.root (subst (λ (l : Lot). eqb l.root r ≡ false) same (other (eqb b.root r) refl)) ∙ (was.there lot now).1);
+          let same : b ≡ lot = cc in (
+            (was.there lot now).0,
+            at_other lot.root (subst (λ (l : Lot). eqb l.root r ≡ false) same (other (eqb b.root r) refl))
+                ∙ (was.there lot now).1,
+          );
       longest = λ root lot covered has. under root lot covered has (eqb root r) refl;
     }
       where
@@ -125,10 +135,15 @@ module _ (records : List Record) (page : ℕ) (best : Option Lot) (was : IsLonge
         beneath (inl longer) = absurd (true≢false (sym longer ∙ short))
         beneath (inr covered) = covered
 
-        under : (root : ℕ) (lot : Lot) → covers root page ≡ true → lot_at (records ++ edit ∷ []) root ≡ Some lot → (here : Bool) → eqb root r ≡ here
+        under : (root : ℕ) (lot : Lot) → covers root page ≡ true → lot_at (records ++ edit ∷ []) root ≡ Some lot → (here : Bool)
+            → eqb root r ≡ here
             → (x : Lot) × (best ≡ Some x) × (covers root x.root ≡ true)
-        under root lot covered has true here =
-            (b, is, subst (λ n. covers n b.root ≡ true) (sym (eqb-true root r here)) (beneath (one_covers b.root r page (was.there b is).0 over)))
+        under root lot covered has true here = (
+          b,
+          is,
+          subst (λ n. covers n b.root ≡ true) (sym (eqb-true root r here))
+              (beneath (one_covers b.root r page (was.there b is).0 over)),
+        )
         under root lot covered has false here = was.longest root lot covered (sym (at_other root here) ∙ has)
 
 -- one record more
@@ -141,7 +156,8 @@ step records page best (Taken t) was = unmoved records page best was (Taken t) (
 step records page best (Lease e q r a) was = by (covers r page) refl (is_as_long best r) refl
   where
     -- a root that is not as long as the best: there is one
-    held : (best' : Option Lot) → best ≡ best' → covers r page ≡ true → is_as_long best' r ≡ false → IsLongest (records ++ Lease e q r a ∷ []) page best
+    held : (best' : Option Lot) → best ≡ best' → covers r page ≡ true → is_as_long best' r ≡ false
+        → IsLongest (records ++ Lease e q r a ∷ []) page best
     held None is over short = absurd cc
     held (Some b) is over short = shorter records page best was e q r a b is over short
 

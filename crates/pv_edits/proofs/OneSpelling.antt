@@ -1,5 +1,5 @@
--- No spelling of a record is a prefix of another's.
-use Rattle.std.proofs.Common.{◌≡◌, ℕ, List, ◌∷◌, ◌++◌, ap, sym, ◌∙◌, append_assoc}
+-- No spelling of a record is a prefix of another's, and none of what goes down.
+use Rattle.std.proofs.Common.{◌≡◌, ℕ, List, ◌∷◌, ◌++◌, ap, refl, sym, ◌∙◌, append_assoc}
 use Rattle.std.specs.Int.{w32, to_be_bytes}
 use Rattle.pv_fields.specs.Reading.{Parser, Reads, ReadsBack}
 use Rattle.pv_fields.proofs.Readings.{Reads-four, ◌&◌, Reads-back}
@@ -10,7 +10,9 @@ use Rattle.pv_frame.specs.Spelling.{spelling_of}
 use Rattle.pv_frame.proofs.OneSpelling.{ReadsBack-frame}
 use Rattle.pv_account.proofs.CallerLemmas.{Reads-profile}
 use Rattle.pv_edits.specs.Record.{IsRecord, record_bytes, put_bytes, drop_bytes, account_edit_bytes, lease_bytes}
+use Rattle.pv_edits.specs.Down.{IsDown, down_bytes}
 use Rattle.pv_edits.specs.declared.record.Record.TheVariants.{Put, Drop, Account, Lease, Taken}
+use Rattle.pv_edits.specs.declared.down.DownRecord.TheVariants.{Whole, Blank}
 use Rattle.pv_edits.proofs.CallerLemmas.{Reads-taken}
 
 -- of a value that is read and one that is read back
@@ -73,3 +75,20 @@ ReadsBack-record (Taken t) (Lease e' q' r' a') more rest ha hb same = absurd cc
 ReadsBack-record (Taken t) (Taken t') more rest ha hb same =
     let one = Reads-back _ _ _ Reads-taken t t' more rest ha hb (after 5 5 _ _ same) in
     (ap Taken one.0, one.1)
+
+-- what goes down is read back
+pub ReadsBack-down : ReadsBack IsDown down_bytes
+unfolding down_bytes record_bytes
+ReadsBack-down (Whole one) (Whole other) more rest is_one is_other same =
+    let both = ReadsBack-record one other more rest is_one is_other same in (ap Whole both.0, both.1)
+ReadsBack-down Blank Blank more rest is_one is_other same = (refl, cc)
+ReadsBack-down (Whole (Put e q n f)) Blank more rest is_one is_other same = absurd cc
+ReadsBack-down (Whole (Drop e q n)) Blank more rest is_one is_other same = absurd cc
+ReadsBack-down (Whole (Account e q a)) Blank more rest is_one is_other same = absurd cc
+ReadsBack-down (Whole (Lease e q r a)) Blank more rest is_one is_other same = absurd cc
+ReadsBack-down (Whole (Taken t)) Blank more rest is_one is_other same = absurd cc
+ReadsBack-down Blank (Whole (Put e q n f)) more rest is_one is_other same = absurd cc
+ReadsBack-down Blank (Whole (Drop e q n)) more rest is_one is_other same = absurd cc
+ReadsBack-down Blank (Whole (Account e q a)) more rest is_one is_other same = absurd cc
+ReadsBack-down Blank (Whole (Lease e q r a)) more rest is_one is_other same = absurd cc
+ReadsBack-down Blank (Whole (Taken t)) more rest is_one is_other same = absurd cc

@@ -112,5 +112,8 @@ module _ (root page : ℕ) (is_root : IsPage root) (is_page : IsPage page) (othe
                 length-append (decimal (page / 10)) ((48 + page % 10) ∷ []),
               ) in
               let none = nothing_after (decimal (page / 10)) begins.0 few in
-              to_test root (page / 10)
-              ([], sym (begins.1 ∙ ap (λ l. decimal (page / 10) ++ l) none ∙ append-nil (decimal (page / 10))) ∙ sym (append-nil (decimal root)))
+              to_test root (page / 10) (
+                [],
+                sym (begins.1 ∙ ap (λ l. decimal (page / 10) ++ l) none ∙ append-nil (decimal (page / 10)))
+                    ∙ sym (append-nil (decimal root)),
+              )

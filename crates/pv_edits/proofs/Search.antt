@@ -18,7 +18,7 @@ abbrev pub left : Option ℕ → ℕ
 left None = 0
 left (Some root) = suc root
 
--- the search comes to an end
+-- each step of the search leaves a smaller measure
 pub left-shorter : (root : ℕ) → left (shorter root) < suc root
 left-shorter root = by (ltb root 10) refl
   where

@@ -14,7 +14,8 @@ use Rattle.pv_edits.specs.Sight.{View, if_at_home, caller_account, oldest_letter
 use Rattle.pv_edits.proofs.LastIndex.{last_passes}
 
 -- the account that a record makes has the number
-made-number : (number : ℕ) (edit : Record) (profile : Profile) → makes number edit ≡ true → account_in edit ≡ Some profile → profile.number ≡ number
+made-number : (number : ℕ) (edit : Record) (profile : Profile) → makes number edit ≡ true → account_in edit ≡ Some profile
+    → profile.number ≡ number
 made-number number (Put e q n f) profile makes is = absurd cc
 made-number number (Drop e q n) profile makes is = absurd cc
 made-number number (Account e q a) profile makes is =
@@ -24,7 +25,8 @@ made-number number (Lease e q r a) profile makes is = absurd cc
 made-number number (Taken t) profile makes is = absurd cc
 
 -- the account of a number has the number
-account_at-number : (records : List Record) (number : ℕ) (profile : Profile) → account_at records number ≡ Some profile → profile.number ≡ number
+account_at-number : (records : List Record) (number : ℕ) (profile : Profile) → account_at records number ≡ Some profile
+    → profile.number ≡ number
 account_at-number records number profile is = by (last_index (makes number) records) refl is
   where
     first : (his : Bool) → eqb number OPERATOR ≡ his → cond his (Some operator_profile) None ≡ Some profile → profile.number ≡ number
@@ -44,7 +46,7 @@ account_at-number records number profile is = by (last_index (makes number) reco
     by (Some i) at is = there i (slice_get records i) at refl is
 
 module _ (records : List Record) (letters : ℕ → List WaitingLetter) where
-  -- what an account sees, if there is one
+  -- what a caller sees: with no account, no page and no letter
   abbrev pub view_by : Option Profile → View
   view_by account = record {
     account = account;
@@ -53,7 +55,8 @@ module _ (records : List Record) (letters : ℕ → List WaitingLetter) where
   }
 
   -- it is what the caller who gave its number sees
-  pub view_by-account : (centre : ℕ) (caller : Option ℕ) → view_by (caller_account records centre caller) ≡ sight_of records letters centre caller
+  pub view_by-account : (centre : ℕ) (caller : Option ℕ)
+      → view_by (caller_account records centre caller) ≡ sight_of records letters centre caller
   view_by-account centre None = refl
   view_by-account centre (Some number) = by (account_at records number) refl
     where

@@ -18,8 +18,8 @@ abbrev pub no_records : ℕ → RecordList
 no_records room = record { room = room; items = [] }
 
 -- with one record more
-abbrev pub with_record : RecordList → Record → RecordList
-with_record records edit = record records { items = records.items ++ edit ∷ [] }
+abbrev pub with_one_more : RecordList → Record → RecordList
+with_one_more records edit = record records { items = records.items ++ edit ∷ [] }
 
 -- ---- the keys of subjects
 
@@ -53,12 +53,12 @@ index_about last (about.Root page) = index_under last.roots.pairs page
 index_about last (about.Editor account) = index_under last.editors.pairs account
 
 -- there is room for the keys of all records that may come, and the records so far have at most one key each
-abbrev pub IsReserved : KeyIndexes → ℕ → ℕ → Type 0
-IsReserved indexes room count = (room ≤ indexes.room) × (length indexes.pairs ≤ count)
+abbrev pub HasReserve : KeyIndexes → ℕ → ℕ → Type 0
+HasReserve indexes room count = (room ≤ indexes.room) × (length indexes.pairs ≤ count)
 
 -- each of the four is reserved
 pub record AreReserved (last : LastAbout) (room count : ℕ) : Type 0 where
-  pub names : IsReserved last.names room count
-  pub accounts : IsReserved last.accounts room count
-  pub roots : IsReserved last.roots room count
-  pub editors : IsReserved last.editors room count
+  pub names : HasReserve last.names room count
+  pub accounts : HasReserve last.accounts room count
+  pub roots : HasReserve last.roots room count
+  pub editors : HasReserve last.editors room count

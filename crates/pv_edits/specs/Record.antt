@@ -4,12 +4,12 @@ use Rattle.std.specs.Int.{w32, to_be_bytes}
 use Rattle.std.specs.Result.{result_ok}
 use Rattle.pv_fields.specs.Reading.{Parser, byte_at, number_at, nothing_at, ◌⊗◌, map_at, chain_at, rest_at}
 use Rattle.pv_page.specs.Names.{Name, IsPage, IsAccount, IsName}
-use Rattle.pv_page.specs.Spelling.{page_bytes, page_at, account_bytes, account_at, name_bytes, name_at}
+use Rattle.pv_page.specs.Spelling.{page_bytes, page_at, account_bytes, account_number_at, name_bytes, name_at}
 use Rattle.pv_frame.specs.Content.{Content}
 use Rattle.pv_frame.specs.Spelling.{HasSpelling, spelling_of}
 use Rattle.pv_frame.specs.Reading.{decode_of}
 use Rattle.pv_account.specs.Profile.{Profile, IsProfile, profile_bytes, profile_at}
-use Rattle.pv_edits.specs.Taken.{IsTaken, taken_bytes, taken_at}
+use Rattle.pv_edits.specs.Taken.{IsTakenUp, taken_bytes, taken_at}
 use Rattle.pv_edits.specs.declared.record.Record.{Record}
 use Rattle.pv_edits.specs.declared.record.Record.TheVariants.{Put, Drop, Account, Lease, Taken}
 
@@ -24,7 +24,7 @@ IsRecord (Put editor q name frame) = IsEditor editor q × (IsName name × HasSpe
 IsRecord (Drop editor q name) = IsEditor editor q × IsName name
 IsRecord (Account editor q account) = IsEditor editor q × IsProfile account
 IsRecord (Lease editor q root account) = IsEditor editor q × (IsPage root × IsAccount account)
-IsRecord (Taken taken) = IsTaken taken
+IsRecord (Taken taken) = IsTakenUp taken
 
 -- ---- how records are spelled
 
@@ -80,19 +80,19 @@ frame_at_end = rest_at frame_of_bytes
 
 -- the Put that bytes begin with
 unfoldable pub put_at : Parser Record
-put_at = map_at (λ x. Put x.0 x.1.0 x.1.1.0 x.1.1.1) (account_at ⊗ number_at w32 ⊗ name_at ⊗ frame_at_end)
+put_at = map_at (λ x. Put x.0 x.1.0 x.1.1.0 x.1.1.1) (account_number_at ⊗ number_at w32 ⊗ name_at ⊗ frame_at_end)
 
 -- the Drop
 unfoldable pub drop_at : Parser Record
-drop_at = map_at (λ x. Drop x.0 x.1.0 x.1.1) (account_at ⊗ number_at w32 ⊗ name_at)
+drop_at = map_at (λ x. Drop x.0 x.1.0 x.1.1) (account_number_at ⊗ number_at w32 ⊗ name_at)
 
 -- the Account
 unfoldable pub account_edit_at : Parser Record
-account_edit_at = map_at (λ x. Account x.0 x.1.0 x.1.1) (account_at ⊗ number_at w32 ⊗ profile_at)
+account_edit_at = map_at (λ x. Account x.0 x.1.0 x.1.1) (account_number_at ⊗ number_at w32 ⊗ profile_at)
 
 -- the Lease
 unfoldable pub lease_at : Parser Record
-lease_at = map_at (λ x. Lease x.0 x.1.0 x.1.1.0 x.1.1.1) (account_at ⊗ number_at w32 ⊗ page_at ⊗ account_at)
+lease_at = map_at (λ x. Lease x.0 x.1.0 x.1.1.0 x.1.1.1) (account_number_at ⊗ number_at w32 ⊗ page_at ⊗ account_number_at)
 
 -- how the other bytes are read after a tag
 abbrev pub record_after : ℕ → Parser Record

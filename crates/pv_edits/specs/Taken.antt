@@ -17,7 +17,7 @@ pub record TakenUp : Type 0 where
   pub item : Item
 
 -- each part is within its range
-pub record IsTaken (taken : TakenUp) : Type 0 where
+pub record IsTakenUp (taken : TakenUp) : Type 0 where
   pub centre : IsCentre taken.centre
   pub k : taken.k < 2 ^ 64
   pub item : IsItem taken.item

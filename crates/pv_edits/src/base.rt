@@ -50,7 +50,7 @@ impl Model for Base {
 }
 
 impl Drop for Base {
-    /// Written out, so that who lets go of it has one call to think of and not each part.
+    /// One call frees all parts, so that a proof has one step where such a value ends.
     fn drop(self) {
         let Base {
             records: _,
@@ -175,6 +175,9 @@ impl Base {
     pub fn owner(&self, page: PageNo) -> AccountNo
         ensures { result ≡ owner_of self.now.records page }
     {
+        if self.leased == 0 {
+            return self.operator.number;
+        }
         match lot_of(&self.records, page) {
             Some(lot) => lot.account,
             None => self.operator.number,

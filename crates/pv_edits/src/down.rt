@@ -18,7 +18,7 @@ pub enum DownRecord {
 pub const BLANK_TAG: u8 = 6;
 
 impl DownRecord {
-    /// The parts are within their ranges, by its type. This does nothing.
+    /// The parts are within their ranges, by its type. A call states this and has no effect.
     pub fn within(&self)
         ensures { IsDown self.now }
     {

@@ -28,7 +28,7 @@ mod wish;
 
 pub use base::Base;
 pub use down::{BLANK_TAG, DownRecord};
-pub use law::no_record_begins_another;
+pub use law::{no_down_record_begins_another, no_record_begins_another};
 pub use owner::Lot;
 pub use record::Record;
 pub use room::{MAX_ACCOUNTS, MAX_LEASES, OPERATOR};
@@ -36,6 +36,3 @@ pub use sight::Sight;
 pub use subject::Subject;
 pub use taken::Taken;
 pub use wish::EditWish;
-
-#[cfg(test)]
-mod tests;

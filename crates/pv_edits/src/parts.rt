@@ -1,7 +1,7 @@
 //! The spellings of the four kinds of edits, after their tags.
 
 ghost use Rattle.pv_fields.specs.Out.{Puts};
-ghost use Rattle.pv_fields.specs.Reading.{Gives, same};
+ghost use Rattle.pv_fields.specs.Reading.{GivesFound, same};
 ghost use Rattle.pv_edits.specs.Record.{editor_bytes, put_bytes, drop_bytes, account_edit_bytes, lease_bytes, put_at, drop_at, account_edit_at, lease_at};
 ghost use Rattle.pv_edits.specs.Record.{frame_at_end};
 
@@ -82,7 +82,7 @@ pub(crate) fn put_lease(
 /// Takes the rest of a `Put`, which takes all the bytes that are left.
 #[tactic(auto, unfolding(crate::specs::Record::put_at))]
 pub(crate) fn read_put(bytes: &mut In) -> Result<Record, NoSpelling>
-    ensures { Gives same result (put_at bytes.old) bytes.new }
+    ensures { GivesFound same result (put_at bytes.old) bytes.new }
 {
     let editor = AccountNo::read(bytes)?;
     let q = bytes.u32()?;
@@ -99,7 +99,7 @@ pub(crate) fn read_put(bytes: &mut In) -> Result<Record, NoSpelling>
 /// Takes a frame's spelling, which must be all the bytes that are left.
 #[tactic(auto, unfolding(crate::specs::Record::frame_of_bytes))]
 fn read_frame(bytes: &mut In) -> Result<CheckedFrame, NoSpelling>
-    ensures { Gives same result (frame_at_end bytes.old) bytes.new }
+    ensures { GivesFound same result (frame_at_end bytes.old) bytes.new }
 {
     CheckedFrame::decode(bytes.take_rest())
         .ok()
@@ -109,7 +109,7 @@ fn read_frame(bytes: &mut In) -> Result<CheckedFrame, NoSpelling>
 /// Takes the rest of a `Drop`.
 #[tactic(auto, unfolding(crate::specs::Record::drop_at))]
 pub(crate) fn read_drop(bytes: &mut In) -> Result<Record, NoSpelling>
-    ensures { Gives same result (drop_at bytes.old) bytes.new }
+    ensures { GivesFound same result (drop_at bytes.old) bytes.new }
 {
     let editor = AccountNo::read(bytes)?;
     let q = bytes.u32()?;
@@ -120,7 +120,7 @@ pub(crate) fn read_drop(bytes: &mut In) -> Result<Record, NoSpelling>
 /// Takes the rest of an `Account`.
 #[tactic(auto, unfolding(crate::specs::Record::account_edit_at))]
 pub(crate) fn read_account(bytes: &mut In) -> Result<Record, NoSpelling>
-    ensures { Gives same result (account_edit_at bytes.old) bytes.new }
+    ensures { GivesFound same result (account_edit_at bytes.old) bytes.new }
 {
     let editor = AccountNo::read(bytes)?;
     let q = bytes.u32()?;
@@ -131,7 +131,7 @@ pub(crate) fn read_account(bytes: &mut In) -> Result<Record, NoSpelling>
 /// Takes the rest of a `Lease`.
 #[tactic(auto, unfolding(crate::specs::Record::lease_at))]
 pub(crate) fn read_lease(bytes: &mut In) -> Result<Record, NoSpelling>
-    ensures { Gives same result (lease_at bytes.old) bytes.new }
+    ensures { GivesFound same result (lease_at bytes.old) bytes.new }
 {
     let editor = AccountNo::read(bytes)?;
     let q = bytes.u32()?;

@@ -1,6 +1,6 @@
 ghost use Rattle.std.specs.Prelude.{◌≡◌, IsNone, IfSome};
 ghost use Rattle.pv_fields.specs.Out.{Puts};
-ghost use Rattle.pv_fields.specs.Reading.{Gives, GivesAll, same, whole};
+ghost use Rattle.pv_fields.specs.Reading.{GivesFound, GivesAll, same, whole};
 ghost use Rattle.pv_edits.specs.Record.{IsEditor, IsRecord, record_bytes, record_at, record_after};
 
 use crate::parts::{
@@ -60,7 +60,7 @@ pub enum Record {
 }
 
 impl Record {
-    /// The record's parts are within their ranges, by its type. This does nothing.
+    /// The record's parts are within their ranges, by its type. A call states this and has no effect.
     pub fn within(&self)
         ensures { IsRecord self.now }
     {
@@ -150,7 +150,7 @@ impl Record {
 
     /// Takes the rest of a record's spelling, after its tag.
     pub(crate) fn read_after(tag: u8, bytes: &mut In) -> Result<Record, NoSpelling>
-        ensures { Gives same result (record_after tag bytes.old) bytes.new }
+        ensures { GivesFound same result (record_after tag bytes.old) bytes.new }
     {
         match tag {
             1 => read_put(bytes),

@@ -2,7 +2,7 @@ ghost use Rattle.std.specs.Prelude.{◌≡◌, ℕ, ◌<◌, ◌≤◌, length, 
 ghost use Rattle.std.specs.Vec.{vec_capacity};
 ghost use Rattle.pv_page.specs.Names.{IsPage};
 ghost use Rattle.pv_edits.specs.Edits.{is_about, last_index};
-ghost use Rattle.pv_edits.specs.Indexed.{no_records, with_record};
+ghost use Rattle.pv_edits.specs.Indexed.{no_records, with_one_more};
 ghost use Rattle.pv_edits.specs.Owner.{lot_at};
 
 use crate::last_about::LastAbout;
@@ -57,7 +57,7 @@ impl Records {
     /// Adds a record. There is room for it.
     pub(crate) fn push(&mut self, edit: &Record)
         requires { length self.old.items < self.old.room }
-        ensures { self.new ≡ with_record self.old edit.now }
+        ensures { self.new ≡ with_one_more self.old edit.now }
     {
         edit.within();
         self.last.note(edit, self.items.len());
@@ -94,7 +94,7 @@ impl Records {
         self.last.get(subject)
     }
 
-    /// Each leased root is a page, by the type of a record. This does nothing.
+    /// Each leased root is a page, by the type of a record. A call states this and has no effect.
     pub(crate) fn within(&self)
         ensures { (root : ℕ) → IsTrue (is_some (lot_at self.now.items root)) → IsPage root }
     {

@@ -61,7 +61,7 @@ impl<'a> Sight<'a> {
     }
 }
 
-/// The account that was given, if there is one and its home is the centre.
+/// The account of this number, if its home is the centre. `None` without a number, too.
 fn account_at_home(base: &Base, centre: u8, account: Option<AccountNo>) -> Option<&Account>
     ensures { option_copied result ≡ caller_account base.now.records centre account }
 {

@@ -1,6 +1,6 @@
 ghost use Rattle.pv_fields.specs.Out.{Puts};
-ghost use Rattle.pv_fields.specs.Reading.{Gives, same};
-ghost use Rattle.pv_edits.specs.Taken.{IsTaken, taken_bytes, taken_at};
+ghost use Rattle.pv_fields.specs.Reading.{GivesFound, same};
+ghost use Rattle.pv_edits.specs.Taken.{IsTakenUp, taken_bytes, taken_at};
 
 use pv_account::LAST_CENTRE;
 use pv_fields::{In, NoRoom, NoSpelling, Out};
@@ -31,9 +31,9 @@ impl Model for Taken {
 }
 
 impl Taken {
-    /// The parts are within their ranges, by its type. This does nothing.
+    /// The parts are within their ranges, by its type. A call states this and has no effect.
     pub fn within(&self)
-        ensures { IsTaken self.now }
+        ensures { IsTakenUp self.now }
     {
         let _number = self.k;
         self.item.within();
@@ -52,7 +52,7 @@ impl Taken {
     /// Takes the spelling of what was taken up. [`NoSpelling`] if the bytes begin with none.
     #[tactic(auto, unfolding(crate::specs::Taken::taken_at))]
     pub fn read(bytes: &mut In) -> Result<Taken, NoSpelling>
-        ensures { Gives same result (taken_at bytes.old) bytes.new }
+        ensures { GivesFound same result (taken_at bytes.old) bytes.new }
     {
         let centre = bytes.u8_within(0, LAST_CENTRE)?;
         let k = bytes.u64()?;

@@ -15,7 +15,8 @@ invariant_of-self c =
     let items = c.push_reserved.ensures.items in
     record {
       fit = search (rules, kept);
-      reserved = rw (items, length-append records (edit ∷ []), ← count) (c.note.ensures.reserved c.self.inside.room (rw count kept.reserved));
+      reserved = rw (items, length-append records (edit ∷ []), ← count)
+          (c.note.ensures.reserved c.self.inside.room (rw count kept.reserved));
       lasts = λ subject valid. c.note.ensures.noted subject valid
           ∙ rw (items, count, kept.lasts subject valid) (sym (last_index-push (is_about subject) records edit));
       pages = rw items (pages-push records edit c.within.ensures kept.pages);
