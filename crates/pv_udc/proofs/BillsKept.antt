@@ -12,11 +12,11 @@ use Rattle.pv_charge.specs.Line.{Charge}
 use Rattle.pv_charge.specs.declared.bill.Bill.{Bill}
 use Rattle.pv_charge.specs.declared.line.TheConstants.{MAX_PRICE}
 use Rattle.pv_index.specs.Indexes.{index_under}
-use Rattle.pv_edits.specs.Indexed.{IsReserved}
+use Rattle.pv_edits.specs.Indexed.{HasReserve}
 use Rattle.pv_edits.specs.declared.record.Record.{Record}
 use Rattle.pv_edits.proofs.CallerLemmas.{get_before, get_at_end}
 use Rattle.pv_udc.specs.Bills.{billed_line, billed_lines, billed_pence, bill_of, brings_charge_to, last_charge, charge_in, charged_to, charge_before}
-use Rattle.pv_udc.specs.Charges.{AreChargesOf, link_at, bill_at}
+use Rattle.pv_udc.specs.Charges.{AreChargesOf, before_at, bill_at}
 use Rattle.pv_udc.specs.declared.charges.Charges.{Charges}
 use Rattle.pv_udc.specs.declared.charges.Entry.{Entry}
 use Rattle.pv_udc.proofs.LastEdits.{last_index-within, last_index-passes, last_index-fails}
@@ -133,9 +133,9 @@ module _ (records : List Record) (edit : Record) where
     -- ---- the links
 
     -- those before are as they were, and the last place has the new one
-    links_push : ((place : ℕ) → link_at entries place ≡ charge_before records place)
+    links_push : ((place : ℕ) → before_at entries place ≡ charge_before records place)
         → entry.before ≡ (charged_to edit >>= last_charge records) → (place : ℕ)
-        → link_at (entries ++ entry ∷ []) place ≡ charge_before (records ++ edit ∷ []) place
+        → before_at (entries ++ entry ∷ []) place ≡ charge_before (records ++ edit ∷ []) place
     links_push links new place = elim (cases_order place (length records)) [
       | inl here ↦
           let at = get_at_end entries entry place (counted ∙ sym here) in
@@ -193,7 +193,8 @@ pub record IsEntry (records : List Record) (edit : Record) (entry : Entry) : Typ
 pub IsEntry-none : (records : List Record) (edit : Record) (entry : Entry) → charge_in edit ≡ None → entry.before ≡ None
     → IsEntry records edit entry
 IsEntry-none records edit entry none before =
-    let off : (account : ℕ) → brings_charge_to account edit ≡ false = λ account. ap (λ (o : Option Charge). is_some o) (no_line account edit none) in
+    let off : (account : ℕ) → brings_charge_to account edit ≡ false =
+    λ account. ap (λ (o : Option Charge). is_some o) (no_line account edit none) in
     record {
       before = before ∙ sym (ap (λ (o : Option Charge). option_map (λ (l : Charge). l.account) o >>= last_charge records) none);
       bill = λ account brings. absurd (true≢false (sym brings ∙ off account));
@@ -221,7 +222,7 @@ IsEntry-line records edit entry line is before lines pence price = record {
 pub AreChargesOf-push : (charges more : Charges) (room : ℕ) (records : List Record) (edit : Record) (entry : Entry)
     → AreChargesOf charges room records → IsEntry records edit entry
     → more.entries.items ≡ charges.entries.items ++ entry ∷ [] → room ≤ vec_capacity more.entries
-    → IsReserved more.last room (length records + 1)
+    → HasReserve more.last room (length records + 1)
     → ((account : ℕ) → index_under more.last.pairs account
     ≡ cond (brings_charge_to account edit) (Some (length records)) (index_under charges.last.pairs account))
     → AreChargesOf more room (records ++ edit ∷ [])

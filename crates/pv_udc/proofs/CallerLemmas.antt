@@ -35,7 +35,7 @@ pub use Rattle.pv_udc.proofs.Linking.{if_charged, billed_line-charge, charge_bef
 abbrev pair : ℕ → ℕ → Option (ℕ × ℕ)
 pair q place = Some (q, place)
 
--- a number, if there is one, with a place
+-- a number beside a place; none for no number
 abbrev placed : ℕ → Option ℕ → Option (ℕ × ℕ)
 placed place number = option_map (λ (q : ℕ). (q, place)) number
 

@@ -3,7 +3,7 @@ use Rattle.std.proofs.Common.{◌≡◌, ℕ, ◌+◌, List, [], ◌∷◌, map,
 use Rattle.pv_outside.specs.declared.limits.Limits.{Limits}
 use Rattle.pv_page.specs.Names.{Name}
 use Rattle.pv_account.specs.Profile.{Profile}
-use Rattle.pv_account.specs.declared.account.TheConstants.{LAST_CENTRE}
+use Rattle.pv_account.specs.declared.account.TheConstants.{MAX_CENTRES}
 use Rattle.pv_frame.specs.Content.{blank_frame}
 use Rattle.pv_frame.specs.declared.frame_error.FrameError.TheVariants.{Shape}
 use Rattle.pv_post.specs.declared.item.Item.{Item}
@@ -24,11 +24,8 @@ use Rattle.pv_udc.specs.declared.reply.UdcReply.TheVariants.{Stored, Again, Old,
 use Rattle.pv_udc.specs.declared.request.UdcRequest.TheVariants.{Edit, TakeUp}
 use Rattle.pv_udc.specs.declared.state.TheConstants.{CENTRES}
 
--- there can be four centres
-pub centres : CENTRES ≡ 4
-centres = refl
-
-pub centres-all : CENTRES ≡ LAST_CENTRE + 1
+-- each centre has its count
+pub centres-all : CENTRES ≡ MAX_CENTRES
 centres-all = refl
 
 abbrev page_1a : Name

@@ -52,7 +52,7 @@ charge_before-line records account place edit there brings =
 
 -- ---- what a function finds of the records that pass a test
 
--- an element stays in front of two lists
+-- an element before the first of two lists is before both
 onto : {X : Type 0} (found : Option X) (xs ys : List X) → cons_option found (xs ++ ys) ≡ cons_option found xs ++ ys
 onto None xs ys = refl
 onto (Some x) xs ys = refl

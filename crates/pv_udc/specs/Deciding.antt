@@ -40,14 +40,14 @@ is_stored (Some other) asked edit count reply is = absurd (subst IsAnswer is tt)
 
 module _ (limits : Limits) (records : List Record) (editor q : ℕ) where
   -- what is known of a wish that is stored
-  pub record IsDone (wish : EditWish) (edit : Record) : Type 0 where
+  pub record IsStoredWish (wish : EditWish) (edit : Record) : Type 0 where
     pub edit_is : edit_of editor q wish ≡ edit
     pub has_account : has_editor records editor ≡ true
     pub new : kept_place records editor q ≡ None
     pub not_refused : refusal_of limits records editor q wish ≡ None
 
   pub is_done : (wish : EditWish) (edit : Record) (reply : UdcReply) → judge limits records (Edit editor q wish) ≡ Store edit reply
-      → IsDone wish edit
+      → IsStoredWish wish edit
   is_done wish edit reply is =
       let answers = answers_of limits records (Edit editor q wish) in
       let stored = is_stored (first_of answers) (edit_of editor q wish) edit (length records) reply is in

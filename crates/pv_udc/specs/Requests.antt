@@ -3,7 +3,7 @@ use Rattle.pv_page.specs.Names.{IsPage, IsAccount, IsName}
 use Rattle.pv_frame.specs.Content.{IsFrame}
 use Rattle.pv_account.specs.Profile.{IsProfile}
 use Rattle.std.specs.Prelude.{ℕ}
-use Rattle.pv_edits.specs.Taken.{IsCentre, IsTaken}
+use Rattle.pv_edits.specs.Taken.{IsCentre, IsTakenUp}
 use Rattle.pv_edits.specs.Record.{IsEditor}
 use Rattle.pv_edits.specs.declared.wish.EditWish.{EditWish}
 use Rattle.pv_edits.specs.declared.wish.EditWish.TheVariants as wishes
@@ -22,7 +22,7 @@ IsWish (wishes.Lease root account) = IsPage root × IsAccount account
 -- each part of a request is within its range
 abbrev pub IsRequest : UdcRequest → Type 0
 IsRequest (Edit editor q wish) = IsEditor editor q × IsWish wish
-IsRequest (TakeUp centre k item) = IsTaken (record { centre = centre; k = k; item = item })
+IsRequest (TakeUp centre k item) = IsTakenUp (record { centre = centre; k = k; item = item })
 
 -- an item comes from a centre that there can be: what a request's type alone does not say
 abbrev pub HasCentre : UdcRequest → Type 0

@@ -1,4 +1,5 @@
--- The laws of the Update Centre's rules. What a trait's law rests on stands in specs, since it may cite nothing else: also Deciding, Rooms and Sizes.
+-- The laws of the Update Centre's rules. A law of a trait cites specs alone, so that what it rests on stands here too, and in Deciding,
+-- Rooms and Sizes.
 use Rattle.std.proofs.Common.{◌≡◌, ℕ, suc, ◌+◌, ◌<◌, true, List, [], ◌∷◌, ◌++◌, length, Option, Some, None, refl, ap, sym, subst, ◌∙◌, arith}
 use Rattle.std.proofs.lemmas.List.{length-append}
 use Rattle.pv_outside.specs.declared.limits.Limits.{Limits}

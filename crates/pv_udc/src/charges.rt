@@ -3,7 +3,7 @@ ghost use Rattle.pv_index.specs.Indexes.{index_under};
 ghost use Rattle.pv_charge.specs.declared.line.TheConstants.{MAX_PRICE};
 ghost use Rattle.pv_edits.specs.declared.record.Record.{Record};
 ghost use Rattle.pv_udc.specs.Bills.{bill_of, charge_in};
-ghost use Rattle.pv_udc.specs.Charges.{AreChargesOf, MayGrow, link_at};
+ghost use Rattle.pv_udc.specs.Charges.{AreChargesOf, MayGrow, before_at};
 
 use pv_charge::{Bill, Line};
 use pv_edits::Record;
@@ -108,7 +108,7 @@ impl Charges {
 
     /// The place of the charge line before the one at a place, of the same account.
     pub(crate) fn before(&self, place: u64) -> Option<u64>
-        ensures { result ≡ link_at self.now.entries.items place }
+        ensures { result ≡ before_at self.now.entries.items place }
     {
         self.entries.get(place as usize)?.before
     }

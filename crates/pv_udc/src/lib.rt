@@ -47,7 +47,4 @@ pub use reply::{Code, UdcReply};
 pub use request::UdcRequest;
 pub use rules::UdcRules;
 pub use sending::down;
-pub use state::{CENTRES, UdcState};
-
-#[cfg(test)]
-mod tests;
+pub use state::UdcState;

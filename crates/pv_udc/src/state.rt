@@ -7,7 +7,7 @@ ghost use Rattle.pv_edits.specs.declared.record.Record.{Record};
 ghost use Rattle.pv_udc.specs.Counts.{counted_on};
 
 use crate::charges::Charges;
-use pv_account::LAST_CENTRE;
+use pv_account::{LAST_CENTRE, MAX_CENTRES};
 use pv_edits::{Base, Record};
 use pv_outside::Limits;
 use pv_page::{AccountNo, FrameName, PageNo};
@@ -16,7 +16,7 @@ use std::alloc::{AllocError, Global};
 use std::marker::Model;
 
 /// How many centres there can be.
-pub const CENTRES: usize = 4;
+const CENTRES: usize = MAX_CENTRES as usize;
 
 /// What the Update Centre knows: its edit list, what follows from it, how many items of each centre were
 /// taken up, and the charge lines among them. All room is reserved when it is opened.
@@ -41,7 +41,7 @@ impl Model for UdcState {
 }
 
 impl Drop for UdcState {
-    /// Written out, so that who lets go of it has one call to think of and not each part.
+    /// One call frees all parts, so that a proof has one step where such a value ends.
     fn drop(self) {
         let UdcState {
             base: _,

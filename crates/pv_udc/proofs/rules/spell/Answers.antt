@@ -12,7 +12,8 @@ whole : (c : After-written) → Appends c.new-out.result c.encode.new.out (recor
 whole c =
     let room : room_of c.new-out.result ≡ 2048 = ap length c.new-out.ensures.rest ∙ c.told-into in
     let fits = (IsBody-record c.args.edit.now c.requires).1 in
-    appends_all c.encode.result c.new-out.result c.encode.new.out (record_bytes c.args.edit.now) c.encode.ensures (omega (arith, room, fits))
+    appends_all c.encode.result c.new-out.result c.encode.new.out (record_bytes c.args.edit.now) c.encode.ensures
+    (omega (arith, room, fits))
 
 pub shape_of-into : goal.shape_of-into
 shape_of-into c = let slice = (whole c).slice in search rules

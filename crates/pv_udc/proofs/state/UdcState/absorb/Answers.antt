@@ -22,7 +22,8 @@ invariant_of-self c =
     let kept = c.self.invariant in
     let below : inside.count < inside.limits.records = omega (arith, within, counted c) in
     let charged = c.push.ensures inside.limits.records inside.base.records kept.charged (omega (arith, below, kept.counted)) in
-    rw (after c) (IsKeptList-push inside.base inside.limits inside.count inside.counts c.count_item.new.counts inside.charges c.push.new.self
+    rw (after c) (IsKeptList-push inside.base inside.limits inside.count inside.counts c.count_item.new.counts
+    inside.charges c.push.new.self
     c.args.rec.now kept below c.count_item.ensures charged)
 
 pub returns : goal.returns
