@@ -87,7 +87,8 @@ stored-next removals applied stored =
     All-weaker (λ (removal : Removal). removal.place < suc applied) (λ (removal : Removal). removal.place < suc (applied + 1))
     (λ removal below. omega (arith, below)) removals stored
 
-module _ (centre : ℕ) (base : Base) (applied : ℕ) (removals : List Removal) (mail : Boxes) (is : HaveLetters centre base applied removals mail) where
+module _ (centre : ℕ) (base : Base) (applied : ℕ) (removals : List Removal) (mail : Boxes)
+    (is : HaveLetters centre base applied removals mail) where
   -- a record that was left out brings no letter
   pub HaveLetters-blank : HaveLetters centre base (applied + 1) removals mail
   HaveLetters-blank = record {

@@ -28,14 +28,16 @@ paired first (Blank ∷ downs) = paired (first + 1) downs
 -- which is below the count of all
 placed : (first : ℕ) (downs : List DownRecord) → All (λ place. place < first + length downs) (whole_places first downs)
 placed first [] = All-nil (λ place. place < first + 0)
-placed first (down ∷ downs) = by down (subst (λ count. All (λ place. place < count) (whole_places (first + 1) downs)) more (placed (first + 1) downs))
+placed first (down ∷ downs) =
+    by down (subst (λ count. All (λ place. place < count) (whole_places (first + 1) downs)) more (placed (first + 1) downs))
   where
     more : first + 1 + length downs ≡ first + suc (length downs)
     more = omega arith
 
     by : (down : DownRecord) → All (λ place. place < first + suc (length downs)) (whole_places (first + 1) downs)
         → All (λ place. place < first + suc (length downs)) (whole_places first (down ∷ downs))
-    by (Whole edit) later = All-cons (λ place. place < first + suc (length downs)) first (whole_places (first + 1) downs) (omega arith) later
+    by (Whole edit) later =
+        All-cons (λ place. place < first + suc (length downs)) first (whole_places (first + 1) downs) (omega arith) later
     by Blank later = later
 
 module _ (centre account : ℕ) where
@@ -45,7 +47,8 @@ module _ (centre account : ℕ) where
 
   -- one thing more brings its letter at its place, and changes no other place
   brought-next : (before : List DownRecord) (down : DownRecord) (place : ℕ) → brought_by (before ++ down ∷ []) place
-      ≡ cond (eqb place (length before)) (whole_in down >>= letter_brought centre account (whole_records before) place) (brought_by before place)
+      ≡ cond (eqb place (length before)) (whole_in down >>= letter_brought centre account (whole_records before) place)
+      (brought_by before place)
   brought-next before down place =
       let records = filter_map-append whole_in before (down ∷ []) in
       let places = whole_places-push 0 before down in
@@ -109,6 +112,7 @@ pub letters-by_places : (state : CentreState) (downs : List DownRecord) → IsOf
 letters-by_places state downs is account =
     let brought = letter_of_place state.centre account in
     (λ i. waiting_letters (brought (is.edits i) (is.places i)) state.removals account (is.applied i))
-    ∙ waiting-arrivals account (brought_by state.centre account downs) (letter_down state.centre account downs) state.removals (length downs)
+    ∙ waiting-arrivals account (brought_by state.centre account downs) (letter_down state.centre account downs)
+    state.removals (length downs)
     (λ place below. ap (λ list. brought_by state.centre account list place) (sym (take-length downs))
     ∙ brought-prefix state.centre account downs (length downs) (omega arith) place below)

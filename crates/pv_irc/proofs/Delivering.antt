@@ -48,7 +48,8 @@ module _ (mail : Boxes) (records : List Record) (is : HaveRoom mail records) (to
 -- ---- at home
 
 -- he whose home is the centre is an account
-pub home_is_account : (records : List Record) (centre account : ℕ) → is_home records centre account ≡ true → has_editor records account ≡ true
+pub home_is_account : (records : List Record) (centre account : ℕ) → is_home records centre account ≡ true
+    → has_editor records account ≡ true
 home_is_account records centre account home = by (account_at records account) home
   where
     by : (found : Option Profile) → is_some (found >>= if_at_home centre) ≡ true → is_some found ≡ true

@@ -81,7 +81,8 @@ module _ (centre : ℕ) (limits : Limits) where
       (others before (records.Removed account number) refl refl counts)
 
   -- and so on to the end of the list
-  on : (before later stored : List CentreRecord) → stored ≡ before ++ later → IsCentreRun centre limits stored → Counts before → Counts stored
+  on : (before later stored : List CentreRecord) → stored ≡ before ++ later → IsCentreRun centre limits stored
+      → Counts before → Counts stored
   on before [] stored is run counts = subst Counts (sym (append-nil before) ∙ sym is) counts
   on before (rec ∷ later) stored is run counts =
       let here = run before later rec is in

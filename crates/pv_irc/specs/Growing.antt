@@ -138,10 +138,12 @@ module _ (centre : ℕ) (limits : Limits) where
       (sym (log_ons-push records (Kept item) ∙ omega arith))
       (sym (removals-push 0 records (Kept item) ∙ same_list (removals_of records)))
   grown records (Removed account number) =
-      same_parts _ _ _ _ _ _ _ _ (sym (filter_map-append applied_in records (Removed account number ∷ []) ∙ same_list (applied_records records)))
+      same_parts _ _ _ _ _ _ _ _
+      (sym (filter_map-append applied_in records (Removed account number ∷ []) ∙ same_list (applied_records records)))
       (sym (filter_map-append kept_in records (Removed account number ∷ []) ∙ same_list (items_of records)))
       (sym (log_ons-push records (Removed account number) ∙ omega arith))
-      (sym (removals-push 0 records (Removed account number) ∙ ap (λ place. removals_of records ++ removal_in place (Removed account number))
+      (sym (removals-push 0 records (Removed account number)
+      ∙ ap (λ place. removals_of records ++ removal_in place (Removed account number))
       (omega arith)))
 
 -- one record more is counted

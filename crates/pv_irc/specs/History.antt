@@ -127,7 +127,7 @@ abbrev pub letter_of_place : ℕ → ℕ → List Record → List ℕ → ℕ �
 letter_of_place centre account edits places place =
     letter_of_record centre account edits place (position_or_len (λ other. place == other) places)
 
--- the same by what came down: the letter that the thing of a place brings
+-- the letter that a place brings, read from what came down: its record, if that came whole
 abbrev pub letter_down : ℕ → ℕ → List DownRecord → ℕ → Option WaitingLetter
 letter_down centre account downs place =
     slice_get downs place >>= whole_in >>= letter_brought centre account (whole_records (take place downs)) place

@@ -3,7 +3,7 @@ use Rattle.std.specs.Prelude.{ℕ, zero, suc, ◌<◌, ◌^◌, ◌==◌, List, 
 use Rattle.std.specs.Int.{w64, to_be_bytes}
 use Rattle.pv_fields.specs.Reading.{Parser, byte_at, number_at, nothing_at, ◌⊗◌, map_at, chain_at, rest_at, whole}
 use Rattle.pv_page.specs.Names.{IsAccount}
-use Rattle.pv_page.specs.Spelling.{account_bytes, account_at}
+use Rattle.pv_page.specs.Spelling.{account_bytes, account_number_at}
 use Rattle.pv_post.specs.Spelling.{IsItem, item_bytes, item_at}
 use Rattle.pv_edits.specs.Record.{record_after}
 use Rattle.pv_edits.specs.Down.{IsDown, down_bytes}
@@ -68,13 +68,13 @@ applied_at = map_at (λ x. Applied x.0 x.1) (number_at w64 ⊗ down_at_end)
 
 -- a Removed
 unfoldable pub removed_at : Parser CentreRecord
-removed_at = map_at (λ x. Removed x.0 x.1) (account_at ⊗ number_at w64)
+removed_at = map_at (λ x. Removed x.0 x.1) (account_number_at ⊗ number_at w64)
 
 -- how the other bytes are read after a tag
 abbrev pub centre_after : ℕ → Parser CentreRecord
 centre_after zero = nothing_at
 centre_after (suc zero) = applied_at
-centre_after (suc (suc zero)) = map_at LogOn account_at
+centre_after (suc (suc zero)) = map_at LogOn account_number_at
 centre_after (suc (suc (suc zero))) = map_at Kept item_at
 centre_after (suc (suc (suc (suc zero)))) = removed_at
 centre_after (suc (suc (suc (suc (suc other))))) = nothing_at

@@ -55,7 +55,8 @@ is_applied None n down rec reply is = (refl, ap (stored_or rec) is)
 is_applied (Some other) n down rec reply is = absurd (subst IsAnswer is tt)
 
 -- what is known of a removal that is stored: its record is stored
-pub is_removed : (waits : Bool) (account number : ℕ) (rec : CentreRecord) (reply : IrcReply) → removed_if waits account number ≡ Store rec reply
+pub is_removed : (waits : Bool) (account number : ℕ) (rec : CentreRecord) (reply : IrcReply)
+    → removed_if waits account number ≡ Store rec reply
     → records.Removed account number ≡ rec
 is_removed true account number rec reply is = ap (stored_or rec) is
 is_removed false account number rec reply is = absurd (subst IsAnswer is tt)
@@ -83,7 +84,8 @@ stored state (LogOn account) rec reply ranges is =
 stored state (Keep item) rec reply ranges is =
     subst (λ r. IsCentreRecord r × (centre_has_room state r ≡ true)) (ap (stored_or rec) is) (ranges, refl)
 stored state (Remove account number) rec reply ranges is =
-    subst (λ r. IsCentreRecord r × (centre_has_room state r ≡ true)) (is_removed (has_letter (letters_for state account) number) account number rec reply is)
+    subst (λ r. IsCentreRecord r × (centre_has_room state r ≡ true))
+    (is_removed (has_letter (letters_for state account) number) account number rec reply is)
     (ranges, refl)
 
 -- ---- what a state stands for

@@ -27,8 +27,8 @@ pub fn centre_records_are_numbered()
         → IsCentreRun centre limits records → applied_places records ≡ first_places (applied_of records) }
 {}
 
-/// The letters that wait for an account at a centre are those that the places of the edit list brought to
-/// it, by what came down, less those that were removed.
+/// The letters that wait for an account at a centre are those that the places of the edit list brought there,
+/// less those that were removed. What a place brought is read from what came down.
 pub fn letters_wait_by_places()
     ensures { (state : CentreState) (downs : List DownRecord) → IsOfDowns state downs → (account : ℕ)
         → letters_for state account ≡ waiting_letters (letter_down state.centre account downs)

@@ -42,6 +42,3 @@ pub use reply::IrcReply;
 pub use request::IrcRequest;
 pub use rules::IrcRules;
 pub use state::IrcState;
-
-#[cfg(test)]
-mod tests;

@@ -1,6 +1,6 @@
 ghost use Rattle.std.specs.Prelude.{◌≡◌, [], IsNone, IfSome};
 ghost use Rattle.pv_fields.specs.Out.{Puts};
-ghost use Rattle.pv_fields.specs.Reading.{Gives, GivesAll, same, whole};
+ghost use Rattle.pv_fields.specs.Reading.{GivesFound, GivesAll, same, whole};
 ghost use Rattle.pv_irc.specs.Record.{IsCentreRecord, centre_bytes, centre_record_at, applied_bytes, applied_at, removed_bytes, removed_at, down_at_end};
 
 use pv_edits::DownRecord;
@@ -98,7 +98,7 @@ fn put_removed(account: AccountNo, number: u64, out: &mut Out) -> Result<(), NoR
 /// Takes the rest of a `Removed`.
 #[tactic(auto, unfolding(crate::specs::Record::removed_at))]
 fn read_removed(bytes: &mut In) -> Result<CentreRecord, NoSpelling>
-    ensures { Gives same result (removed_at bytes.old) bytes.new }
+    ensures { GivesFound same result (removed_at bytes.old) bytes.new }
 {
     let account = AccountNo::read(bytes)?;
     let number = bytes.u64()?;
@@ -108,7 +108,7 @@ fn read_removed(bytes: &mut In) -> Result<CentreRecord, NoSpelling>
 /// Takes the rest of an `Applied`.
 #[tactic(auto, unfolding(crate::specs::Record::applied_at))]
 fn read_applied(bytes: &mut In) -> Result<CentreRecord, NoSpelling>
-    ensures { Gives same result (applied_at bytes.old) bytes.new }
+    ensures { GivesFound same result (applied_at bytes.old) bytes.new }
 {
     let n = bytes.u64()?;
     let rec = read_down(bytes.take_rest())?;
@@ -117,7 +117,7 @@ fn read_applied(bytes: &mut In) -> Result<CentreRecord, NoSpelling>
 
 /// What came down that the bytes spell, all of the bytes.
 fn read_down(bytes: &[u8]) -> Result<DownRecord, NoSpelling>
-    ensures { Gives same result (down_at_end bytes.now) [] }
+    ensures { GivesFound same result (down_at_end bytes.now) [] }
 {
     match DownRecord::decode(bytes) {
         Some(rec) => Ok(rec),

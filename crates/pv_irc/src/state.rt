@@ -52,7 +52,7 @@ impl Model for IrcState {
 }
 
 impl Drop for IrcState {
-    /// Written out, so that who lets go of it has one call to think of and not each part.
+    /// One call frees all parts, so that a proof has one step where such a value ends.
     fn drop(self) {
         let IrcState {
             centre: _,

@@ -9,7 +9,8 @@ use Rattle.pv_irc.proofs.record.CentreRecord.decode.Goals as goal
 -- what is read is spelled by all of the bytes
 pub returns-in-Ok-clause-found : goal.returns-in-Ok-clause-found
 returns-in-Ok-clause-found c =
-    all_found {E = NoSpelling} (λ (rec : CentreRecord). rec) IsCentreRecord centre_bytes centre_record_at Reads-centre c.args.bytes.now (Ok c.in-Ok.rec)
+    all_found {E = NoSpelling} (λ (rec : CentreRecord). rec) IsCentreRecord centre_bytes centre_record_at Reads-centre
+    c.args.bytes.now (Ok c.in-Ok.rec)
     (λ i. omega (arith, c.type_inv.bytes i)) c.in-Ok.ensures
 
 -- bytes that are a spelling are read
