@@ -52,7 +52,7 @@ pub enum FrameChange {
 }
 
 /// Makes a change. A ninth field is not added.
-pub(crate) fn make_change(frame: &mut Frame, change: &FrameChange)
+pub fn make_change(frame: &mut Frame, change: &FrameChange)
     ensures { frame.new ≡ changed_frame change.now frame.old }
 {
     match change {
@@ -86,7 +86,7 @@ fn set_route(frame: &mut Frame, digit: RouteDigit, page: Option<PageNo>)
 }
 
 /// Whether the frame has as many fields as a frame may have.
-pub(crate) fn has_all_fields(frame: &Frame) -> bool
+pub fn has_all_fields(frame: &Frame) -> bool
     ensures { result ≡ has_all_fields frame.now }
 {
     FIELDS <= frame.fields().len()

@@ -40,10 +40,10 @@ mod step;
 mod text;
 mod word;
 
-pub use change::FrameChange;
+pub use change::{FrameChange, has_all_fields, make_change};
 pub use digit::RouteDigit;
 pub use line::EditLine;
-pub use parts::AccountText;
+pub use parts::{AccountText, NameText, PasswordText};
 pub use reading::{LONGEST_LINE, line_of};
 pub use replies::{UdcReplyView, closing_text, reply_text};
 pub use responses::responses_text;
@@ -52,6 +52,3 @@ pub use seat::{EditorSeat, Working};
 pub use step::EditStep;
 pub use text::{ROOM, Text};
 pub use word::{ChangeWord, Word};
-
-#[cfg(test)]
-mod tests;

@@ -24,8 +24,8 @@ impl<'a> Reader<'a> for AccountText {
 }
 
 /// The part that is the name of a frame.
-#[derive(Clone, Copy)]
-pub(crate) struct NameText;
+#[derive(Clone, Copy, Debug)]
+pub struct NameText;
 
 impl<'a> Reader<'a> for NameText {
     type Value = FrameName;
@@ -52,8 +52,8 @@ impl<'a> Reader<'a> for PageText {
 }
 
 /// The part that is a password.
-#[derive(Clone, Copy)]
-pub(crate) struct PasswordText;
+#[derive(Clone, Copy, Debug)]
+pub struct PasswordText;
 
 impl<'a> Reader<'a> for PasswordText {
     type Value = [u8; PASSWORD_BYTES];

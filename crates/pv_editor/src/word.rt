@@ -1,5 +1,5 @@
 ghost use Rattle.std.specs.Prelude.{◌≡◌};
-ghost use Rattle.pv_editor.specs.Words.{word_of_line};
+ghost use Rattle.pv_editor.specs.Words.{word_of_line, numbered_word_of_text, change_word_of_text};
 
 /// The first word of an editor's line.
 #[derive(Clone, Copy, Debug, PartialEq, Eq)]
@@ -57,21 +57,22 @@ pub(crate) fn word_of(text: &[u8]) -> Option<Word>
         Some(Word::New)
     } else if text == b"OPEN".as_slice() {
         Some(Word::Open)
-    } else if text == b"TITLE".as_slice() {
-        Some(Word::Change(ChangeWord::Title))
-    } else if text == b"ROW".as_slice() {
-        Some(Word::Change(ChangeWord::Row))
-    } else if text == b"KIND".as_slice() {
-        Some(Word::Change(ChangeWord::Kind))
-    } else if text == b"ROUTE".as_slice() {
-        Some(Word::Change(ChangeWord::Route))
-    } else if text == b"PRICE".as_slice() {
-        Some(Word::Change(ChangeWord::Price))
-    } else if text == b"GROUP".as_slice() {
-        Some(Word::Change(ChangeWord::Group))
-    } else if text == b"FIELD".as_slice() {
-        Some(Word::Change(ChangeWord::Field))
-    } else if text == b"STORE".as_slice() {
+    } else if text == b"LAST".as_slice() {
+        Some(Word::Last)
+    } else if text == b"RESPONSES".as_slice() {
+        Some(Word::Responses)
+    } else if text == b"QUIT".as_slice() {
+        Some(Word::Quit)
+    } else {
+        numbered_word_of(text)
+    }
+}
+
+/// The word of a numbered edit that a text is, or a word of a change.
+fn numbered_word_of(text: &[u8]) -> Option<Word>
+    ensures { result ≡ numbered_word_of_text text.now }
+{
+    if text == b"STORE".as_slice() {
         Some(Word::Store)
     } else if text == b"DROP".as_slice() {
         Some(Word::Drop)
@@ -79,12 +80,32 @@ pub(crate) fn word_of(text: &[u8]) -> Option<Word>
         Some(Word::Lease)
     } else if text == b"ACCOUNT".as_slice() {
         Some(Word::Account)
-    } else if text == b"LAST".as_slice() {
-        Some(Word::Last)
-    } else if text == b"RESPONSES".as_slice() {
-        Some(Word::Responses)
-    } else if text == b"QUIT".as_slice() {
-        Some(Word::Quit)
+    } else {
+        match change_word_of(text) {
+            Some(word) => Some(Word::Change(word)),
+            None => None,
+        }
+    }
+}
+
+/// The word of a change of the working frame that a text is. `None` exactly when it is none of them.
+fn change_word_of(text: &[u8]) -> Option<ChangeWord>
+    ensures { result ≡ change_word_of_text text.now }
+{
+    if text == b"TITLE".as_slice() {
+        Some(ChangeWord::Title)
+    } else if text == b"ROW".as_slice() {
+        Some(ChangeWord::Row)
+    } else if text == b"KIND".as_slice() {
+        Some(ChangeWord::Kind)
+    } else if text == b"ROUTE".as_slice() {
+        Some(ChangeWord::Route)
+    } else if text == b"PRICE".as_slice() {
+        Some(ChangeWord::Price)
+    } else if text == b"GROUP".as_slice() {
+        Some(ChangeWord::Group)
+    } else if text == b"FIELD".as_slice() {
+        Some(ChangeWord::Field)
     } else {
         None
     }
