@@ -4,12 +4,16 @@ use Rattle.pv_edits.specs.Down.{down_bytes}
 use Rattle.pv_edits.specs.declared.down.DownRecord.TheVariants.{Blank}
 use Rattle.pv_packet.specs.Packet.{packet_bytes, head_error}
 use Rattle.pv_packet.specs.declared.error.PacketError.TheVariants.{Short, Kind, Body, Trailing}
-use Rattle.pv_packet.specs.declared.head.TheConstants.{HEAD_BYTES}
+use Rattle.pv_packet.specs.declared.head.TheConstants.{HEAD_BYTES, PACKET_BYTES}
 use Rattle.pv_packet.specs.declared.packet.Packet.TheVariants.{Down, DownHeard, UpHeard}
 
 -- a head has ten bytes
 pub ten_bytes : HEAD_BYTES ≡ 10
 ten_bytes = refl
+
+-- a packet has at most 1,010 bytes
+pub longest_packet : PACKET_BYTES ≡ 1010
+longest_packet = refl
 
 -- the head of number 2, of a kind and a centre
 abbrev head : ℕ → ℕ → List ℕ

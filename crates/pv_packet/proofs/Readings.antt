@@ -1,4 +1,4 @@
--- A packet's spelling is read as the packet, and has at most so many bytes.
+-- A packet's spelling is read as the packet, and has a greatest length in bytes.
 use Rattle.std.proofs.Common.{◌≡◌, ℕ, ◌≤◌, ◌<◌, ◌^◌, false, eqb, List, [], ◌∷◌, ◌++◌, length, Some, refl, sym, ap, ◌∙◌, lit<, arith, append-nil}
 use Rattle.std.specs.Int.{w64, to_be_bytes}
 use Rattle.pv_fields.specs.Reading.{whole}

@@ -27,6 +27,3 @@ pub use error::PacketError;
 pub use head::{HEAD_BYTES, LAST_KIND, PACKET_BYTES};
 pub use law::{a_packet_is_read_as_it_is_spelled, no_packet_begins_another};
 pub use packet::Packet;
-
-#[cfg(test)]
-mod tests;

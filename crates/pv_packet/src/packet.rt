@@ -52,7 +52,8 @@ pub enum Packet {
 }
 
 impl Packet {
-    /// The packet's parts are within their ranges, by their types, if its centre is. This does nothing.
+    /// The packet's parts are within their ranges, by their types, if its centre is. A call states this
+    /// and has no effect.
     pub fn within(&self)
         ensures { IsCentre (centre_of self.now) → IsPacket self.now }
     {
