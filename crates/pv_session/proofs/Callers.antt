@@ -27,7 +27,7 @@ use Rattle.pv_session.specs.declared.step.Step.{Step}
 use Rattle.pv_session.specs.declared.step.Why.TheVariants as whys
 use Rattle.pv_session.specs.declared.step.Wish.{Wish}
 use Rattle.pv_session.specs.declared.step.Wish.TheVariants as wishes
-use Rattle.pv_session.specs.Callers.{has_logged_on, sender_of, IsOwnCharge, IsOwn, IsCall}
+use Rattle.pv_session.specs.Callers.{has_logged_on, sender_of, IsOwnCharge, IsOwn, IsCallState}
 use Rattle.pv_session.specs.Calls.{CallEvent, Keyed, Stored, Refused, Happens, serial_after, lines_after, IsSameCaller}
 use Rattle.pv_session.specs.Charging.{charge_of}
 use Rattle.pv_session.specs.Entries.{Mode, AccountMode, PasswordMode, BrowseMode, FillMode, QuestionMode, LetterMode, leaves_mode, IsEntry}
@@ -41,11 +41,11 @@ use Rattle.pv_session.proofs.EachTurn.{by_test, command_holds}
 
 -- a call after an event is one, with the same caller
 record Stays (call : CallState) (event : CallEvent) (after : CallState) : Type 0 where
-  is : IsCall after
+  is : IsCallState after
   same : IsSameCaller call event after
 
 -- a call that begins
-pub new_is : IsCall new_call
+pub new_is : IsCallState new_call
 new_is = record { serial = refl; account = λ has. absurd cc; lines = λ none. refl; owed = tt }
 
 -- no serial is there
@@ -63,7 +63,7 @@ record IsFree (call other : CallState) : Type 0 where
   mode : has_logged_on other.mode ≡ has_logged_on call.mode
   free : wish_in other.phase ≡ None
 
-free_is : (call other : CallState) → IsCall call → IsFree call other → IsCall other
+free_is : (call other : CallState) → IsCallState call → IsFree call other → IsCallState other
 free_is call other is like = record {
   serial = ap is_some like.serial ∙ is.serial ∙ sym like.mode;
   account = λ has. subst IsSome (sym like.account) (is.account (subst IsSome like.serial has));
@@ -220,7 +220,7 @@ charge_parts (Some serial) (Some account) number price moment name charge is =
 
 -- ---- a byte
 
-module _ (call : CallState) (is : IsCall call) (byte : ℕ) (view : View) (moment : ℕ) where
+module _ (call : CallState) (is : IsCallState call) (byte : ℕ) (view : View) (moment : ℕ) where
   -- a turn leaves the caller who he is
   abbrev Holds : CallState × Step → Type 0
   Holds turn = Stays call (Keyed byte view moment) turn.0
@@ -440,12 +440,12 @@ module _ (call : CallState) (is : IsCall call) (byte : ℕ) (view : View) (momen
 
 -- what an event makes of a call whose phase is this leaves its caller who he is
 record StaysIn (call : CallState) (event : CallEvent) (phase : Phase) (after : CallState) : Type 0 where
-  is : IsCall after
+  is : IsCallState after
   serial : after.serial ≡ serial_after event phase call.serial
   lines : after.lines ≡ lines_after event phase call.lines
   account : IsSome after.serial → after.account ≡ call.account
 
-module _ (call : CallState) (is : IsCall call) where
+module _ (call : CallState) (is : IsCallState call) where
   -- the frame that was kept aside is shown, since its charge is stored
   charged_stays : (charge : Charge) → IsOwnCharge call charge
       → StaysIn call (Stored replies.Stored) (phases.Owing (wishes.Charge charge)) (charged_turn call call.aside).0
@@ -532,16 +532,17 @@ stays_in call made after event stays after_is = subst (Stays call event) (sym af
   same = record { serial = stays.serial; lines = stays.lines; account = stays.account };
 })
 
-event_stays : (call after : CallState) (event : CallEvent) (step : Step) → IsCall call → Happens call event after step
+event_stays : (call after : CallState) (event : CallEvent) (step : Step) → IsCallState call → Happens call event after step
     → Stays call event after
 event_stays call after (Keyed byte view moment) step is happens = turns_stay call is byte view moment call.phase after step refl happens
 event_stays call after (Stored reply) step is happens =
     stays_in call _ after (Stored reply) (reply_stays call is call.phase reply is.owed) happens.after_is
 event_stays call after Refused step is happens = stays_in call _ after Refused (full_stays call is call.phase) happens.after_is
 
-pub call_lasts : (call after : CallState) (event : CallEvent) (step : Step) → IsCall call → Happens call event after step → IsCall after
+pub call_lasts : (call after : CallState) (event : CallEvent) (step : Step) → IsCallState call → Happens call event after step
+    → IsCallState after
 call_lasts call after event step is happens = (event_stays call after event step is happens).is
 
-pub same_caller : (call after : CallState) (event : CallEvent) (step : Step) → IsCall call → Happens call event after step
+pub same_caller : (call after : CallState) (event : CallEvent) (step : Step) → IsCallState call → Happens call event after step
     → IsSameCaller call event after
 same_caller call after event step is happens = (event_stays call after event step is happens).same

@@ -45,7 +45,7 @@ IsOwn call (wishes.Post item) = IsSome call.serial × IsSome call.account × (ca
 IsOwn call (wishes.Remove account number) = IsSome call.serial × (call.account ≡ Some account)
 
 -- what always holds of a call
-pub record IsCall (call : CallState) : Type 0 where
+pub record IsCallState (call : CallState) : Type 0 where
   -- it has a serial exactly when its caller has logged on, and then it has his account
   pub serial : is_some call.serial ≡ has_logged_on call.mode
   pub account : IsSome call.serial → IsSome call.account

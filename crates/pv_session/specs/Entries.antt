@@ -70,7 +70,7 @@ leaves_mode (LetterMode number) byte = not (byte == key_1)
 -- ---- the entries
 
 -- a field may be left with this text: it takes each byte and has a cell for each, and it is full if it must be
-pub record IsFieldText (field : Field) (full : Bool) (text : List ℕ) : Type 0 where
+pub record FillsField (field : Field) (full : Bool) (text : List ℕ) : Type 0 where
   pub bytes : list_all (takes_byte field.kind) text ≡ true
   pub fits : length text ≤ field.length
   pub filled : IsTrue full → length text ≡ field.length
@@ -80,7 +80,7 @@ abbrev pub IsEntry : Mode → List ℕ → Entry → Type 0
 IsEntry AccountMode keys (entries.Account account) = IsAccount account × (keys ≡ account_text account)
 IsEntry PasswordMode keys (entries.Password password) = (length keys ≡ PASSWORD_BYTES) × (keys ≡ password)
 IsEntry BrowseMode keys (entries.Command command) = IsSpelling keys command
-IsEntry (FillMode field full) keys (entries.Field text) = IsFieldText field full text × (keys ≡ text ++ hash ∷ [])
+IsEntry (FillMode field full) keys (entries.Field text) = FillsField field full text × (keys ≡ text ++ hash ∷ [])
 IsEntry QuestionMode keys entries.Send = keys ≡ key_1 ∷ []
 IsEntry QuestionMode keys entries.Keep = keys ≡ key_2 ∷ []
 IsEntry (LetterMode number) keys (entries.Delete other) = (keys ≡ key_1 ∷ []) × (other ≡ number)

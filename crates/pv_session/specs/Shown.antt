@@ -34,7 +34,7 @@ is_letter_form Information = false
 is_letter_form Response = false
 is_letter_form Mail = true
 
--- the mode in which the field at an index of a frame is filled, if there is one: the first of a letter must be full
+-- the mode in which the field at an index of a frame is filled, if the frame has one there: the first of a letter must be full
 abbrev pub field_mode : Content → ℕ → Option Mode
 field_mode frame index =
     option_map (λ field. FillMode field (is_letter_form frame.kind && index == 0)) (slice_get frame.fields index)

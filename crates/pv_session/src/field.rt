@@ -5,7 +5,7 @@ ghost use Rattle.pv_post.specs.declared.filled.TheConstants.{FILLED_BYTES};
 ghost use Rattle.pv_words.specs.Parts.{Exactly};
 ghost use Rattle.pv_session.specs.declared.entry.Entry.TheVariants as entries;
 ghost use Rattle.pv_session.specs.Gathering.{IsFieldReading};
-ghost use Rattle.pv_session.specs.Entries.{takes_byte, key_if, field_keys, kept_keys, keys_left, IsFieldText, FillMode};
+ghost use Rattle.pv_session.specs.Entries.{takes_byte, key_if, field_keys, kept_keys, keys_left, FillsField, FillMode};
 
 use pv_frame::{Field, FieldKind};
 use pv_post::{Filled, is_field_byte};
@@ -49,7 +49,7 @@ impl FieldReader {
     /// Takes a byte, and returns what was keyed at the key `#`. Then nothing is kept. A field that
     /// must be full and is not takes no such key, and none takes more bytes than it has cells.
     pub(crate) fn take(&mut self, byte: u8) -> Option<Filled>
-        ensures text { Exactly (λ text. IsFieldText self.old.field self.old.full text
+        ensures text { Exactly (λ text. FillsField self.old.field self.old.full text
             × (self.old.keyed ++ field_keys self.old.field.kind byte ≡ text ++ hash ∷ [])) result }
         ensures field { self.new.field ≡ self.old.field }
         ensures full { self.new.full ≡ self.old.full }
@@ -90,7 +90,7 @@ impl FieldReader {
     /// Returns what was keyed, and keeps nothing. A field that must be full and is not is kept as
     /// it is.
     fn end(&mut self) -> Option<Filled>
-        ensures text { Exactly (λ text. IsFieldText self.old.field self.old.full text
+        ensures text { Exactly (λ text. FillsField self.old.field self.old.full text
             × (self.old.keyed ≡ text)) result }
         ensures field { self.new.field ≡ self.old.field }
         ensures full { self.new.full ≡ self.old.full }

@@ -1,7 +1,7 @@
 ghost use Rattle.std.specs.Prelude.{◌≡◌, ℕ, List, ◌++◌, map, flat_map, Option};
 ghost use Rattle.pv_edits.specs.Sight.{View};
 ghost use Rattle.pv_session.specs.declared.step.Step.{Step};
-ghost use Rattle.pv_session.specs.Callers.{IsCall};
+ghost use Rattle.pv_session.specs.Callers.{IsCallState};
 ghost use Rattle.pv_session.specs.State.{CallState, new_call};
 ghost use Rattle.pv_session.specs.Turns.{IsTurn};
 ghost use Rattle.pv_session.specs.Calls.{CallEvent, Happens, AreSteps, AreStepsOfLike, AreWaiting, IsSameCaller};
@@ -59,9 +59,9 @@ pub fn moments_and_serials_change_no_screen()
 /// its account, and is for the frame that is kept aside.
 #[tactic(auto, using(crate::proofs::Callers::new_is, crate::proofs::Callers::call_lasts))]
 pub fn a_call_owes_what_is_its_own()
-    ensures begins { IsCall new_call }
+    ensures begins { IsCallState new_call }
     ensures lasts { (call after : CallState) (event : CallEvent) (step : Step) →
-        IsCall call → Happens call event after step → IsCall after }
+        IsCallState call → Happens call event after step → IsCallState after }
 {}
 
 /// A law: a caller stays who he is. The serial of his call and its line number change at a reply to
@@ -69,5 +69,5 @@ pub fn a_call_owes_what_is_its_own()
 #[tactic(auto, using(crate::proofs::Callers::same_caller))]
 pub fn a_caller_stays_who_he_is()
     ensures { (call after : CallState) (event : CallEvent) (step : Step) →
-        IsCall call → Happens call event after step → IsSameCaller call event after }
+        IsCallState call → Happens call event after step → IsSameCaller call event after }
 {}

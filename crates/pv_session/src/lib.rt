@@ -50,6 +50,3 @@ pub use law::{
 pub use message::Message;
 pub use seat::{MAX_BYTES, MAX_ENTRIES, Seat, TRIES};
 pub use step::{Paid, Phase, Step, Why, Wish};
-
-#[cfg(test)]
-mod tests;

@@ -65,7 +65,7 @@ pub enum Phase {
 }
 
 impl Wish {
-    /// Its parts are within their ranges, by their types. This does nothing.
+    /// Its parts are within their ranges, by their types. A call states this and has no effect.
     pub fn within(&self)
         ensures { IsSeatWish self.now }
     {
@@ -83,7 +83,7 @@ impl Wish {
 }
 
 impl Step {
-    /// What is owed can be stored, by its type. This does nothing.
+    /// What is owed can be stored, by its type. A call states this and has no effect.
     pub(crate) fn within(&self)
         ensures { IsStorable self.now }
     {
