@@ -19,6 +19,8 @@ module _ {D : Type 0} (g : reports.Ghosts D) where
     pub spent : IsSpent (g.budget old) → IsErr result
     pub counted : g.faults old ≤ g.faults new
     pub failed : IsErr result → Rose (g.faults old) (g.faults new)
+    -- a call that succeeds has met no failure on its way, as that of a sync that was tried again
+    pub steady : IsOk result → g.faults new ≡ g.faults old
 
   -- A call that writes nothing, and is paid for in this way: the disk reads as before, and a crash may leave no further image.
   pub record WritesNothing {T E : Type 0} (pay : Budget → Budget) (old new : D) (result : Result T E) : Type 0 where

@@ -1,7 +1,8 @@
-ghost use Rattle.std.specs.Prelude.{◌≡◌, ◌<◌, ℕ, List, [], ◌∷◌, ◌++◌, Option, IfOk};
+ghost use Rattle.std.specs.Prelude.{◌≡◌, ◌<◌, ◌≤◌, ℕ, List, [], ◌∷◌, ◌++◌, length, min, Option, IfOk, IfSome};
 ghost use Rattle.std.specs.Option.{option_map};
 ghost use Rattle.pv_outside.specs.Counts.{CountsFaults, successes_after, one_more};
 ghost use Rattle.pv_outside.specs.Line.{IsUnused};
+ghost use Rattle.pv_outside.specs.declared.failed.TheConstants.{COUNT_END};
 
 use crate::failed::Failed;
 use crate::line::Line;
@@ -9,8 +10,8 @@ use crate::line::Line;
 /// A door, where lines come in one after another. A line that was accepted is given back when it is done
 /// with.
 pub trait Door {
-    /// The lines that come in.
-    type Line: Line;
+    /// The lines that come in. A line that is dropped is never given back.
+    type Line: Line + Drop;
 
     /// How often an accept has failed.
     ghost faults: { Self → ℕ };
@@ -44,4 +45,11 @@ pub trait Door {
         // No line is accepted by this.
         ensures accepted { accepted self.new ≡ accepted self.old }
         ensures faults { faults self.new ≡ faults self.old };
+
+    /// No more lines were given back than it has accepted.
+    ghost order: { (door : Self) → finished door ≤ accepted door };
+
+    /// If it reports the lines that were given back, they are as many as its count says.
+    ghost counted: { (door : Self)
+        → IfSome (lines door) (λ back. finished door ≡ min (length back) COUNT_END) };
 }

@@ -96,6 +96,8 @@ impl Link for Hole {
 
     ghost may_hold = { λ _ _. ⊥ };
 
+    ghost holds_its_packets = { λ _ _. tt };
+
     fn give(&mut self, _packet: &[u8]) -> Result<(), Failed> {
         self.given = self.given.saturating_add(1);
         Ok(())
