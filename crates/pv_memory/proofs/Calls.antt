@@ -25,6 +25,7 @@ module _ {T : Type 0} (m new : Medium) (value : T) (can : can_pass m ≡ true) (
       spent = search rules;
       counted = search rules;
       failed = search rules;
+      steady = search rules;
     };
     reads = refl;
     images = λ image left. left;
@@ -41,6 +42,7 @@ module _ {T : Type 0} (m new : Medium) (value : T) (can : can_pass m ≡ true) (
       spent = search rules;
       counted = search rules;
       failed = search rules;
+      steady = search rules;
     };
     reads = refl;
     images = search rules;
@@ -62,6 +64,7 @@ module _ {T : Type 0} (m new : Medium) (value : T) (can : can_pass m ≡ true) (
         spent = search rules;
         counted = search rules;
         failed = search rules;
+        steady = search rules;
       };
       written = refl;
       torn = search rules;

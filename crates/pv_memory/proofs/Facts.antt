@@ -1,6 +1,11 @@
--- Worked examples of the images of a disk, computed from the definitions.
+-- Worked examples of the images of a disk and of what a pipe holds, computed from the definitions.
 use Rattle.std.proofs.Common.{◌≡◌, ℕ, List, [], ◌∷◌, ◌++◌, codes, refl}
 use Rattle.pv_memory.specs.Medium.{image_bytes}
+use Rattle.pv_memory.specs.declared.pipe.TheConstants.{PIPE_PACKETS}
+
+-- a pipe holds 64 packets
+pub packets_held : PIPE_PACKETS ≡ 64
+packets_held = refl
 
 -- the image of this number of a disk on which a byte 1 at place 8 was written over a 0
 abbrev image : ℕ → List ℕ

@@ -1,8 +1,10 @@
-ghost use Rattle.std.specs.Prelude.{◌≡◌, ◌≤◌, ◌<◌, [], ◌∷◌, ◌++◌, length, All, Some, IfOk, OnOk, OnErr, is_err};
+ghost use Rattle.std.specs.Prelude.{◌≡◌, ◌≤◌, ◌<◌, [], ◌∷◌, ◌++◌, All, Some, IfOk, OnOk, OnErr, is_err};
+ghost use Rattle.std.specs.Prelude.{refl};
+ghost use Rattle.std.proofs.Common.{arith};
 ghost use Rattle.std.specs.Option.{option_map};
 ghost use Rattle.pv_outside.specs.Counts.{CountsFaults, successes_after, one_more};
 ghost use Rattle.pv_outside.specs.Line.{IsUnused};
-ghost use Rattle.pv_memory.specs.Doors.{IsNewLine, is_shut, door_after_accept, door_after_failure, door_after_finish};
+ghost use Rattle.pv_memory.specs.Doors.{IsNewLine, is_shut, finished_of, accepted_of, door_after_accept, door_after_failure, door_after_finish};
 
 use crate::faults::Faults;
 use crate::line::MemLine;
@@ -22,7 +24,7 @@ pub struct MemDoor {
 }
 
 impl Model for MemDoor {
-    ghost use Rattle.std.specs.Prelude.{◌≤◌, ◌+◌, All, length, vec_len, vec_capacity};
+    ghost use Rattle.std.specs.Prelude.{◌≤◌, ◌+◌, ◌-◌, All, length, vec_len, vec_capacity};
     ghost use Rattle.std.specs.Vec.Iter.{into_iter_items};
     ghost use Rattle.pv_memory.specs.Doors.{DoorState, IsNewLine};
 
@@ -31,11 +33,12 @@ impl Model for MemDoor {
     ghost view = { λ d. record {
       waiting = into_iter_items d.waiting;
       finished = d.finished.items;
-      accepted = d.accepted;
+      out = d.accepted - length d.finished.items;
       plan = d.faults;
     } };
 
     ghost invariant = { λ d. All IsNewLine (into_iter_items d.waiting)
+        × (vec_len d.finished ≤ d.accepted)
         × (d.accepted + length (into_iter_items d.waiting) ≤ vec_capacity d.finished) };
 }
 
@@ -48,7 +51,7 @@ impl MemDoor {
             ≡ record {
               waiting = lines.items;
               finished = [];
-              accepted = 0;
+              out = 0;
               plan = record {
                 call = 0;
                 failing = fails.now;
@@ -77,19 +80,23 @@ impl Door for MemDoor {
 
     ghost faults = { λ d. d.plan.faults };
 
-    ghost accepted = { λ d. d.accepted };
+    ghost accepted = { accepted_of };
 
-    ghost finished = { λ d. length d.finished };
+    ghost finished = { finished_of };
 
     ghost lines = { λ d. Some d.finished };
 
+    ghost order = { λ _. omega arith };
+
+    ghost counted = { λ _. refl };
+
     fn accept(&mut self) -> Result<MemLine, Failed>
         ensures account { CountsFaults self.old.plan.faults self.new.plan.faults result }
-        ensures accepted { self.new.accepted ≡ successes_after result self.old.accepted }
+        ensures accepted { accepted_of self.new ≡ successes_after result (accepted_of self.old) }
         ensures unused { IfOk result IsNewLine }
 
         // No line is given back by this.
-        ensures finished { length self.new.finished ≡ length self.old.finished }
+        ensures finished { finished_of self.new ≡ finished_of self.old }
         ensures lines { Some self.new.finished ≡ Some self.old.finished }
 
         // It returns the first line that waits, and fails exactly if it is named to or none is left.
@@ -114,13 +121,13 @@ impl Door for MemDoor {
     }
 
     fn finish(&mut self, line: MemLine)
-        requires { length self.old.finished < self.old.accepted }
-        ensures finished { length self.new.finished ≡ one_more (length self.old.finished) }
+        requires { finished_of self.old < accepted_of self.old }
+        ensures finished { finished_of self.new ≡ one_more (finished_of self.old) }
         ensures lines { Some self.new.finished
             ≡ option_map (λ before. before ++ line ∷ []) (Some self.old.finished) }
 
         // No line is accepted by this.
-        ensures accepted { self.new.accepted ≡ self.old.accepted }
+        ensures accepted { accepted_of self.new ≡ accepted_of self.old }
         ensures faults { self.new.plan.faults ≡ self.old.plan.faults }
         ensures exact { self.new ≡ door_after_finish line self.old }
     {

@@ -1,6 +1,6 @@
 ghost use Rattle.std.specs.Prelude.{◌≡◌, ◌||◌, ◌≤◌, ◌<◌, Some, IfOk, IsErr, OnErr, is_err, length, drop};
 ghost use Rattle.std.specs.Io.KnownBytes.{IsAtEnd};
-ghost use Rattle.pv_outside.specs.Counts.{Rose};
+ghost use Rattle.pv_outside.specs.Counts.{Rose, successes_after};
 ghost use Rattle.pv_outside.specs.Sink.{Writes};
 ghost use Rattle.pv_outside.specs.Source.{MarksEnd, Takes, Leaves};
 ghost use Rattle.pv_memory.specs.Faults.{fails_now};
@@ -72,8 +72,11 @@ impl Sink for MemLine {
 
     ghost written = { λ l. Some l.sink.bytes };
 
+    ghost writes = { λ l. l.sink.writes };
+
     fn write_all(&mut self, bytes: &[u8]) -> Result<(), Failed>
         ensures written { Writes (Some self.old.sink.bytes) (Some self.new.sink.bytes) result bytes.now }
+        ensures writes { self.new.sink.writes ≡ successes_after result self.old.sink.writes }
         ensures counted { self.old.sink.plan.faults ≤ self.new.sink.plan.faults }
         ensures failed { IsErr result → Rose self.old.sink.plan.faults self.new.sink.plan.faults }
 
@@ -86,4 +89,12 @@ impl Sink for MemLine {
     }
 }
 
-impl Line for MemLine {}
+impl Line for MemLine {
+    fn hear(&mut self, into: &mut [u8]) -> Result<usize, Failed> {
+        self.read(into)
+    }
+
+    fn say(&mut self, bytes: &[u8]) -> Result<(), Failed> {
+        self.write_all(bytes)
+    }
+}

@@ -115,6 +115,8 @@ impl Link for Pipe {
 
     ghost may_hold = { λ p. Contains p.packets };
 
+    ghost holds_its_packets = { λ _ _. (λ held. held, λ held. held) };
+
     fn give(&mut self, packet: &[u8]) -> Result<(), Failed>
         requires { length packet.now ≤ MAX_PACKET }
         ensures account { CountsFaults self.old.plan.faults self.new.plan.faults result }

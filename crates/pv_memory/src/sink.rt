@@ -1,5 +1,5 @@
 ghost use Rattle.std.specs.Prelude.{◌≡◌, ◌≤◌, ◌||◌, [], Option, Some, IfOk, IsErr, is_err};
-ghost use Rattle.pv_outside.specs.Counts.{Rose};
+ghost use Rattle.pv_outside.specs.Counts.{Rose, successes_after};
 ghost use Rattle.pv_outside.specs.Sink.{Writes};
 ghost use Rattle.pv_memory.specs.Faults.{fails_now};
 ghost use Rattle.pv_memory.specs.Streams.{is_past_room, sink_after_write};
@@ -14,6 +14,7 @@ use std::marker::Model;
 pub struct MemSink {
     bytes: Vec<u8>,
     room: usize,
+    writes: u64,
     faults: Faults,
 }
 
@@ -23,7 +24,12 @@ impl Model for MemSink {
 
     ghost Value = { SinkState };
 
-    ghost view = { λ s. record { bytes = s.bytes.items; room = s.room; plan = s.faults } };
+    ghost view = { λ s. record {
+      bytes = s.bytes.items;
+      room = s.room;
+      writes = s.writes;
+      plan = s.faults;
+    } };
 
     ghost invariant = { λ s. (vec_len s.bytes ≤ s.room) × (s.room ≤ vec_capacity s.bytes) };
 }
@@ -36,6 +42,7 @@ impl MemSink {
             ≡ record {
               bytes = [];
               room = room;
+              writes = 0;
               plan = record {
                 call = 0;
                 failing = fails.now;
@@ -46,6 +53,7 @@ impl MemSink {
         Ok(MemSink {
             bytes: Vec::with_capacity(alloc, room)?,
             room,
+            writes: 0,
             faults: Faults::new(alloc, fails)?,
         })
     }
@@ -63,8 +71,11 @@ impl Sink for MemSink {
 
     ghost written = { λ s. Some s.bytes };
 
+    ghost writes = { λ s. s.writes };
+
     fn write_all(&mut self, bytes: &[u8]) -> Result<(), Failed>
         ensures written { Writes (Some self.old.bytes) (Some self.new.bytes) result bytes.now }
+        ensures writes { self.new.writes ≡ successes_after result self.old.writes }
         ensures counted { self.old.plan.faults ≤ self.new.plan.faults }
         ensures failed { IsErr result → Rose self.old.plan.faults self.new.plan.faults }
 
@@ -80,6 +91,7 @@ impl Sink for MemSink {
             return Err(Failed);
         }
         self.bytes.extend_from_slice(bytes).unwrap();
+        self.writes = self.writes.saturating_add(1);
         Ok(())
     }
 }

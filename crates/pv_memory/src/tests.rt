@@ -117,7 +117,7 @@ fn line_of(alloc: Global, keys: &[u8]) -> Result<MemLine, AllocError>
 
 /// A door at which two lines come in, and whose second accept fails.
 fn door_of_two(alloc: Global) -> Result<MemDoor, AllocError>
-    ensures { IfOk result (λ d. (d.accepted ≡ 0) × (d.finished ≡ [])) }
+    ensures { IfOk result (λ d. (d.out ≡ 0) × (d.finished ≡ [])) }
 {
     let mut lines = Vec::with_capacity(alloc, 2)?;
     lines.push(line_of(alloc, b"ab")?).unwrap();

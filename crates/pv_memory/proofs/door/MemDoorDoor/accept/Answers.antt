@@ -11,4 +11,4 @@ invariant_of-self-in-Some c =
     let items : into_iter_items c.self.inside.waiting ≡ c.in-Some.line ∷ into_iter_items c.next.new.self = search rules in
     let all = subst (λ (l : List MemLine). All IsNewLine l) items c.self.invariant.0 in
     let count = ap length items in
-    ((λ k d h. all (suc k) d (omega (arith, h))), omega (arith, count, c.self.invariant.1))
+    ((λ k d h. all (suc k) d (omega (arith, h))), omega (arith, c.self.invariant.1), omega (arith, count, c.self.invariant.2))
