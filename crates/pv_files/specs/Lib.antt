@@ -1,3 +1,5 @@
+pub mod Coming
 pub mod Doors
+pub mod Moment
 pub mod Output
 pub mod Piece

@@ -1,5 +1,6 @@
 -- Standard output: a writer with a buffer before it, and how far what was written has come.
-use Rattle.std.specs.Prelude.{ℕ, List, Option}
+use Rattle.std.specs.Prelude.{ℕ, List, take, Option, Result, MatchResult}
+use Rattle.std.specs.Io.KnownBytes.{Appends}
 use Rattle.std.specs.Io.Buffered.{writer_inner, writer_buffer, writer_contents}
 use Rattle.pv_files.specs.declared.standard.StandardOutput.{StandardOutput}
 
@@ -14,3 +15,7 @@ flushed_bytes contents out = contents (writer_inner out.writer)
 -- the bytes that are still in the buffer
 abbrev pub buffered_bytes : {W : Type 0} → StandardOutput W → List ℕ
 buffered_bytes out = writer_buffer out.writer
+
+-- all bytes were written; an error has written a prefix of them, perhaps none or all
+abbrev pub WritesWhole : {T E : Type 0} → Option (List ℕ) → Option (List ℕ) → Result T E → List ℕ → Type 0
+WritesWhole before now answer bytes = MatchResult answer (λ _. Appends before now bytes) (λ _. (n : ℕ) × Appends before now (take n bytes))

@@ -65,14 +65,15 @@ impl Ahead {
         true
     }
 
-    /// Reads a piece from this place of the file on.
-    pub(crate) fn fill<F: FileExt>(&mut self, file: &F, at: u64) -> io::Result<()>
+    /// Reads a piece from this place of the file on, and returns how many bytes the system gave.
+    pub(crate) fn fill<F: FileExt>(&mut self, file: &F, at: u64) -> io::Result<usize>
         ensures at { OnOk result (self.new.at ≡ at) }
+        ensures size { IfOk result (λ count. length self.new.bytes ≡ count) }
         ensures err { OnErr result (self.new.bytes ≡ []) }
     {
         self.forget();
         self.size = read_some_at(file, &mut self.bytes, at)?;
         self.at = at;
-        Ok(())
+        Ok(self.size)
     }
 }

@@ -1,5 +1,5 @@
-ghost use Rattle.std.specs.Prelude.{◌≡◌, None, min};
-ghost use Rattle.pv_outside.specs.declared.clock.TheConstants.{CLOCK_END};
+ghost use Rattle.std.specs.Prelude.{◌≡◌, None};
+ghost use Rattle.pv_files.specs.Moment.{moment_shown};
 
 use pv_outside::{CLOCK_END, Clock};
 use std::time;
@@ -22,16 +22,18 @@ impl<'a, R: time::Clock> Clock for MachineClock<'a, R> {
     ghost moment = { λ _. None };
 
     fn now(&self) -> u32 {
-        match self.rt.since_1970() {
-            Ok(since) => moment_of(since.as_secs()),
-            Err(_) => 0,
-        }
+        let since = self.rt.since_1970().ok();
+        moment_of(since.map(|since| since.as_secs()))
     }
 }
 
-/// The moment that is this many seconds after 1970 began, or the last that a clock shows.
-fn moment_of(seconds: u64) -> u32
-    ensures { result ≡ min seconds CLOCK_END }
+/// The moment that is this many seconds after 1970 began, or the last that a clock shows. If the machine
+/// refused to say, it is 0.
+fn moment_of(seconds: Option<u64>) -> u32
+    ensures { result ≡ moment_shown seconds }
 {
-    seconds.min(u64::from(CLOCK_END)) as u32
+    match seconds {
+        Some(seconds) => seconds.min(u64::from(CLOCK_END)) as u32,
+        None => 0,
+    }
 }

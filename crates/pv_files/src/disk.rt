@@ -1,13 +1,15 @@
-ghost use Rattle.std.specs.Prelude.{◌≡◌, ◌≤◌, ⊤, [], Option, None, IsErr, IsTrue, IfOk, OnErr, is_err};
+ghost use Rattle.std.specs.Prelude.{◌≡◌, ◌≤◌, ⊤, false, [], Option, None, IsErr, IsTrue, IfOk, OnOk, OnErr, is_err};
 ghost use Rattle.std.proofs.Common.{inl, arith};
+ghost use Rattle.pv_outside.specs.Calls.{WritesNothing, WritesAt};
 ghost use Rattle.pv_outside.specs.Counts.{Rose};
+ghost use Rattle.pv_outside.specs.Disk.{budget_after_call, budget_after_sync};
 ghost use Rattle.pv_outside.specs.declared.failed.TheConstants.{COUNT_END};
 
 use crate::ahead::{AHEAD, Ahead};
 use crate::fault::{FileFault, OpenFault};
 use pv_outside::{Disk, Reports};
 use std::alloc::Global;
-use std::fs::{File, Files, OpenFile, OpenOptions};
+use std::fs::{File, Files, OpenFile, OpenOptions, TryLockError};
 use std::io::{self, ErrorKind};
 use std::os::unix::fs::FileExt;
 use std::path::Path;
@@ -29,7 +31,8 @@ pub struct FileDisk<F: FileExt + OpenFile + Drop> {
 impl<F: FileExt + OpenFile + Drop> FileDisk<F> {
     /// A disk in this file, of which the length is not known to be on the disk.
     pub fn of(alloc: Global, file: F) -> Result<FileDisk<F>, OpenFault>
-        ensures { IfOk result (λ d. d.faults ≡ 0) }
+        ensures faults { IfOk result (λ d. d.faults ≡ 0) }
+        ensures lost { IfOk result (λ d. d.is_lost ≡ false) }
     {
         let Ok(ahead) = Ahead::new(alloc) else {
             return Err(OpenFault::Memory);
@@ -48,6 +51,7 @@ impl<F: FileExt + OpenFile + Drop> FileDisk<F> {
         ensures fault { result ≡ fault }
         ensures rose { Rose self.old.faults self.new.faults }
         ensures counted { self.old.faults ≤ self.new.faults }
+        ensures lost { self.new.is_lost ≡ self.old.is_lost }
     {
         self.faults = self.faults.saturating_add(1);
         fault
@@ -57,7 +61,11 @@ impl<F: FileExt + OpenFile + Drop> FileDisk<F> {
     fn begin(&mut self) -> Result<(), FileFault>
         ensures failed { IsErr result → Rose self.old.faults self.new.faults }
         ensures counted { self.old.faults ≤ self.new.faults }
-        ensures lost { is_err result ≡ self.old.is_lost }
+        ensures steady { OnOk result (self.new.faults ≡ self.old.faults) }
+
+        // It fails exactly if the disk is lost, and that stays as it was.
+        ensures fails { is_err result ≡ self.old.is_lost }
+        ensures lost { self.new.is_lost ≡ self.old.is_lost }
     {
         if self.is_lost {
             return Err(self.count(FileFault::Lost));
@@ -67,7 +75,8 @@ impl<F: FileExt + OpenFile + Drop> FileDisk<F> {
 
     /// Reads all of these bytes, from a piece if they fit into one.
     fn read_whole(&mut self, at: u64, into: &mut [u8]) -> io::Result<()>
-        ensures { self.new.faults ≡ self.old.faults }
+        ensures faults { self.new.faults ≡ self.old.faults }
+        ensures lost { self.new.is_lost ≡ self.old.is_lost }
     {
         if into.len() <= AHEAD {
             if self.ahead.copy(at, into) {
@@ -84,6 +93,7 @@ impl<F: FileExt + OpenFile + Drop> FileDisk<F> {
     /// Writes all of these bytes. The piece is from before them.
     fn write_whole(&mut self, at: u64, bytes: &[u8]) -> io::Result<()>
         ensures faults { self.new.faults ≡ self.old.faults }
+        ensures lost { self.new.is_lost ≡ self.old.is_lost }
         ensures forgets { self.new.ahead.bytes ≡ [] }
     {
         self.ahead.forget();
@@ -94,6 +104,7 @@ impl<F: FileExt + OpenFile + Drop> FileDisk<F> {
     fn sync_once(&mut self) -> io::Result<()>
         ensures faults { self.new.faults ≡ self.old.faults }
         ensures lost { OnErr result (IsTrue self.new.is_lost) }
+        ensures kept { OnOk result (self.new.is_lost ≡ self.old.is_lost) }
     {
         let answer = self.sync_file();
         if answer.is_err() {
@@ -104,7 +115,8 @@ impl<F: FileExt + OpenFile + Drop> FileDisk<F> {
 
     /// Puts the data on the disk, and the length too if it is not known to be there.
     fn sync_file(&mut self) -> io::Result<()>
-        ensures { self.new.faults ≡ self.old.faults }
+        ensures faults { self.new.faults ≡ self.old.faults }
+        ensures lost { self.new.is_lost ≡ self.old.is_lost }
     {
         let length = self.file.metadata()?.len();
         if self.synced_length == Some(length) {
@@ -117,32 +129,49 @@ impl<F: FileExt + OpenFile + Drop> FileDisk<F> {
 }
 
 impl FileDisk<File> {
-    /// Opens the disk in this file, which must be there.
+    /// Opens the disk in this file, which must be there, and locks it: a file is in one disk at a time.
     pub fn open<R: Files<File = File>>(
         rt: &R,
         alloc: Global,
         path: &str,
     ) -> Result<FileDisk<File>, OpenFault>
-        ensures { IfOk result (λ d. d.faults ≡ 0) }
+        ensures faults { IfOk result (λ d. d.faults ≡ 0) }
+        ensures lost { IfOk result (λ d. d.is_lost ≡ false) }
     {
-        let file = OpenOptions::new().read(true).write(true).open(rt, path);
-        FileDisk::of(alloc, file.map_err(OpenFault::File)?)
+        FileDisk::of(alloc, open_locked(rt, path, false)?)
     }
 
-    /// Makes the disk in this file new and empty, whether the file is there or not, and puts the file's name
-    /// on the disk of the machine.
+    /// Makes the disk in this file new and empty, whether the file is there or not, locks it, and puts the
+    /// file's name on the disk of the machine. A file that is in use is left as it is.
     pub fn create<R: Files<File = File>>(
         rt: &R,
         alloc: Global,
         path: &str,
     ) -> Result<FileDisk<File>, OpenFault>
-        ensures { IfOk result (λ d. d.faults ≡ 0) }
+        ensures faults { IfOk result (λ d. d.faults ≡ 0) }
+        ensures lost { IfOk result (λ d. d.is_lost ≡ false) }
     {
-        let mut options = OpenOptions::new();
-        options.read(true).write(true).create(true).truncate(true);
-        let file = options.open(rt, path).map_err(OpenFault::File)?;
+        let file = open_locked(rt, path, true)?;
+        // It is emptied under the lock only, since another disk may have been in it.
+        file.set_len(0).map_err(OpenFault::File)?;
         sync_folder_of(rt, path).map_err(OpenFault::File)?;
         FileDisk::of(alloc, file)
+    }
+}
+
+/// Opens a file to read and write, and locks it. If it is not there it may be made.
+fn open_locked<R: Files<File = File>>(
+    rt: &R,
+    path: &str,
+    may_be_made: bool,
+) -> Result<File, OpenFault> {
+    let mut options = OpenOptions::new();
+    options.read(true).write(true).create(may_be_made);
+    let file = options.open(rt, path).map_err(OpenFault::File)?;
+    match file.try_lock() {
+        Ok(()) => Ok(file),
+        Err(TryLockError::WouldBlock) => Err(OpenFault::InUse),
+        Err(TryLockError::Error(error)) => Err(OpenFault::File(error)),
     }
 }
 
@@ -192,7 +221,13 @@ impl<F: FileExt + OpenFile + Drop> Disk for FileDisk<F> {
 
     ghost any_if_forgotten = { λ _ _ _ _. tt };
 
-    fn len(&mut self) -> Result<u64, FileFault> {
+    fn len(&mut self) -> Result<u64, FileFault>
+        ensures keeps { WritesNothing ⟦<FileDisk<F> as Reports>⟧ budget_after_call self.old self.new result }
+
+        // A lost disk fails, and stays lost. No other is lost by this.
+        ensures lost { IsTrue self.old.is_lost → IsErr result }
+        ensures stays { self.new.is_lost ≡ self.old.is_lost }
+    {
         self.begin()?;
         match self.file.metadata() {
             Ok(attributes) => Ok(attributes.len()),
@@ -200,7 +235,13 @@ impl<F: FileExt + OpenFile + Drop> Disk for FileDisk<F> {
         }
     }
 
-    fn read(&mut self, at: u64, into: &mut [u8]) -> Result<(), FileFault> {
+    fn read(&mut self, at: u64, into: &mut [u8]) -> Result<(), FileFault>
+        ensures keeps { WritesNothing ⟦<FileDisk<F> as Reports>⟧ budget_after_call self.old self.new result }
+
+        // A lost disk fails, and stays lost. No other is lost by this.
+        ensures lost { IsTrue self.old.is_lost → IsErr result }
+        ensures stays { self.new.is_lost ≡ self.old.is_lost }
+    {
         self.begin()?;
         match self.read_whole(at, into) {
             Ok(()) => Ok(()),
@@ -208,7 +249,13 @@ impl<F: FileExt + OpenFile + Drop> Disk for FileDisk<F> {
         }
     }
 
-    fn write(&mut self, at: u64, bytes: &[u8]) -> Result<(), FileFault> {
+    fn write(&mut self, at: u64, bytes: &[u8]) -> Result<(), FileFault>
+        ensures writes { WritesAt ⟦<FileDisk<F> as Reports>⟧ at bytes.now self.old self.new result }
+
+        // A lost disk fails, and stays lost. No other is lost by this.
+        ensures lost { IsTrue self.old.is_lost → IsErr result }
+        ensures stays { self.new.is_lost ≡ self.old.is_lost }
+    {
         self.begin()?;
         match self.write_whole(at, bytes) {
             Ok(()) => Ok(()),
@@ -216,7 +263,13 @@ impl<F: FileExt + OpenFile + Drop> Disk for FileDisk<F> {
         }
     }
 
-    fn sync(&mut self) -> Result<(), FileFault> {
+    fn sync(&mut self) -> Result<(), FileFault>
+        ensures keeps { WritesNothing ⟦<FileDisk<F> as Reports>⟧ budget_after_sync self.old self.new result }
+
+        // A lost disk fails. One is lost exactly if its sync failed.
+        ensures lost { IsTrue self.old.is_lost → IsErr result }
+        ensures stays { self.new.is_lost ≡ is_err result }
+    {
         self.begin()?;
         match self.sync_once() {
             Ok(()) => Ok(()),

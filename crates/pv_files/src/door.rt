@@ -1,36 +1,41 @@
-ghost use Rattle.std.specs.Prelude.{◌≡◌, None, IfOk};
+ghost use Rattle.std.specs.Prelude.{◌≡◌, ◌∷◌, [], None, IfOk, IfSome};
+ghost use Rattle.std.specs.Net.Addr.{ipv4_octets};
+ghost use Rattle.std.specs.Net.Socket.{v4_ip, v4_port};
+ghost use Rattle.pv_outside.specs.Counts.{CountsFaults, successes_after};
+ghost use Rattle.pv_outside.specs.Line.{IsUnused};
+ghost use Rattle.pv_files.specs.Coming.{EndsAtNext, end_of, end_at_door, is_passed_over};
 ghost use Rattle.pv_files.specs.Doors.{IsNewDoor};
 
+use crate::counts::DoorCounts;
 use crate::line::TcpLine;
+use crate::listener::Listener;
 use pv_outside::{Door, Failed};
 use std::io::{self, ErrorKind};
-use std::net::{Ipv4Addr, Net, TcpListener, TcpStream};
+use std::net::{Ipv4Addr, Net, SocketAddrV4, TcpListener, TcpStream};
 
 /// A port of this machine, at which connections come in. It counts its faults, keeps the last error of the
 /// system, and closes the lines that are given back.
 #[derive(Drop)]
-pub struct TcpDoor {
-    listener: TcpListener,
-    faults: u64,
-    accepted: u64,
-    finished: u64,
+pub struct TcpDoor<L: Listener + Drop = TcpListener> {
+    listener: L,
+    counts: DoorCounts,
     error: Option<io::Error>,
 }
 
-impl TcpDoor {
+impl TcpDoor<TcpListener> {
     /// A door at this port of the loopback. Port 0 is one that is free.
     pub fn bind<R: Net<Listener = TcpListener, Stream = TcpStream>>(
         rt: &R,
         port: u16,
-    ) -> io::Result<TcpDoor>
+    ) -> io::Result<TcpDoor<TcpListener>>
         ensures { IfOk result IsNewDoor }
     {
-        let listener = TcpListener::bind(rt, (Ipv4Addr::LOCALHOST, port))?;
+        let listener = TcpListener::bind(rt, loopback(port))?;
         Ok(TcpDoor::of(listener))
     }
 
     /// Another door at the same port: each connection comes in at one of them.
-    pub fn beside(&self) -> io::Result<TcpDoor>
+    pub fn beside(&self) -> io::Result<TcpDoor<TcpListener>>
         ensures { IfOk result IsNewDoor }
     {
         Ok(TcpDoor::of(self.listener.try_clone()?))
@@ -40,6 +45,20 @@ impl TcpDoor {
     pub fn port(&self) -> io::Result<u16> {
         Ok(self.listener.local_addr()?.port())
     }
+}
+
+impl<L: Listener + Drop> TcpDoor<L> {
+    /// A door of this listener, at which no line has come in.
+    pub fn of(listener: L) -> TcpDoor<L>
+        ensures fresh { IsNewDoor result }
+        ensures listener { result.listener ≡ listener }
+    {
+        TcpDoor {
+            listener,
+            counts: DoorCounts::new(),
+            error: None,
+        }
+    }
 
     /// The last error that was counted.
     pub fn error(&self) -> Option<io::Error>
@@ -48,65 +67,93 @@ impl TcpDoor {
         self.error
     }
 
-    /// A door of this listener, at which no line has come in.
-    fn of(listener: TcpListener) -> TcpDoor
-        ensures { IsNewDoor result }
+    /// The listener, to look at.
+    pub fn listener(&self) -> &L
+        ensures { result.now ≡ self.now.listener }
     {
-        TcpDoor {
-            listener,
-            faults: 0,
-            accepted: 0,
-            finished: 0,
-            error: None,
-        }
+        &self.listener
     }
 }
 
-impl Door for TcpDoor {
-    type Line = TcpLine;
+impl<L: Listener + Drop> Door for TcpDoor<L> {
+    type Line = TcpLine<L::Reader, L::Writer>;
 
-    ghost faults = { λ d. d.faults };
+    ghost faults = { λ d. d.counts.faults };
 
-    ghost accepted = { λ d. d.accepted };
+    ghost accepted = { λ d. d.counts.accepted };
 
-    ghost finished = { λ d. d.finished };
+    ghost finished = { λ d. d.counts.finished };
 
     ghost lines = { λ _. None };
 
-    fn accept(&mut self) -> Result<TcpLine, Failed> {
-        match next_connection(&self.listener) {
-            Ok(stream) => {
-                self.accepted = self.accepted.saturating_add(1);
-                Ok(TcpLine::new(stream))
+    ghost order = { λ d. d.counts.in_order };
+
+    ghost counted = { λ _. tt };
+
+    fn accept(&mut self) -> Result<TcpLine<L::Reader, L::Writer>, Failed>
+        ensures account { CountsFaults self.old.counts.faults self.new.counts.faults result }
+        ensures accepted { self.new.counts.accepted ≡ successes_after result self.old.counts.accepted }
+        ensures unused { IfOk result
+            (λ line. IsUnused None (L.Writer.contents line.writer) line.ended) }
+
+        // No line is given back by this.
+        ensures finished { self.new.counts.finished ≡ self.old.counts.finished }
+
+        // The first accept of the listener that is a connection or a fault decides, and no other does.
+        ensures decides { EndsAtNext (L.coming self.old.listener) (L.coming self.new.listener)
+            (end_at_door result self.new.error) }
+    {
+        match next_connection(&mut self.listener) {
+            Ok((reader, writer)) => {
+                self.counts.count_line();
+                Ok(TcpLine::new(reader, writer))
             }
             Err(error) => {
-                self.faults = self.faults.saturating_add(1);
+                self.counts.count_fault();
                 self.error = Some(error);
                 Err(Failed)
             }
         }
     }
 
-    fn finish(&mut self, line: TcpLine) {
-        self.finished = self.finished.saturating_add(1);
+    fn finish(&mut self, line: TcpLine<L::Reader, L::Writer>) {
+        self.counts.count_finish();
         line.close();
     }
 }
 
 /// Waits for a connection. A peer that gave up before is no fault, and neither is an interrupted call.
-fn next_connection(listener: &TcpListener) -> io::Result<TcpStream> {
-    for _ in 0..u64::MAX {
-        match listener.accept() {
-            Ok((stream, _)) => {
-                // A screen goes out at once. Where that cannot be asked for it only goes later.
-                let _ = stream.set_nodelay(true);
-                return Ok(stream);
-            }
-            Err(error) => match error.kind() {
-                ErrorKind::Interrupted | ErrorKind::ConnectionAborted => {}
-                _ => return Err(error),
-            },
+fn next_connection<L: Listener>(listener: &mut L) -> io::Result<(L::Reader, L::Writer)>
+    ensures decides { EndsAtNext (L.coming listener.old) (L.coming listener.new) (end_of result) }
+    ensures unused { IfOk result
+        (λ ends. IfSome (L.Writer.contents ends.1) (λ bytes. bytes ≡ [])) }
+{
+    for _tries in 0..u64::MAX {
+        let answer = listener.accept();
+        if !is_made_again(&answer) {
+            return answer;
         }
     }
     Err(ErrorKind::Interrupted.into())
+}
+
+/// Whether an accept that ended so is made again.
+fn is_made_again<T>(answer: &io::Result<T>) -> bool
+    ensures { result ≡ is_passed_over (end_of answer.now) }
+{
+    match answer {
+        Ok(_) => false,
+        Err(error) => matches!(
+            error.kind(),
+            ErrorKind::ConnectionAborted | ErrorKind::Interrupted
+        ),
+    }
+}
+
+/// A port of the loopback, which no other machine reaches.
+pub(crate) fn loopback(port: u16) -> SocketAddrV4
+    ensures ip { ipv4_octets (v4_ip result) ≡ 127 ∷ 0 ∷ 0 ∷ 1 ∷ [] }
+    ensures port { v4_port result ≡ port }
+{
+    SocketAddrV4::new(Ipv4Addr::new(127, 0, 0, 1), port)
 }

@@ -34,4 +34,7 @@ pub enum OpenFault {
     /// The system refused: a folder stands in its place, or its owner has not allowed it, for example.
     #[error("the file could not be opened: {0}")]
     File(io::Error),
+    /// Another disk is in the file, of this process or of another.
+    #[error("the file is in use")]
+    InUse,
 }

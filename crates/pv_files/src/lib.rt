@@ -19,10 +19,12 @@
 
 mod ahead;
 mod clock;
+mod counts;
 mod disk;
 mod door;
 mod fault;
 mod line;
+mod listener;
 mod retry;
 mod standard;
 mod threads;
@@ -32,6 +34,7 @@ pub use disk::FileDisk;
 pub use door::TcpDoor;
 pub use fault::{FileFault, OpenFault};
 pub use line::TcpLine;
+pub use listener::Listener;
 pub use standard::{OUTPUT_BUFFER, StandardInput, StandardOutput};
 pub use threads::ThreadSpawner;
 

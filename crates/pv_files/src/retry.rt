@@ -1,6 +1,7 @@
 //! Calls of the system that are made again if they were interrupted.
 ghost use Rattle.std.specs.Prelude.{◌≡◌, ◌≤◌, ◌==◌, ◌&&◌, nat_lt, length, IfOk};
 ghost use Rattle.std.specs.Io.KnownBytes.{ReadConsumes, WriteAppends};
+ghost use Rattle.pv_files.specs.Output.{WritesWhole};
 
 use std::io::{self, ErrorKind, Read, Write};
 use std::os::unix::fs::FileExt;
@@ -31,6 +32,21 @@ pub(crate) fn write_some<W: Write>(writer: &mut W, bytes: &[u8]) -> io::Result<u
         }
     }
     Err(ErrorKind::Interrupted.into())
+}
+
+/// Writes all of the bytes. A write that comes back short goes on, and one that takes nothing is an error.
+pub(crate) fn write_whole<W: Write>(writer: &mut W, bytes: &[u8]) -> io::Result<()>
+    ensures { WritesWhole (W.contents writer.old) (W.contents writer.new) result bytes.now }
+{
+    let mut at = 0;
+    while at < bytes.len() {
+        match write_some(writer, &bytes[at..]) {
+            Ok(0) => return Err(ErrorKind::WriteZero.into()),
+            Ok(count) => at += count,
+            Err(error) => return Err(error),
+        }
+    }
+    Ok(())
 }
 
 /// Reads once from this place of a file.

@@ -2,9 +2,10 @@ ghost use Rattle.std.specs.Prelude.{◌≡◌, ◌≤◌, false, [], IfOk, IsErr
 ghost use Rattle.std.specs.Io.Buffered.{writer_inner, writer_capacity};
 ghost use Rattle.std.specs.Io.KnownBytes.{Keeps};
 ghost use Rattle.pv_outside.specs.Counts.{Rose};
+ghost use Rattle.pv_outside.specs.declared.failed.TheConstants.{COUNT_END};
 ghost use Rattle.pv_files.specs.Output.{written_bytes, buffered_bytes};
 
-use crate::retry::{is_end, read_some, write_some};
+use crate::retry::{is_end, read_some, write_whole};
 use pv_outside::{Failed, Sink, Source};
 use std::alloc::{AllocError, Global};
 use std::io::{BufWriter, Read, Write};
@@ -115,16 +116,12 @@ impl<W: Write + Drop> Sink for StandardOutput<W> {
 
     ghost written = { written_bytes W.contents };
 
+    ghost writes = { λ _. COUNT_END };
+
     fn write_all(&mut self, bytes: &[u8]) -> Result<(), Failed> {
-        let mut at = 0;
-        while at < bytes.len() {
-            match write_some(&mut self.writer, &bytes[at..]) {
-                Ok(0) | Err(_) => {
-                    self.faults = self.faults.saturating_add(1);
-                    return Err(Failed);
-                }
-                Ok(count) => at += count,
-            }
+        if write_whole(&mut self.writer, bytes).is_err() {
+            self.faults = self.faults.saturating_add(1);
+            return Err(Failed);
         }
         Ok(())
     }

@@ -1,3 +1,4 @@
 mod files;
+mod lines;
 mod machine;
 mod sockets;

@@ -96,6 +96,39 @@ fn a_file_has_what_was_written_when_it_is_opened_again(rt: HostRuntime) -> Resul
 }
 
 #[test]
+fn a_file_that_is_made_new_is_empty(rt: HostRuntime) -> Result<(), Fail> {
+    let mut disk = FileDisk::create(&rt, rt.alloc(), "new.pv")?;
+    disk.write(0, b"PVJOURN1")?;
+    disk.sync()?;
+    drop(disk);
+    let mut disk = FileDisk::create(&rt, rt.alloc(), "new.pv")?;
+    assert_eq!(rt; disk.len()?, 0);
+    fs::remove_file(&rt, "new.pv")?;
+    Ok(())
+}
+
+#[test]
+fn a_file_is_in_one_disk_at_a_time(rt: HostRuntime) -> Result<(), Fail> {
+    let mut disk = FileDisk::create(&rt, rt.alloc(), "lock.pv")?;
+    disk.write(0, b"PVJOURN1")?;
+    let opened = FileDisk::open(&rt, rt.alloc(), "lock.pv").err();
+    let made = FileDisk::create(&rt, rt.alloc(), "lock.pv").err();
+    assert_eq!(rt;
+        (
+            matches!(opened, Some(OpenFault::InUse)),
+            matches!(made, Some(OpenFault::InUse))
+        ),
+        (true, true)
+    );
+    assert_eq!(rt; disk.len()?, 8);
+    drop(disk);
+    let mut disk = FileDisk::open(&rt, rt.alloc(), "lock.pv")?;
+    assert_eq!(rt; disk.len()?, 8);
+    fs::remove_file(&rt, "lock.pv")?;
+    Ok(())
+}
+
+#[test]
 fn what_is_no_file_is_refused_with_the_words_of_the_system(rt: HostRuntime) -> Result<(), Fail> {
     fs::create_dir(&rt, "folder")?;
     for (path, words) in [
@@ -125,6 +158,7 @@ fn a_file_without_rights_is_refused_or_its_owner_may_do_all(rt: HostRuntime) -> 
         Ok(_) => {}
         Err(OpenFault::File(error)) => assert_eq!(rt; error.kind(), ErrorKind::PermissionDenied),
         Err(OpenFault::Memory) => return Err(Fail::new("out of memory")),
+        Err(OpenFault::InUse) => return Err(Fail::new("it is in use")),
     }
     fs::remove_file(&rt, "closed.pv")?;
     Ok(())
@@ -206,10 +240,10 @@ impl<'a> Stutter<'a> {
     }
 
     fn sync(&self, calls: &Cell<u64>) -> io::Result<()> {
+        count(calls);
         if self.syncs_fail {
             return Err(ErrorKind::Other.into());
         }
-        count(calls);
         Ok(())
     }
 }
@@ -316,6 +350,7 @@ fn nothing_is_done_after_a_sync_that_failed(rt: HostRuntime) -> Result<(), Fail>
     disk.write(0, b"a")?;
     assert_eq!(rt; matches!(disk.sync(), Err(FileFault::Sync(_))), true);
     assert_eq!(rt; matches!(disk.sync(), Err(FileFault::Lost)), true);
+    assert_eq!(rt; calls.whole_syncs.get(), 1);
     assert_eq!(rt; matches!(disk.write(0, b"a"), Err(FileFault::Lost)), true);
     assert_eq!(rt; matches!(disk.len(), Err(FileFault::Lost)), true);
     fs::remove_file(&rt, "lost.pv")?;

@@ -2,7 +2,7 @@ use Rattle.std.proofs.Common.{◌-◌, ◌++◌, List, ℕ, length, take, drop, 
 use Rattle.std.proofs.Math.Seq.{take-add, take-take}
 use Rattle.std.specs.Io.KnownBytes.{Appends}
 use Rattle.pv_files.proofs.Appending.{Appends-both}
-use Rattle.pv_files.proofs.standard.StandardOutputSink.write_all.Goals as goal
+use Rattle.pv_files.proofs.retry.write_whole.Goals as goal
 
 -- what the writer took comes after what it had taken
 pub loop-at-preserved : goal.loop-at-preserved
@@ -18,5 +18,4 @@ loop-at-preserved g c =
     record {
       within = omega arith;
       written = subst (Appends _ _) joined (Appends-both _ _ _ _ _ c.loop-at.invariant.written c.in-Ok.ensures.bytes);
-      faults = c.loop-at.invariant.faults;
     }
