@@ -1,12 +1,20 @@
 -- Worked examples of what stands on a disk, computed from the definitions.
 use Rattle.std.proofs.Common.{◌≡◌, inl, [], ◌∷◌, ◌++◌, replicate, codes, refl}
 use Rattle.pv_journal.specs.declared.block.TheConstants.{MAX_BODY}
+use Rattle.pv_journal.specs.declared.storing.TheConstants.{APPEND_CALLS, GATE_CALLS}
 use Rattle.pv_journal.specs.Log.{longest}
 use Rattle.pv_journal.specs.Text.{text_of, first_eight, bytes_after_gate, HasBrokenBlock}
 
 -- a body has at most 2,048 bytes
 pub longest_body : MAX_BODY ≡ 2048
 longest_body = refl
+
+-- an append makes four calls of the disk, two of them before its gate
+pub calls_of_an_append : APPEND_CALLS ≡ 4
+calls_of_an_append = refl
+
+pub calls_before_a_gate : GATE_CALLS ≡ 2
+calls_before_a_gate = refl
 
 -- a journal of one body has at most nine bytes, and 2,051 for the body with its gate and length
 pub longest-one : longest 1 ≡ 2060

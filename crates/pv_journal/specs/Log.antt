@@ -26,10 +26,10 @@ reach _ gate = gate + 1
 
 -- At its gate the disk has what the phase speaks of: this many bytes to read; a closed gate; or, if the gate is open, a whole
 -- body and a closed gate after it.
-abbrev pub Stands : Phase → ℕ → List ℕ → Type 0
-Stands (Reading end) gate text = length text ≡ end
-Stands Resting gate text = HasClosedGate gate text
-Stands (InHand size) gate text = MayHaveBody gate size text
+abbrev pub StandsAtGate : Phase → ℕ → List ℕ → Type 0
+StandsAtGate (Reading end) gate text = length text ≡ end
+StandsAtGate Resting gate text = HasClosedGate gate text
+StandsAtGate (InHand size) gate text = MayHaveBody gate size text
 
 -- how many bytes some bodies in hand have, from the first one on, with what is written between them
 abbrev pub hand_size : List (List ℕ) → ℕ
@@ -94,4 +94,4 @@ pub record IsPlaced {D : Type 0} (reads : D → Option (List ℕ)) (log : Log D)
   pub gate : log.gate ≤ MARK_SIZE + MAX_BLOCK * log.count
   pub within : log.gate ≤ reach log.phase log.gate
   pub in_range : IsInRange log.phase
-  pub there : IfSome (reads log.disk) (Stands log.phase log.gate)
+  pub there : IfSome (reads log.disk) (StandsAtGate log.phase log.gate)

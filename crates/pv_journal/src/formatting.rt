@@ -25,6 +25,7 @@ pub fn format<D: Disk>(disk: &mut D) -> Result<(), D::Failure>
     // What it takes of the disk, and what a crash at any moment of it leaves: an image that might have been left
     // before, with any bytes in place of the first ones and past its end.
     ensures spends { Spends D.Reports 3 (IsErr result) disk.old disk.new }
+    ensures steady { OnOk result (D.faults disk.new ≡ D.faults disk.old) }
     ensures passes { HasCalls 3 EMPTY_SIZE (D.budget disk.old) → IsOk result }
     ensures moments { LeavesOnly D.Reports disk.old disk.new (IsTornOf D.Reports disk.old 0 EMPTY_SIZE) }
 {

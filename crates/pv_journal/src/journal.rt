@@ -19,6 +19,7 @@ ghost use Rattle.pv_journal.specs.Log.{longest, most, IsAtRest, IsNoneInHand, Is
 ghost use Rattle.pv_journal.specs.Journal.{DiskSpells, HasLeft, LeavesOnly, HasMade, Spends, ReadsOnly, IsReading, Holds, HoldsInHand};
 ghost use Rattle.pv_journal.specs.Faults.{IsDiskFault, ReadFailsOnDisk, IsStartFault, StartFaultShows, IsNext, NextShows, NextSpells, IsAppendDiskFault, FailsOnDisk};
 ghost use Rattle.pv_journal.specs.Appending.{IsAppended, IsNotAppended};
+ghost use Rattle.pv_journal.specs.declared.storing.TheConstants.{APPEND_CALLS, GATE_CALLS};
 
 use crate::block::{Block, HEAD_SIZE, MARK_SIZE, MAX_BLOCK, MAX_BODY, first_block};
 use crate::fault::{AppendFault, OpenFault};
@@ -77,6 +78,7 @@ impl<D: Disk> Journal<D> {
         // It makes exactly three calls, and a crash at any moment of them leaves what it might have left before.
         ensures reads_only { IfOk result (λ journal. ReadsOnly D.Reports 3 ⊥ disk journal.disk) }
         ensures made { IfOk result (λ journal. HasMade D.Reports 3 disk journal.disk) }
+        ensures steady { IfOk result (λ journal. D.faults journal.disk ≡ D.faults disk) }
         ensures moments { IfOk result (λ journal. LeavesOnly D.Reports disk journal.disk (D.may_leave disk)) }
 
         // A disk is refused if a call of it failed, or if it does not begin with the mark.
@@ -127,6 +129,7 @@ impl<D: Disk> Journal<D> {
         ensures reads_only { ReadsOnly D.Reports 1 (ReadFailsOnDisk result) self.old.disk self.new.disk }
         ensures made { OnOk result (IsStillReading self.old
             → HasMade D.Reports 1 self.old.disk self.new.disk) }
+        ensures steady { OnOk result (D.faults self.new.disk ≡ D.faults self.old.disk) }
         ensures moments { LeavesOnly D.Reports self.old.disk self.new.disk (D.may_leave self.old.disk) }
 
         // Each answer has its cause, and on a disk that reports its bytes these show which it is.
@@ -164,7 +167,7 @@ impl<D: Disk> Journal<D> {
     }
 
     /// Appends a body of 1 to 2,048 bytes and returns its place, from 0. After a failure of the disk the
-    /// body is in hand. At most four calls of the disk succeed in it.
+    /// body is in hand. At most [`APPEND_CALLS`](crate::APPEND_CALLS) calls of the disk succeed in it.
     pub fn append(&mut self, body: &[u8]) -> Result<u64, AppendFault<D>>
         requires at_rest { IsAtRest self.old }
         requires size { IsBody body.now }
@@ -175,21 +178,25 @@ impl<D: Disk> Journal<D> {
         ensures limit { self.new.limit ≡ self.old.limit }
 
         // A crash at any moment of the call leaves an image that spells the list without the body or with it.
-        // It is without it until two calls of the disk have succeeded, so also if fewer than two were left.
+        // It is without it until the calls before the gate have succeeded, so also if fewer were left.
         ensures moments { (bodies : List (List ℕ)) → Holds D.Reports self.old bodies
             → LeavesOnly D.Reports self.old.disk self.new.disk (SpellsEither bodies (body.now ∷ [])) }
         ensures early { (bodies : List (List ℕ)) → Holds D.Reports self.old bodies
-            → HasMade D.Reports 2 self.old.disk self.new.disk
+            → HasMade D.Reports GATE_CALLS self.old.disk self.new.disk
             ⊎ LeavesOnly D.Reports self.old.disk self.new.disk (λ image. Spells image bodies) }
         ensures few { (bodies : List (List ℕ)) (n : ℕ) → Holds D.Reports self.old bodies
-            → HasLeft n (D.budget self.old.disk) → n < 2
+            → HasLeft n (D.budget self.old.disk) → n < GATE_CALLS
             → LeavesOnly D.Reports self.old.disk self.new.disk (λ image. Spells image bodies) }
 
-        // What it takes of the disk. With four calls and room for all bodies the disk does not fail.
-        ensures spends { Spends D.Reports 4 (FailsOnDisk result) self.old.disk self.new.disk }
-        ensures all_four { OnOk result (HasMade D.Reports 4 self.old.disk self.new.disk) }
+        // What it takes of the disk. With all its calls and room for all bodies the disk does not fail.
+        ensures spends { Spends D.Reports APPEND_CALLS (FailsOnDisk result) self.old.disk self.new.disk }
+        ensures all_four { OnOk result (HasMade D.Reports APPEND_CALLS self.old.disk self.new.disk) }
+
+        // A place is returned only if no call failed on the way: none was tried again.
+        ensures steady { OnOk result (D.faults self.new.disk ≡ D.faults self.old.disk) }
         ensures passes { IfErr result (λ fault. (bodies : List (List ℕ)) → Holds D.Reports self.old bodies
-            → HasCalls 4 (longest self.old.limit) (D.budget self.old.disk) → IsAppendDiskFault fault → ⊥) }
+            → HasCalls APPEND_CALLS (longest self.old.limit) (D.budget self.old.disk)
+            → IsAppendDiskFault fault → ⊥) }
     {
         let place = self.count;
         if place == self.limit as u64 {
@@ -239,6 +246,7 @@ impl<D: Disk> Journal<D> {
         // What it takes of the disk, and what a crash at any moment of it leaves.
         ensures both_calls { OnOk result ((IsNoneInHand self.old → ⊥)
             → HasMade D.Reports 2 self.old.disk self.new.disk) }
+        ensures steady { OnOk result (D.faults self.new.disk ≡ D.faults self.old.disk) }
         ensures moments { (bodies hand : List (List ℕ)) → HoldsInHand D.Reports self.old bodies hand
             → LeavesOnly D.Reports self.old.disk self.new.disk (SpellsEither bodies hand) }
         ensures reads_only { ReadsOnly D.Reports 2 (IsErr result) self.old.disk self.new.disk }

@@ -19,6 +19,7 @@ pub(crate) fn length_after_mark<D: Disk>(disk: &mut D) -> Result<u64, OpenFault<
 
     // All three calls were made. Or one failed, or the disk does not begin with the mark.
     ensures made { OnOk result (HasMade D.Reports 3 disk.old disk.new) }
+    ensures steady { OnOk result (D.faults disk.new ≡ D.faults disk.old) }
     ensures refused { IfErr result IsStartFault }
     ensures shown { IfErr result (λ fault. IfSome (D.reads disk.old) (λ text. StartFaultShows text fault)) }
 {
@@ -39,6 +40,7 @@ fn first_bytes<D: Disk>(disk: &mut D, into: &mut [u8; MARK_SIZE]) -> Result<u64,
 
     // All three calls were made, and after them a crash leaves what the disk reads as.
     ensures made { OnOk result (HasMade D.Reports 3 disk.old disk.new) }
+    ensures steady { OnOk result (D.faults disk.new ≡ D.faults disk.old) }
     ensures durable { OnOk result (IsDurable D.Reports disk.new) }
     ensures synced { OnOk result (IsSynced D.Reports disk.new) }
 {
@@ -70,6 +72,7 @@ pub(crate) fn read_block<D: Disk>(
 
     ensures reads_only { ReadsOnly D.Reports 1 (IsErr result) disk.old disk.new }
     ensures made { OnOk result (HasMade D.Reports 1 disk.old disk.new) }
+    ensures steady { OnOk result (D.faults disk.new ≡ D.faults disk.old) }
     ensures held { IfOk result (λ held. (held ≤ MAX_BLOCK) × (gate + held ≤ end)) }
     ensures bytes { IfOk result (λ held. IfSome (D.reads disk.old) (λ text. take held into.new
         ≡ take MAX_BLOCK (drop gate text))) }

@@ -3,11 +3,19 @@ ghost use Rattle.std.specs.Option.{ForSome, option_map};
 ghost use Rattle.pv_outside.specs.Disk.{Torn, Turns, HasCalls, budget_after_sync, budget_after_write, text_after_write};
 ghost use Rattle.pv_outside.specs.declared.disk.TheConstants.{KEPT_BYTES};
 ghost use Rattle.pv_journal.specs.declared.block.TheConstants.{HEAD_SIZE};
+ghost use Rattle.pv_journal.specs.declared.storing.TheConstants.{APPEND_CALLS, GATE_CALLS};
 ghost use Rattle.pv_journal.specs.Text.{IsBody, block, text_of, Spells, SpellsEither, bytes_after_gate, HasClosedGate, MayHaveBody};
 ghost use Rattle.pv_journal.specs.Journal.{EachImage, IsDurable, IsSynced, IsTornOf, LeavesOnly, HasMade, Spends};
 
 use crate::block::{HEAD_SIZE, MAX_BLOCK};
 use pv_outside::Disk;
+
+/// How many calls of the disk an append makes: once they have succeeded its body is stored.
+pub const APPEND_CALLS: u8 = 4;
+
+/// How many of them put the body on the disk, before its gate is opened. Until they have succeeded the body is
+/// not stored.
+pub const GATE_CALLS: u8 = 2;
 
 /// Writes a body after the gate and puts it on the disk; then opens the gate, and puts that there too. The
 /// last slice is room for what is written.
@@ -30,10 +38,10 @@ pub(crate) fn store<D: Disk>(
         → EachImage D.Reports disk.old (λ image. Spells image bodies)
         → EachImage D.Reports disk.new (λ image. Spells image (bodies ++ body.now ∷ []))) }
 
-    // Until two calls of the disk have succeeded, it leaves one that spells the list without it.
+    // Until the calls before the gate have succeeded, it leaves one that spells the list without it.
     ensures early { (bodies : List (List ℕ)) → gate ≡ length (text_of bodies)
         → EachImage D.Reports disk.old (λ image. Spells image bodies)
-        → HasMade D.Reports 2 disk.old disk.new
+        → HasMade D.Reports GATE_CALLS disk.old disk.new
         ⊎ LeavesOnly D.Reports disk.old disk.new (λ image. Spells image bodies) }
 
     // After an Ok its block and a closed gate were written, and no other byte.
@@ -45,10 +53,11 @@ pub(crate) fn store<D: Disk>(
 
     // What it takes of the disk.
     ensures synced { OnOk result (IsSynced D.Reports disk.new) }
-    ensures passes { HasCalls 4 (gate + length body.now + HEAD_SIZE + 1) (D.budget disk.old)
+    ensures passes { HasCalls APPEND_CALLS (gate + length body.now + HEAD_SIZE + 1) (D.budget disk.old)
         → IsSynced D.Reports disk.old → IsOk result }
-    ensures all_four { OnOk result (HasMade D.Reports 4 disk.old disk.new) }
-    ensures spends { Spends D.Reports 4 (IsErr result) disk.old disk.new }
+    ensures all_four { OnOk result (HasMade D.Reports APPEND_CALLS disk.old disk.new) }
+    ensures spends { Spends D.Reports APPEND_CALLS (IsErr result) disk.old disk.new }
+    ensures steady { OnOk result (D.faults disk.new ≡ D.faults disk.old) }
 {
     let length = spell(body, room);
     // The body has to be on the disk first: after a gate that is open, whatever is there counts.
@@ -77,6 +86,7 @@ pub(crate) fn put<D: Disk>(disk: &mut D, at: u64, bytes: &[u8]) -> Result<(), D:
         → IsSynced D.Reports disk.old → IsOk result }
     ensures both { OnOk result (HasMade D.Reports 2 disk.old disk.new) }
     ensures spends { Spends D.Reports 2 (IsErr result) disk.old disk.new }
+    ensures steady { OnOk result (D.faults disk.new ≡ D.faults disk.old) }
 {
     disk.write(at, bytes)?;
     disk.sync()
