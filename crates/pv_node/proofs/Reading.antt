@@ -133,7 +133,7 @@ module _ {S State Request Rec Reply D : Type 0} (r : rules.Ghosts S State Reques
     pub begins : (all : List Rec) → DiskStands r d began.disk all → (more : List Rec) × (all ≡ records ++ more)
 
   -- a replay that has read one record more goes on
-  pub goes_on : {Fails : Type 0} (began old new : Log D) (first state after : State) (rec : Rec) (so_far : GoesOn began old first state)
+  unfoldable pub goes_on : {Fails : Type 0} (began old new : Log D) (first state after : State) (rec : Rec) (so_far : GoesOn began old first state)
       → HasRead r d new after (so_far.records ++ rec ∷ []) → ComesNext r d old.disk so_far.records rec → new.limit ≡ old.limit
       → r.limits_of after ≡ r.limits_of state
       → new.count ≡ old.count + 1 → (⊥ → Fails) → ReadsOnly d 1 Fails old.disk new.disk → HasMade d 1 old.disk new.disk

@@ -11,7 +11,7 @@ use Rattle.pv_node.specs.declared.rules.Rules as rules
 use Rattle.pv_node.specs.declared.fault.AskFault.{AskFault}
 use Rattle.pv_node.specs.Parts.{Parts}
 use Rattle.pv_node.specs.Standing.{StandsEither, StandsFor}
-use Rattle.pv_node.specs.Asking.{records_with, IsSettled, FailsOnDisk, SpendsOnAsk}
+use Rattle.pv_node.specs.Asking.{records_with, IsSettled, AskFailsOnDisk, SpendsOnAsk}
 use Rattle.pv_node.proofs.Standing.{settled_same}
 
 -- a disk whose calls have no end has any number of calls left
@@ -70,7 +70,7 @@ module _ {S State Request Rec Reply D : Type 0} (r : rules.Ghosts S State Reques
       → ReadsOnly d 2 Fails old.journal.disk settled.journal.disk → r.limits_of settled.state ≡ r.limits_of old.state
       → SpendsOnAsk r d 4 settled new result
       → (records : List Rec) → StandsFor r d old records → IsEndless (longest (r.limits_of old.state).records) (d.budget old.journal.disk)
-      → FailsOnDisk result → ⊥
+      → AskFailsOnDisk result → ⊥
   never_fails old settled new stored result is reads limits spends records stands endless fails =
       let now = stands_then old settled stored is records stands in
       let room = longest (r.limits_of old.state).records in

@@ -19,9 +19,9 @@ IsAskDiskFault (Disk failure) = Unit {0}
 IsAskDiskFault (Full count) = ⊥
 
 -- the result is that a call of the disk failed
-abbrev pub FailsOnDisk : {T D F : Type 0} → Result T (AskFault D F) → Type 0
-FailsOnDisk (Ok told) = ⊥
-FailsOnDisk (Err fault) = IsAskDiskFault fault
+abbrev pub AskFailsOnDisk : {T D F : Type 0} → Result T (AskFault D F) → Type 0
+AskFailsOnDisk (Ok told) = ⊥
+AskFailsOnDisk (Err fault) = IsAskDiskFault fault
 
 -- the record that is to be stored
 abbrev pub to_store : {Rec Reply : Type 0} → Decision Rec Reply → Option Rec
@@ -106,9 +106,9 @@ module _ {S State Request Rec Reply D : Type 0} (r : rules.Ghosts S State Reques
 
   -- What an ask returns: a call of the disk failed in the settling; or the node was settled, and the judgement of the settled
   -- node is carried out.
-  abbrev pub Asks : {F : Type 0} → Request → Parts D State Rec → Parts D State Rec
+  abbrev pub AskReturns : {F : Type 0} → Request → Parts D State Rec → Parts D State Rec
       → Result (Told Reply) (AskFault D F) → Type 0
-  Asks request old new result = (IsUnsettled old new × FailsOnDisk result)
+  AskReturns request old new result = (IsUnsettled old new × AskFailsOnDisk result)
       ⊎ ((settled : Parts D State Rec) × (stored : Option Rec) × IsSettled old settled stored
       × CarriesOut (r.judgement settled.state request) settled new result)
 
@@ -121,10 +121,10 @@ module _ {S State Request Rec Reply D : Type 0} (r : rules.Ghosts S State Reques
 
   -- What an ask, or a part of it, takes of the disk, of which at most `most` calls succeed. The rest holds if nothing was in hand.
   pub record SpendsOnAsk {T F : Type 0} (most : ℕ) (old new : Parts D State Rec) (result : Result T (AskFault D F)) : Type 0 where
-    pub spends : Spends g most (FailsOnDisk result) old.journal.disk new.journal.disk
+    pub spends : Spends g most (AskFailsOnDisk result) old.journal.disk new.journal.disk
     -- no call fails while four are left, and there is room for all records
     pub passes : old.hand ≡ None → (records : List Rec) → StandsFor r g old records
-        → HasCalls 4 (longest (r.limits_of old.state).records) (g.budget old.journal.disk) → FailsOnDisk result → ⊥
+        → HasCalls 4 (longest (r.limits_of old.state).records) (g.budget old.journal.disk) → AskFailsOnDisk result → ⊥
     -- until two calls have succeeded, a crash at any moment leaves the records that there were
     pub early : old.hand ≡ None → (records : List Rec) → StandsFor r g old records
         → HasMade g 2 old.journal.disk new.journal.disk

@@ -4,6 +4,7 @@ pub mod Opening
 pub mod Parts
 pub mod Standing
 pub mod TestRules
+pub mod Trail
 pub use Rattle.pv_journal.specs.Journal
 pub use Rattle.pv_journal.specs.Log
 pub use Rattle.pv_journal.specs.Text

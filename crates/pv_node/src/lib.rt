@@ -3,7 +3,8 @@
 //! [`Rules`] say what a state is, how a request is judged at it and how a record is spelled. A [`Node`]
 //! keeps the records of such rules in a journal, and the state that follows from them in memory.
 //! [`Node::open`] reads the records of a formatted disk into a state, and takes all the memory that the
-//! node ever needs. [`Node::ask`] settles what is in hand, decides, stores and absorbs, in this order.
+//! node ever needs. [`Node::open_noted`] also gives these records a name in contracts, by a [`Trail`].
+//! [`Node::ask`] settles what is in hand, decides, stores and absorbs, in this order.
 //! Wherever a call of the disk fails, what a crash may leave then stands for the records, or for these
 //! with the one in hand.
 //!
@@ -27,12 +28,14 @@ mod law;
 mod node;
 mod replay;
 mod rules;
+mod trail;
 
 pub use decision::{Decision, Told};
 pub use fault::{AskFault, NodeFault};
 pub use law::image_stands_for_one_list;
-pub use node::Node;
+pub use node::{Node, Opened};
 pub use rules::Rules;
+pub use trail::Trail;
 
 #[cfg(test)]
 mod tests;

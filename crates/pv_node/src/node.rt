@@ -16,12 +16,14 @@ ghost use Rattle.pv_journal.specs.Journal.{EachImage, HasLeft, LeavesOnly, HasMa
 ghost use Rattle.pv_journal.specs.Log.{longest};
 ghost use Rattle.pv_node.specs.Standing.{StandsEither, Meets, MeetsBoth, DiskStands, StandsFor};
 ghost use Rattle.pv_node.specs.Opening.{IsOutside, IsOpenFault, FaultShows, IsOpenDiskFault};
-ghost use Rattle.pv_node.specs.Asking.{to_store, AskLeaves, FailsOnDisk, IsSettled, IsUnsettled, IsRefused, CanStore, HasStored, CarriesOut, Asks, SpendsOnAsk};
+ghost use Rattle.pv_node.specs.Trail.{trail_records};
+ghost use Rattle.pv_node.specs.Asking.{to_store, AskLeaves, AskFailsOnDisk, IsSettled, IsUnsettled, IsRefused, CanStore, HasStored, CarriesOut, AskReturns, SpendsOnAsk};
 
 use crate::decision::{Decision, Told};
 use crate::fault::{AskFault, NodeFault};
 use crate::replay::{of_node, replay};
 use crate::rules::Rules;
+use crate::trail::{Trail, empty_trail};
 use pv_fields::Out;
 use pv_journal::{AppendFault, Journal, MAX_BODY};
 use pv_outside::{Disk, Fused, Limits};
@@ -46,6 +48,15 @@ impl<R: Rules, D: Disk> Model for Node<R, D> {
 
     ghost invariant = { λ n. IsNode R.Rules
         (record { journal = n.journal; state = n.state; hand = n.hand }) };
+}
+
+/// A node that was opened, and the records that it was opened with.
+#[derive(Drop)]
+pub struct Opened<R: Rules, D: Disk> {
+    /// The node.
+    pub node: Node<R, D>,
+    /// The records, in order, for contracts alone.
+    pub trail: Trail<R::Rec>,
 }
 
 /// Puts the spelling of a record into the beginning, and returns how many bytes it has.
@@ -96,7 +107,59 @@ impl<R: Rules, D: Disk> Node<R, D> {
             (λ e. ReadsOnly D.Reports (limits.records + 4) (IsOpenDiskFault e.0) disk e.1) }
         ensures moments_refused { IfErr result (λ e. LeavesOnly D.Reports disk e.1 (D.may_leave disk)) }
     {
+        match Self::open_noted(alloc, disk, limits) {
+            Ok(opened) => {
+                let Opened { node, trail: _ } = opened;
+                Ok(node)
+            }
+            Err(refused) => Err(refused),
+        }
+    }
+
+    /// Opens a formatted disk as [`Node::open`] does, and gives the records that it read a name in contracts:
+    /// the trail.
+    pub fn open_noted(
+        alloc: Global,
+        disk: D,
+        limits: Limits,
+    ) -> Result<Opened<R, D>, (NodeFault<D>, D)>
+        // The node stands for the records of the trail, which are those that the disk stands for, and has none in
+        // hand.
+        ensures stands { IfOk result
+            (λ o. StandsFor ⟦<R as Rules>⟧ D.Reports o.node (trail_records o.trail.items)) }
+        ensures found { IfOk result (λ o. (records : List R.Rec)
+            → DiskStands ⟦<R as Rules>⟧ D.Reports disk records
+            → StandsFor ⟦<R as Rules>⟧ D.Reports o.node records) }
+        ensures none_in_hand { IfOk result (λ o. o.node.hand ≡ None) }
+        ensures limits { IfOk result (λ o. R.limits_of o.node.state ≡ limits) }
+
+        // It makes exactly three calls of the disk and one for each gate, and a crash leaves what it might have left
+        // before.
+        ensures reads_only { IfOk result
+            (λ o. ReadsOnly D.Reports (o.node.journal.count + 4) ⊥ disk o.node.journal.disk) }
+        ensures made { IfOk result
+            (λ o. HasMade D.Reports (o.node.journal.count + 4) disk o.node.journal.disk) }
+        ensures moments { IfOk result
+            (λ o. LeavesOnly D.Reports disk o.node.journal.disk (D.may_leave disk)) }
+
+        // On a disk that stands for records within the limits, each of which has room, only an allocation or the
+        // disk can fail.
+        ensures opens { IfErr result (λ e. (records : List R.Rec)
+            → DiskStands ⟦<R as Rules>⟧ D.Reports disk records
+            → Meets ⟦<R as Rules>⟧ limits records → IsOutside e.0) }
+
+        // Each fault has its cause, and on a disk that reports its bytes these show which it is.
+        ensures refused { IfErr result (λ e. IsOpenFault limits e.0) }
+        ensures shown { IfErr result
+            (λ e. IfSome (D.reads disk) (λ text. FaultShows ⟦<R as Rules>⟧ limits text e.0)) }
+        ensures handed_back { IfErr result
+            (λ e. ReadsOnly D.Reports (limits.records + 4) (IsOpenDiskFault e.0) disk e.1) }
+        ensures moments_refused { IfErr result (λ e. LeavesOnly D.Reports disk e.1 (D.may_leave disk)) }
+    {
         let Ok(mut state) = R::open(alloc, limits) else {
+            return Err((NodeFault::Memory, disk));
+        };
+        let Ok(mut trail) = empty_trail(alloc, limits.records as usize) else {
             return Err((NodeFault::Memory, disk));
         };
         let mut journal = match Journal::start(disk, limits) {
@@ -104,15 +167,16 @@ impl<R: Rules, D: Disk> Node<R, D> {
             Err((fault, disk)) => return Err((of_node(fault), disk)),
         };
         let mut body = [0; MAX_BODY];
-        if let Err(fault) = replay::<R, D>(&mut state, &mut journal, &mut body) {
+        if let Err(fault) = replay::<R, D>(&mut state, &mut journal, &mut body, &mut trail) {
             return Err((fault, journal.into_disk()));
         }
-        Ok(Node {
+        let node = Node {
             state,
             journal,
             hand: None,
             body,
-        })
+        };
+        Ok(Opened { node, trail })
     }
 
     /// Answers a request. It first settles what is in hand, then decides, and then stores what is to be
@@ -121,7 +185,7 @@ impl<R: Rules, D: Disk> Node<R, D> {
     pub fn ask(&mut self, request: &R::Request) -> Result<Told<R::Reply>, AskFault<D>>
         requires { R.is_request request.now }
 
-        ensures asked { Asks ⟦<R as Rules>⟧ D.Reports request.now self.old self.new result }
+        ensures asked { AskReturns ⟦<R as Rules>⟧ D.Reports request.now self.old self.new result }
         ensures answers { self.old.hand ≡ None
             → CarriesOut ⟦<R as Rules>⟧ D.Reports
             (R.judgement self.old.state request.now) self.old self.new result }
@@ -142,7 +206,7 @@ impl<R: Rules, D: Disk> Node<R, D> {
         ensures spends { SpendsOnAsk ⟦<R as Rules>⟧ D.Reports 6 self.old self.new result }
         ensures never_fails { (records : List R.Rec) → StandsFor ⟦<R as Rules>⟧ D.Reports self.old records
             → IsEndless (longest (R.limits_of self.old.state).records) (D.budget self.old.journal.disk)
-            → FailsOnDisk result → ⊥ }
+            → AskFailsOnDisk result → ⊥ }
     {
         match self.settle() {
             Ok(_) => {

@@ -16,6 +16,7 @@ returns-then-absorb_spelled-clause-took g c = λ _ records read.
       λ more stands.
           let spells = at.spelled (map g.R.Rules.spelling records) (map g.R.Rules.spelling more) read.journal (disk_spells g.R.Rules g.D.Reports _ records more stands) in
           next_is g.R.Rules g.D.Reports g.met.R.Rules.one_meaning _ records more t.0 _ spells.0 stands spells.1 t.1 t.2,
+      t.5,
     )
 
 pub returns-else-absorb_spelled-clause-opens : goal.returns-else-absorb_spelled-clause-opens

@@ -8,7 +8,7 @@ use Rattle.pv_journal.specs.Text.{SpellsEither}
 use Rattle.pv_journal.proofs.Moments.{only_weaker}
 use Rattle.pv_node.specs.declared.fault.AskFault.{AskFault}
 use Rattle.pv_node.specs.declared.fault.AskFault.TheVariants.{Disk, Full}
-use Rattle.pv_node.specs.Asking.{FailsOnDisk, SpendsOnAsk}
+use Rattle.pv_node.specs.Asking.{AskFailsOnDisk, SpendsOnAsk}
 use Rattle.pv_node.specs.Parts.{Parts}
 use Rattle.pv_node.specs.Standing.{StandsEither, StandsFor}
 use Rattle.pv_node.proofs.Standing.{either, gained, holds_at_rest, only_stand, taken}
@@ -22,8 +22,8 @@ seen g c = record { journal = c.self.inside.journal; state = c.self.inside.state
 
 -- what the append takes of the disk, whatever the node keeps of it and returns
 spent : (g : Over) (c : After-append g) (state : g.row.R-State.Denot) (hand : Option g.row.R-Rec.Denot) (result : Result ℕ (AskFault g.row.D.Denot g.row.D-Failure.Denot))
-    → (FailsOnDisk result → AppendFails c.append.result)
-    → ((bodies : List (List ℕ)) → Holds g.D.Reports c.self.inside.journal bodies → HasCalls 4 (longest c.self.inside.journal.limit) (g.D.Reports.budget c.self.inside.journal.disk) → FailsOnDisk result → ⊥)
+    → (AskFailsOnDisk result → AppendFails c.append.result)
+    → ((bodies : List (List ℕ)) → Holds g.D.Reports c.self.inside.journal bodies → HasCalls 4 (longest c.self.inside.journal.limit) (g.D.Reports.budget c.self.inside.journal.disk) → AskFailsOnDisk result → ⊥)
     → SpendsOnAsk g.R.Rules g.D.Reports 4 c.args.self.now (record { journal = c.append.new.self; state = state; hand = hand }) result
 unfolding seen
 spent g c state hand result fails passes =

@@ -4,9 +4,9 @@ use Rattle.pv_node.specs.Opening.{IsOpenDiskFault, ReadingFails}
 use Rattle.pv_node.proofs.Rooms.{meets_none}
 use Rattle.pv_journal.proofs.CallerLemmas.{reads_none, reads_most, reads_then, made_then}
 use Rattle.pv_node.proofs.Reading.{disk_fault}
-use Rattle.pv_node.proofs.node.Node.open.Given.{Over}
-use Rattle.pv_node.proofs.node.Node.open.Goals.{After-replay}
-use Rattle.pv_node.proofs.node.Node.open.Goals as goal
+use Rattle.pv_node.proofs.node.Node.open_noted.Given.{Over}
+use Rattle.pv_node.proofs.node.Node.open_noted.Goals.{After-replay}
+use Rattle.pv_node.proofs.node.Node.open_noted.Goals as goal
 
 pub replay-requires-clause-reading : goal.replay-requires-clause-reading
 replay-requires-clause-reading g c κs within = record {
@@ -41,3 +41,6 @@ returns-clause-made g c =
 
 pub returns-in_default-clause-handed_back : goal.returns-in_default-clause-handed_back
 returns-in_default-clause-handed_back g c = reads_none g.D.Reports _ (λ fails. fails)
+
+pub returns-in_default-empty_trail-clause-handed_back : goal.returns-in_default-empty_trail-clause-handed_back
+returns-in_default-empty_trail-clause-handed_back g c = reads_none g.D.Reports _ (λ fails. fails)
