@@ -1,2 +1,3 @@
-mod Adding
+mod Steps
+mod Entries
 pub mod CallerLemmas

@@ -1,35 +1,34 @@
-ghost use Rattle.std.specs.Prelude.{◌≡◌, ◌+◌, ◌<◌, ◌≤◌, ◌↔◌, ◌^◌, ◌++◌, ◌∷◌, [], length, true, MatchBool, IsTrue};
+ghost use Rattle.std.specs.Prelude.{◌≡◌, ◌+◌, ◌-◌, ◌<◌, ◌≤◌, ◌↔◌, ◌++◌, ◌∷◌, [], length, true, IsTrue};
 ghost use mathlib.Core.List.{IsPrefix};
 
-use crate::history::Appender;
+use crate::history::{Appender, SeenLog};
 use crate::name::HistoryName;
-use crate::rule::{Add, IsLength, NoGain};
-use logbook::{Offer, Seen};
 use std::marker::{Model, PhantomData};
-use std::sync::Wait;
 
 /// A prefix of the history of this name that was seen. Contracts see it as its entries. At run time it is
 /// how many there are.
 #[derive(Drop)]
 pub struct Prefix<E, N: HistoryName> {
     count: u64,
-    seen: Seen<E, u64, IsLength<E>>,
+    seen: SeenLog<E>,
     of: PhantomData<N>,
 }
 
 impl<E, N: HistoryName> Model for Prefix<E, N> {
-    ghost use Rattle.std.specs.Prelude.{◌≡◌, List, length};
+    ghost use Rattle.std.specs.Prelude.{◌≡◌, List, length, map, Some};
+    ghost use Rattle.pv_history.specs.History.{entries_of};
 
     ghost Value = { List E };
 
-    ghost view = { λ p. p.seen.log };
+    ghost view = { λ p. entries_of p.seen.log };
 
-    ghost invariant = { λ p. (p.count ≡ length p.seen.log) × (p.seen.book ≡ N.book) };
+    ghost invariant = { λ p. (p.seen.log ≡ map Some (entries_of p.seen.log)) × (p.count ≡ length p.seen.log)
+        × (p.seen.book ≡ N.book) };
 }
 
 impl<E, N: HistoryName> Prefix<E, N> {
     /// The prefix without entries.
-    pub(crate) fn empty(seen: Seen<E, u64, IsLength<E>>) -> Prefix<E, N>
+    pub(crate) fn empty(seen: SeenLog<E>) -> Prefix<E, N>
         requires { (seen.log ≡ []) × (seen.book ≡ N.book) }
         ensures { result ≡ [] }
     {
@@ -75,57 +74,29 @@ impl<E, N: HistoryName> Prefix<E, N> {
         self.count <= other.count
     }
 
-    /// Becomes the other prefix, which has no fewer entries. If it had, it would wait for ever.
-    pub fn catch_up<W: Wait>(&mut self, rt: &W, other: &Prefix<E, N>)
-        ensures value { self.new ≡ other.now }
+    /// Becomes the whole history.
+    pub fn catch_up(&mut self, appender: &mut Appender<E, N>, whole: &Prefix<E, N>)
+        requires { appender.old.count ≡ length whole.now }
+        ensures value { self.new ≡ whole.now }
         ensures prefix { IsPrefix self.old self.new }
+        ensures same { appender.new ≡ appender.old }
     {
-        for _ in rt.forever() {
-            if self.is_prefix_of(other) {
-                *self = other.copy();
-                return;
-            }
+        if !self.is_prefix_of(whole) {
+            appender.has_all(&self.seen);
+            unreachable!()
         }
-        unreachable!()
+        *self = whole.copy();
     }
 
-    /// Adds an entry to the history, all of which was seen. If it was not, it is tried again, with what was
-    /// added in between. It is always seen by whoever alone uses the appender.
-    pub fn append<W: Wait>(&mut self, rt: &W, appender: &Appender<E, N>, entry: &E)
-        requires room { length self.old + 1 < 2 ^ 64 }
-        ensures { self.new ≡ self.old ++ entry.now ∷ [] }
+    /// Adds an entry to the history, of which this is the whole.
+    pub fn append(&mut self, appender: &mut Appender<E, N>, entry: &E)
+        requires whole { appender.old.count ≡ length self.old }
+        requires room { 0 < appender.old.left }
+        ensures added { self.new ≡ self.old ++ entry.now ∷ [] }
+        ensures used { appender.new
+            ≡ record { count = appender.old.count + 1; left = appender.old.left - 1 } }
     {
-        for _ in rt.forever() {
-            let mut longer = self.copy();
-            if longer.try_append(appender, entry) {
-                *self = longer;
-                return;
-            }
-        }
-        unreachable!()
-    }
-
-    /// Adds an entry to the history, if all of it was seen, and returns whether it did. If not, it has seen
-    /// more of it then.
-    fn try_append(&mut self, appender: &Appender<E, N>, entry: &E) -> bool
-        requires room { length self.old + 1 < 2 ^ 64 }
-        ensures { MatchBool result (self.new ≡ self.old ++ entry.now ∷ []) (IsPrefix self.old self.new) }
-    {
-        let mut offer: Offer<E, u64, IsLength<E>, NoGain> = self
-            .seen
-            .plain::<NoGain, E, Add>(entry);
-        let mut pen = self.seen.no_pen();
-        let count = self.count;
-        let found = appender
-            .word
-            .compare_exchange::<Add, NoGain>(
-                count,
-                count + 1,
-                &mut self.seen,
-                &mut offer,
-                &mut pen,
-            );
-        self.count = if found == count { count + 1 } else { found };
-        found == count
+        appender.add(&mut self.seen, entry);
+        self.count += 1;
     }
 }
