@@ -1,5 +1,5 @@
 -- What an ask answers, and what it does to its pass.
-use Rattle.std.specs.Prelude.{◌≡◌, ◌⊎◌, ℕ, ◌+◌, ◌<◌, ◌≤◌, List, [], ◌∷◌, ◌++◌, length, Some, None, Result, Err, MatchOption, All}
+use Rattle.std.specs.Prelude.{◌≡◌, ◌⊎◌, ℕ, ◌+◌, ◌<◌, ◌≤◌, List, [], ◌∷◌, ◌++◌, length, Option, Some, None, is_some, option_to_list, Result, Ok, Err, IfSome, MatchOption}
 use mathlib.Core.List.{IsPrefix}
 use Rattle.pv_outside.specs.declared.limits.Limits.{Limits}
 use Rattle.pv_node.specs.declared.rules.Rules as rules
@@ -36,17 +36,29 @@ abbrev pub IfKept : {D F : Type 0} → LiveFault D F → (ℕ → Type 0) → Ty
 IfKept (Memory (Some place)) P = P place
 IfKept _ P = Unit {0}
 
--- the entry is for this pass; or its record was in hand, and it is for the pass whose ask made it
-abbrev pub IsFor : {D State Rec : Type 0} → Board D State Rec → ℕ → Entry Rec → Type 0
-IsFor board number entry = (entry.pass ≡ number) ⊎ ((board.node.hand ≡ Some entry.rec) × (entry.pass ≡ board.maker))
+-- the entry is of the record in hand, and carries the number of the pass whose ask made it
+abbrev pub IsOfHand : {D State Rec : Type 0} → Board D State Rec → Entry Rec → Type 0
+IsOfHand board entry = (board.node.hand ≡ Some entry.rec) × (entry.pass ≡ board.maker)
 
--- The history has grown by entries for this pass, and perhaps by the record that was in hand. What is in hand now was so before, or is
--- for this pass.
-pub record Grows {D State Rec : Type 0} (old new : Board D State Rec) (number : ℕ) : Type 0 where
-  pub added : List (Entry Rec)
-  pub log : new.log ≡ old.log ++ added
-  pub each : All (IsFor old number) added
-  pub hand : (new.node.hand ≡ None) ⊎ (((new.node.hand ≡ old.node.hand) × (new.maker ≡ old.maker)) ⊎ (new.maker ≡ number))
+-- what is in hand is as it was, with its pass, and the history has not grown
+pub record IsHandKept {D State Rec : Type 0} (old new : Board D State Rec) : Type 0 where
+  pub hand : new.node.hand ≡ old.node.hand
+  pub maker : new.maker ≡ old.maker
+  pub log : new.log ≡ old.log
+
+-- What a settling does: the history grows by the record that was in hand, for the pass whose ask made it, or by nothing. Nothing is in
+-- hand then, or the same is.
+pub record Settles {D State Rec : Type 0} (old new : Board D State Rec) : Type 0 where
+  pub settled : Option (Entry Rec)
+  pub log : new.log ≡ old.log ++ option_to_list settled
+  pub maker : IfSome settled (IsOfHand old)
+  pub hand : (new.node.hand ≡ None) ⊎ IsHandKept old new
+
+-- the place of the record that an ask has stored, if its answer gives one
+abbrev pub stored_place : {Reply D F : Type 0} → Result (Told Reply) (LiveFault D F) → Option ℕ
+stored_place (Ok told) = told.number
+stored_place (Err (Memory stored)) = stored
+stored_place (Err fault) = None
 
 -- the fault is not that there was no memory to publish
 abbrev pub IsUnkept : {D F : Type 0} → LiveFault D F → Type 0
@@ -79,6 +91,26 @@ module _ {S State Request Rec Reply : Type 0} (r : rules.Ghosts S State Request 
   abbrev pub HasAsked : Request → Standing Rec → Standing Rec → Told Reply → Type 0
   HasAsked request old new told = MatchOption told.number (HasAnswered request old new told.reply)
       (HasStoredFor request old new told.reply)
+
+  -- the record in hand is one that this request stores after the history, and is kept for the pass of this number
+  pub record HasTaken {D : Type 0} (request : Request) (number : ℕ) (board : Board D State Rec) : Type 0 where
+    pub rec : Rec
+    pub reply : Reply
+    pub hand : board.node.hand ≡ Some rec
+    pub maker : board.maker ≡ number
+    pub judged : Judges r limits (with_opening opening board.log) request (Store rec reply)
+
+  -- What an ask of the pass of this number does, if its answer gives this place. The history grows by the record that was in hand, for
+  -- the pass whose ask made it, and then by the record that is stored at the place, for this pass. What is in hand then was so before,
+  -- or was taken for this pass.
+  pub record Grows {D : Type 0} (request : Request) (number : ℕ) (place : Option ℕ) (old new : Board D State Rec) : Type 0 where
+    pub settled : Option (Entry Rec)
+    pub stored : Option (Entry Rec)
+    pub log : new.log ≡ old.log ++ (option_to_list settled ++ option_to_list stored)
+    pub maker : IfSome settled (IsOfHand old)
+    pub own : IfSome stored (λ entry. entry.pass ≡ number)
+    pub told : is_some stored ≡ is_some place
+    pub hand : (new.node.hand ≡ None) ⊎ (IsHandKept old new ⊎ HasTaken request number new)
 
   -- the node has as many records as the limit, which the pass has all seen, and the request would store one more
   pub record IsFullFor (request : Request) (new : Standing Rec) (count : ℕ) : Type 0 where

@@ -10,8 +10,8 @@ ghost use Rattle.pv_live.specs.declared.entry.Entry.{Entry};
 ghost use Rattle.pv_live.specs.Entries.{with_opening};
 ghost use Rattle.pv_live.specs.Run.{Judges, IsMade, IsRun};
 ghost use Rattle.pv_live.specs.Pass.{Standing, told_count, failed_count, EachHasSeenPrefix};
-ghost use Rattle.pv_live.specs.Board.{waiting_changes};
-ghost use Rattle.pv_live.specs.Asking.{EndsInDiskFault, IsUnkept, Waits, IfKept, HasSeenAll, Grows, HasAsked, HasFailed};
+ghost use Rattle.pv_live.specs.Board.{waiting_changes, IsSupplied};
+ghost use Rattle.pv_live.specs.Asking.{EndsInDiskFault, IsUnkept, Waits, IfKept, HasSeenAll, Settles, stored_place, Grows, HasAsked, HasFailed};
 ghost use Rattle.pv_live.specs.Closing.{IsClosed};
 
 use crate::copies::{Change, Published};
@@ -73,7 +73,7 @@ impl<
 > Model for Desk<R, D, N, H, T, O> {
     ghost use Rattle.std.specs.Prelude.{◌≡◌, length, fold};
     ghost use Rattle.left_right.specs.Handles.{published as shown, pending};
-    ghost use Rattle.pv_live.specs.Board.{Board, IsDesk, waiting_changes};
+    ghost use Rattle.pv_live.specs.Board.{Board, IsDesk, IsSupplied, waiting_changes};
 
     ghost Value = { Board D R.State R.Rec };
 
@@ -89,7 +89,7 @@ impl<
         d.failed.total
         × (fold T.applied (T.state (shown d.writer)) (waiting_changes (pending d.writer) d.kept) ≡ d.known)
         × (d.no_told.parts ≡ 0) × (d.no_told.amount ≡ 0)
-        × (d.no_failed.parts ≡ 0) × (d.no_failed.amount ≡ 0) };
+        × (d.no_failed.parts ≡ 0) × (d.no_failed.amount ≡ 0) × IsSupplied d.appender d.known };
 }
 
 /// Hands the kept change to the writer, and returns whether there is none now.
@@ -116,30 +116,34 @@ fn hand_over<T: Absorb<O> + Drop, O: Drop, H: Wait + Drop>(
 
 /// Adds a record to the history, all of which is known. `count` is how many records there are then. Returns
 /// the change that is to be published.
-fn take_in<R: Rules, N: Run<R::Rec>, W: Wait>(
-    rt: &W,
-    appender: &Appender<Entry<R::Rec>, N>,
+fn take_in<R: Rules, N: Run<R::Rec>>(
+    appender: &mut Appender<Entry<R::Rec>, N>,
     known: &mut Known<R::Rec, N>,
     entry: Entry<R::Rec>,
     count: u64,
 ) -> Change<R, N>
     requires counted { count ≡ length N.opening + length known.old + 1 }
     requires made { IsMade ⟦<R as Rules>⟧ N.limits (with_opening N.opening known.old) entry.rec }
+    requires supplied { IsSupplied appender.old known.old }
+
+    // The record is known, and the change has it.
+    ensures supplied { IsSupplied appender.new known.new }
     ensures known { known.new ≡ known.old ++ entry ∷ [] }
     ensures change { result ≡ known.new }
 {
-    known.append(rt, appender, &entry, count);
+    known.append(appender, &entry, count);
     Change::new(entry, known.copy())
 }
 
-/// Adds the shares of these passes, each of which has seen no more than is known.
-fn gather<R: Rules, N: Run<R::Rec>, W: Wait>(
-    rt: &W,
+/// Adds the shares of these passes. None has seen more than is known.
+fn gather<R: Rules, N: Run<R::Rec>>(
+    appender: &mut Appender<Entry<R::Rec>, N>,
     known: &Known<R::Rec, N>,
     told: &mut Share<ToldLedger<R::Rec, N>>,
     failed: &mut Share<FailedLedger<R::Rec, N>>,
     passes: Vec<Pass<R, N>>,
 )
+    requires whole { appender.old.count ≡ length known.now }
     ensures parts { (told.new.parts ≡ told.old.parts + vec_len passes)
         × (failed.new.parts ≡ failed.old.parts + vec_len passes) }
     ensures amounts { (told.new.amount ≡ told.old.amount + told_count passes.items)
@@ -156,7 +160,7 @@ fn gather<R: Rules, N: Run<R::Rec>, W: Wait>(
             failed: its_failed,
             looks: _,
         } = pass;
-        seen.catch_up(rt, known);
+        seen.catch_up(appender, known);
         told.merge(its_told);
         failed.merge(its_failed);
     }
@@ -194,7 +198,7 @@ impl<R: Rules, D: Disk, N: Run<R::Rec>, H: Wait + Drop> Desk<
 
     /// Publishes what waits. The pass has seen it then. Returns false if no memory was found, and then
     /// nothing has changed.
-    fn publish<W: Wait>(&mut self, rt: &W, pass: &mut Pass<R, N>) -> bool
+    fn publish(&mut self, pass: &mut Pass<R, N>) -> bool
         ensures same { self.new ≡ record self.old {
           published = self.new.published;
           waiting = self.new.waiting;
@@ -206,16 +210,16 @@ impl<R: Rules, D: Disk, N: Run<R::Rec>, H: Wait + Drop> Desk<
         if !self.flush() {
             return false;
         }
-        pass.known.catch_up(rt, &self.known);
+        pass.known.catch_up(&mut self.appender, &self.known);
         true
     }
 
     /// Finds out whether the record in hand is stored. If it is, it waits to be published.
-    fn settle<W: Wait>(&mut self, rt: &W, pass: &mut Pass<R, N>) -> Result<(), D::Failure>
+    fn settle(&mut self, pass: &mut Pass<R, N>) -> Result<(), D::Failure>
         requires published { self.old.waiting ≡ 0 }
         requires seen { pass.old.seen ≡ self.old.log }
 
-        ensures grows { Grows self.old self.new pass.old.number }
+        ensures grows { Settles self.old self.new }
         ensures settled { OnOk result ((self.new.node.hand ≡ None) × (pass.new ≡ pass.old)) }
         ensures unsettled { OnErr result ((self.new.log ≡ self.old.log)
             × (pass.new ≡ record pass.old { failed = pass.old.failed + 1 })
@@ -235,16 +239,15 @@ impl<R: Rules, D: Disk, N: Run<R::Rec>, H: Wait + Drop> Desk<
                     pass: self.maker,
                 };
                 let count = self.node.count();
-                self.kept = Some(take_in(rt, &self.appender, &mut self.known, entry, count));
+                self.kept = Some(take_in(&mut self.appender, &mut self.known, entry, count));
                 Ok(())
             }
         }
     }
 
     /// Lets the node answer a request, at which this record is to be stored. It waits to be published then.
-    fn store<W: Wait>(
+    fn store(
         &mut self,
-        rt: &W,
         pass: &mut Pass<R, N>,
         request: &R::Request,
         rec: R::Rec,
@@ -267,7 +270,8 @@ impl<R: Rules, D: Disk, N: Run<R::Rec>, H: Wait + Drop> Desk<
         // What it does to the pass, to the history and to the disk.
         ensures same { pass.new ≡ record pass.old { told = pass.new.told; failed = pass.new.failed } }
         ensures not_failed { OnOk result (pass.new.failed ≡ pass.old.failed) }
-        ensures grows { Grows self.old self.new pass.old.number }
+        ensures grows { Grows ⟦<R as Rules>⟧ N.limits N.opening request.now pass.old.number
+            (stored_place result) self.old self.new }
         ensures spends { Spends D.Reports 6 (EndsInDiskFault result)
             self.old.node.journal.disk self.new.node.journal.disk }
     {
@@ -278,7 +282,7 @@ impl<R: Rules, D: Disk, N: Run<R::Rec>, H: Wait + Drop> Desk<
                     pass: pass.number,
                 };
                 let count = self.node.count();
-                self.kept = Some(take_in(rt, &self.appender, &mut self.known, entry, count));
+                self.kept = Some(take_in(&mut self.appender, &mut self.known, entry, count));
                 self.told.add(&mut pass.told, 1);
                 Ok(told)
             }
@@ -292,9 +296,8 @@ impl<R: Rules, D: Disk, N: Run<R::Rec>, H: Wait + Drop> Desk<
     }
 
     /// Decides on the request at the node's state, and stores what is to be stored.
-    fn decide<W: Wait>(
+    fn decide(
         &mut self,
-        rt: &W,
         pass: &mut Pass<R, N>,
         request: &R::Request,
     ) -> Result<Told<R::Reply>, LiveFault<D>>
@@ -315,7 +318,8 @@ impl<R: Rules, D: Disk, N: Run<R::Rec>, H: Wait + Drop> Desk<
         // What it does to the pass, to the history and to the disk.
         ensures same { pass.new ≡ record pass.old { told = pass.new.told; failed = pass.new.failed } }
         ensures not_failed { OnOk result (pass.new.failed ≡ pass.old.failed) }
-        ensures grows { Grows self.old self.new pass.old.number }
+        ensures grows { Grows ⟦<R as Rules>⟧ N.limits N.opening request.now pass.old.number
+            (stored_place result) self.old self.new }
         ensures spends { Spends D.Reports 6 (EndsInDiskFault result)
             self.old.node.journal.disk self.new.node.journal.disk }
     {
@@ -326,7 +330,7 @@ impl<R: Rules, D: Disk, N: Run<R::Rec>, H: Wait + Drop> Desk<
             }),
             Decision::Store(rec, reply) => {
                 drop(reply);
-                self.store(rt, pass, request, rec)
+                self.store(pass, request, rec)
             }
         }
     }
@@ -344,9 +348,8 @@ impl<R: Rules, D: Disk, N: Run<R::Rec>, H: Wait + Drop> Desk<
     /// Answers a request of a pass. It publishes what an earlier ask has kept, settles what is in hand and
     /// publishes that, decides and stores, and publishes what was stored. After each of these the pass has
     /// seen all records.
-    pub fn ask<W: Wait>(
+    pub fn ask(
         &mut self,
-        rt: &W,
         pass: &mut Pass<R, N>,
         request: &R::Request,
     ) -> Result<Told<R::Reply>, LiveFault<D>>
@@ -370,25 +373,27 @@ impl<R: Rules, D: Disk, N: Run<R::Rec>, H: Wait + Drop> Desk<
             pass.old pass.new fault) }
         ensures kept { IfErr result (λ fault. IfKept fault (Waits N.opening pass.old self.new)) }
 
-        // A failure of the disk is one of its count of faults. What is added is for this pass.
+        // A failure of the disk is one of its count of faults. The history grows by the record that was in hand, for
+        // the pass whose ask made it, and by the one that is stored for this pass.
         ensures spends { Spends D.Reports 8 (EndsInDiskFault result)
             self.old.node.journal.disk self.new.node.journal.disk }
-        ensures grows { Grows self.old self.new pass.old.number }
+        ensures grows { Grows ⟦<R as Rules>⟧ N.limits N.opening request.now pass.old.number
+            (stored_place result) self.old self.new }
     {
-        if !self.publish(rt, pass) {
+        if !self.publish(pass) {
             return Err(LiveFault::Memory { stored: None });
         }
-        if let Err(failure) = self.settle(rt, pass) {
+        if let Err(failure) = self.settle(pass) {
             return Err(LiveFault::Disk(failure));
         }
-        if !self.publish(rt, pass) {
+        if !self.publish(pass) {
             return Err(LiveFault::Memory { stored: None });
         }
-        let told = match self.decide(rt, pass, request) {
+        let told = match self.decide(pass, request) {
             Ok(told) => told,
             Err(fault) => return Err(fault),
         };
-        if !self.publish(rt, pass) {
+        if !self.publish(pass) {
             return Err(LiveFault::Memory {
                 stored: told.number,
             });
@@ -397,13 +402,13 @@ impl<R: Rules, D: Disk, N: Run<R::Rec>, H: Wait + Drop> Desk<
     }
 
     /// Gives the node back. These are all its passes.
-    pub(crate) fn close<W: Wait>(self, rt: &W, passes: Vec<Pass<R, N>>) -> Closed<R, D>
+    pub(crate) fn close(self, passes: Vec<Pass<R, N>>) -> Closed<R, D>
         requires { vec_len passes ≡ N.passes }
         ensures { IsClosed ⟦<R as Rules>⟧ D.Reports N.limits N.opening passes.items result.node result.asked }
     {
         let Self {
             node,
-            appender: _,
+            mut appender,
             known,
             writer,
             kept: _,
@@ -415,7 +420,13 @@ impl<R: Rules, D: Disk, N: Run<R::Rec>, H: Wait + Drop> Desk<
         } = self;
         let mut told_count = no_told;
         let mut failed_count = no_failed;
-        gather(rt, &known, &mut told_count, &mut failed_count, passes);
+        gather(
+            &mut appender,
+            &known,
+            &mut told_count,
+            &mut failed_count,
+            passes,
+        );
         told.audit(&mut told_count);
         failed.audit(&mut failed_count);
         writer.take();

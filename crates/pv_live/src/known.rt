@@ -1,12 +1,13 @@
-ghost use Rattle.std.specs.Prelude.{◌≡◌, ◌+◌, ◌≤◌, ◌↔◌, ◌++◌, ◌∷◌, [], length as count, true, IsTrue};
+ghost use Rattle.std.specs.Prelude.{◌≡◌, ◌+◌, ◌<◌, ◌≤◌, ◌↔◌, ◌++◌, ◌∷◌, [], length as count, true, IsTrue};
 ghost use mathlib.Core.List.{IsPrefix};
+ghost use Rattle.pv_outside.specs.declared.limits.TheConstants.{MAX_RECORDS};
 ghost use Rattle.pv_live.specs.declared.entry.Entry.{Entry};
+ghost use Rattle.pv_live.specs.Board.{IsSupplied};
 
 use crate::entry::Entry;
 use crate::run::Run;
 use pv_history::{Appender, Prefix};
 use std::marker::Model;
-use std::sync::Wait;
 
 /// Records that are known to be stored: those of the opening, and then a prefix of the history. Contracts see
 /// the entries of the history. At run time it is two counts.
@@ -69,27 +70,31 @@ impl<T, N: Run<T>> Known<T, N> {
         self.entries.is_prefix_of(&other.entries)
     }
 
-    /// Becomes the others, of which there are no fewer.
-    pub(crate) fn catch_up<W: Wait>(&mut self, rt: &W, other: &Known<T, N>)
-        ensures value { self.new ≡ other.now }
+    /// Becomes all records.
+    pub(crate) fn catch_up(&mut self, appender: &mut Appender<Entry<T>, N>, all: &Known<T, N>)
+        requires { appender.old.count ≡ count all.now }
+        ensures value { self.new ≡ all.now }
         ensures prefix { IsPrefix self.old self.new }
+        ensures same { appender.new ≡ appender.old }
     {
-        self.entries.catch_up(rt, &other.entries);
-        self.length = other.length;
+        self.entries.catch_up(appender, &all.entries);
+        self.length = all.length;
     }
 
     /// Adds an entry to the history, all of which is known. `length` is how many records there are then.
-    pub(crate) fn append<W: Wait>(
+    pub(crate) fn append(
         &mut self,
-        rt: &W,
-        appender: &Appender<Entry<T>, N>,
+        appender: &mut Appender<Entry<T>, N>,
         entry: &Entry<T>,
         length: u64,
     )
+        requires supplied { IsSupplied appender.old self.old }
+        requires room { count self.old < MAX_RECORDS }
         requires length { length ≡ count N.opening + count self.old + 1 }
-        ensures { self.new ≡ self.old ++ entry.now ∷ [] }
+        ensures added { self.new ≡ self.old ++ entry.now ∷ [] }
+        ensures supplied { IsSupplied appender.new self.new }
     {
-        self.entries.append(rt, appender, entry);
+        self.entries.append(appender, entry);
         self.length = length;
     }
 }

@@ -2,14 +2,15 @@
 //!
 //! [`open_live`] puts a node under a lock, publishes two copies of its state, and makes the passes. A
 //! [`Pass`] belongs to one thread. [`Pass::look`] reads a published state; it waits for nobody and never
-//! goes back. [`LiveNode::ask`] takes the lock, lets the node store what is to be stored, publishes it, and
-//! lets the pass see it. [`LiveNode::close`] gives the node back, with a count of what was stored.
+//! goes back. [`Pass::show`] is a look by a [`Viewer`], which changes in place. [`LiveNode::ask`] takes the
+//! lock, lets the node store what is to be stored, publishes it, and lets the pass see it.
+//! [`LiveNode::close`] gives the node back, with a count of what was stored.
 //!
 //! ```text
 //! let (live, mut passes) = open_live::<Ledger, _, N, &R>(rt, alloc, node, 2, start)?;
 //! let told = live.ask(rt, &mut passes[0], &request)?;    // told.number: the place of the record
 //! let total = passes[0].look(|state| state.total())?;    // at that record or a later one
-//! let closed = live.close(rt, passes);
+//! let closed = live.close(passes);
 //! ```
 //!
 //! Each record that was stored since the opening is an [`Entry`] of one history (`pv_history`), with the
@@ -32,6 +33,7 @@ mod known;
 mod live;
 mod pass;
 mod run;
+mod viewer;
 
 pub use copies::{Change, Published};
 pub use desk::{Closed, Desk};
@@ -41,6 +43,7 @@ pub use known::Known;
 pub use live::{Live, LiveNode, MAX_PASSES, Start, open_live};
 pub use pass::{NotEntered, Pass};
 pub use run::{FailedLedger, Run, ToldLedger};
+pub use viewer::Viewer;
 
 #[cfg(test)]
 mod tests;

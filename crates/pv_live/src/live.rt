@@ -17,7 +17,7 @@ use crate::run::{FailedLedger, Run, ToldLedger};
 use left_right::{Absorb, WriteHandle};
 use pv_history::NewHistory;
 use pv_node::{Node, Rules, Told};
-use pv_outside::Disk;
+use pv_outside::{Disk, MAX_RECORDS};
 use std::alloc::{AllocError, Global};
 use std::marker::Model;
 use std::sync::ledger::{Blank, Share};
@@ -161,7 +161,7 @@ pub fn open_live<R: Rules, D: Disk + Drop, N: Run<R::Rec>, H: Wait + Drop>(
         told,
         failed,
     } = start;
-    let (appender, entries) = history.named::<N>();
+    let (appender, entries) = history.named::<N>(alloc, MAX_RECORDS)?;
     let known = Known::opening(entries, node.count());
     let writer = publish_state::<R, D, N, H>(rt, alloc, &node, &known, passes)?;
     let (told, mut told_count) = told.open::<ToldLedger<R::Rec, N>>();
@@ -227,15 +227,15 @@ impl<R: Rules, D: Disk, N: Run<R::Rec>, H: Wait + Drop> LiveNode<
         ensures failed { IfErr result (λ fault. HasFailed ⟦<R as Rules>⟧ N.limits N.opening request.now
             pass.old pass.new fault) }
     {
-        self.desk.lock(rt).ask(rt, pass, request)
+        self.desk.lock(rt).ask(pass, request)
     }
 
     /// Gives the node back. These are all its passes.
-    pub fn close<W: Wait>(self, rt: &W, passes: Vec<Pass<R, N>>) -> Closed<R, D>
+    pub fn close(self, passes: Vec<Pass<R, N>>) -> Closed<R, D>
         requires { vec_len passes ≡ N.passes }
         ensures { IsClosed ⟦<R as Rules>⟧ D.Reports N.limits N.opening passes.items result.node result.asked }
     {
         let LiveNode { desk } = self;
-        desk.into_inner().close(rt, passes)
+        desk.into_inner().close(passes)
     }
 }

@@ -1,4 +1,4 @@
-ghost use Rattle.std.specs.Prelude.{◌≡◌, ◌+◌, ◌-◌, ◌^◌, min, length as count, IfOk, OnOk, OnErr, IfSome};
+ghost use Rattle.std.specs.Prelude.{◌≡◌, ◌+◌, ◌-◌, ◌^◌, min, length as count, IfOk, OnOk, OnErr, IfSome, None};
 ghost use Rattle.std.specs.Fn.{FnOnceReturnsAt};
 ghost use mathlib.Core.List.{IsPrefix};
 ghost use Rattle.pv_live.specs.Entries.{with_opening};
@@ -7,6 +7,7 @@ ghost use Rattle.pv_live.specs.Run.{IsStateOf};
 use crate::copies::Published;
 use crate::known::Known;
 use crate::run::{FailedLedger, Run, ToldLedger};
+use crate::viewer::Viewer;
 use left_right::ReadHandle;
 use pv_node::Rules;
 use std::marker::Model;
@@ -81,6 +82,43 @@ fn read_published<R: Rules, N: Run<R::Rec>, T, F: FnOnce(&R::State) -> T>(
     read_copy(&guard, known, f)
 }
 
+/// Lets a viewer look at the copy, and returns the records that this stands for. If it stands for fewer than are
+/// known, the viewer does not look, and this returns `None`.
+fn show_copy<R: Rules, N: Run<R::Rec>, V: Viewer<R::State>>(
+    copy: &Published<R, N>,
+    known: &Known<R::Rec, N>,
+    viewer: &mut V,
+) -> Option<Known<R::Rec, N>>
+    ensures later { IfSome result (λ k. IsPrefix known.now k) }
+    ensures viewed { IfSome result (λ k. (state : R.State)
+        × IsStateOf ⟦<R as Rules>⟧ N.limits state (with_opening N.opening k)
+        × V.may_become viewer.old state viewer.new) }
+    ensures refused { result ≡ None → viewer.new ≡ viewer.old }
+{
+    let now = copy.known.copy();
+    if !known.is_prefix_of(&now) {
+        return None;
+    }
+    viewer.view(&copy.state);
+    Some(now)
+}
+
+/// The same of the copy that is published.
+fn show_published<R: Rules, N: Run<R::Rec>, V: Viewer<R::State>>(
+    reader: &mut ReadHandle<Published<R, N>>,
+    known: &Known<R::Rec, N>,
+    viewer: &mut V,
+) -> Option<Known<R::Rec, N>>
+    ensures later { IfSome result (λ k. IsPrefix known.now k) }
+    ensures viewed { IfSome result (λ k. (state : R.State)
+        × IsStateOf ⟦<R as Rules>⟧ N.limits state (with_opening N.opening k)
+        × V.may_become viewer.old state viewer.new) }
+    ensures refused { result ≡ None → viewer.new ≡ viewer.old }
+{
+    let guard = reader.enter()?;
+    show_copy(&guard, known, viewer)
+}
+
 impl<R: Rules, N: Run<R::Rec>> Pass<R, N> {
     /// How many records it has seen, with those of the opening.
     pub fn length(&self) -> u64
@@ -118,6 +156,32 @@ impl<R: Rules, N: Run<R::Rec>> Pass<R, N> {
                 self.known = now;
                 self.looks = self.looks.saturating_add(1);
                 Ok(answer)
+            }
+        }
+    }
+
+    /// Lets a viewer look at a published state, as [`Pass::look`] lets f. The viewer changes in place, so no
+    /// answer is moved. If the look is not let in, the viewer is as it was.
+    pub fn show<V: Viewer<R::State>>(&mut self, viewer: &mut V) -> Result<(), NotEntered>
+
+        // The viewer has looked at a state of all that the pass has seen now, which is what it had seen and perhaps
+        // more.
+        ensures seen { IsPrefix self.old.seen self.new.seen }
+        ensures viewed { OnOk result ((state : R.State)
+            × IsStateOf ⟦<R as Rules>⟧ N.limits state (with_opening N.opening self.new.seen)
+            × V.may_become viewer.old state viewer.new) }
+        ensures looks { OnOk result (self.new ≡ record self.old {
+          seen = self.new.seen;
+          looks = min (self.old.looks + 1) (2 ^ 64 - 1);
+        }) }
+        ensures refused { OnErr result ((self.new ≡ self.old) × (viewer.new ≡ viewer.old)) }
+    {
+        match show_published(&mut self.reader, &self.known, viewer) {
+            None => Err(NotEntered),
+            Some(now) => {
+                self.known = now;
+                self.looks = self.looks.saturating_add(1);
+                Ok(())
             }
         }
     }

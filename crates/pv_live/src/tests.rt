@@ -113,7 +113,7 @@ fn one_edit<N: Run<Record> + Send + Sync, R: Wait + Abort>(
     assert_eq!(rt; told.number, Some(0));
     let found = passes[0].look(|udc| udc.base().get(name).is_some());
     assert_eq!(rt; found.ok(), Some(true));
-    let closed = live.close(rt, passes);
+    let closed = live.close(passes);
     assert_eq!(rt; closed.asked, 1);
     assert_eq!(rt; closed.node.count(), 1);
     Ok(())
@@ -164,7 +164,7 @@ fn crowd<N: Run<Record> + Send + Sync, R: Threads + Wait + Abort + Sync>(
         },
     );
     assert!(rt; !failed.into_inner());
-    let closed = live.close(rt, all);
+    let closed = live.close(all);
     assert_eq!(rt; closed.asked, u64::from(askers) * u64::from(asks));
     Ok(())
 }
@@ -260,7 +260,7 @@ fn until_stored<N: Run<Record> + Send + Sync, R: Wait + Abort>(
     let request = edit(1).ok_or("a request")?;
     let found = first_reply(rt, &live, &mut passes[0], &request);
     assert_eq!(rt; passes[0].look(|udc| udc.front()).ok(), Some(1));
-    let closed = live.close(rt, passes);
+    let closed = live.close(passes);
     assert_eq!(rt; closed.asked, 1);
     Ok(found.ok_or("no answer")?)
 }
@@ -314,7 +314,7 @@ fn three_edits<N: Run<Record> + Send + Sync, R: Wait + Abort>(
     let (live, mut passes) = open_live::<UdcRules, MemDisk, N, &R>(rt, alloc, node, 1, start)?;
     assert!(rt; store_each(rt, &live, &mut passes[0], 3));
     assert_eq!(rt; passes[0].look(|udc| udc.front()).ok(), Some(3));
-    let closed = live.close(rt, passes);
+    let closed = live.close(passes);
     assert_eq!(rt; closed.asked, 3);
     assert_eq!(rt; closed.node.count(), 3);
     Ok(())

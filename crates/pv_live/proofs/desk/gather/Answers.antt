@@ -4,4 +4,4 @@ use Rattle.pv_live.proofs.desk.gather.Goals as goal
 
 -- at first none was taken
 pub loop-pass-init : goal.loop-pass-init
-loop-pass-init g c = ([], sym (append-nil c.args.passes.items), tt, omega arith, omega arith, omega arith, omega arith)
+loop-pass-init g c = ([], sym (append-nil c.args.passes.items), tt, omega arith, omega arith, omega arith, omega arith, c.requires.whole)

@@ -9,6 +9,7 @@ invariant-loop-pass g l =
     (rest : List (Standing g.row.R-Rec.Denot)) × (l.fn.passes.items ≡ l.passes.items ++ rest) × EachHasSeenPrefix l.known rest
     × (l.told.amount ≡ l.fn.told.amount + told_count rest) × (l.told.parts ≡ l.fn.told.parts + length rest)
     × (l.failed.amount ≡ l.fn.failed.amount + failed_count rest) × (l.failed.parts ≡ l.fn.failed.parts + length rest)
+    × (l.appender.count ≡ length l.known)
 
 abbrev pub decreases-loop-pass : goal.decreases-loop-pass
 decreases-loop-pass g l = vec_len l.passes

@@ -1,6 +1,6 @@
 use Rattle.std.proofs.Common.{refl, ap, sym, arith}
 use Rattle.pv_journal.proofs.CallerLemmas.{spends_most, spends_none, spends_then}
-use Rattle.pv_live.proofs.Growing.{grows_then, grows_published, grows_asked}
+use Rattle.pv_live.proofs.Growing.{grows_published, grows_settled, grows_asked}
 use Rattle.pv_live.proofs.Asks.{seen_since, asked_earlier, kept_for}
 use Rattle.pv_live.proofs.desk.Desk+R+D+N+H+Published+R+N+Change+R+N.ask.Goals as goal
 
@@ -62,7 +62,20 @@ returns-clause-told g c =
     (record c.decide.new.pass { seen = c.decide.new.self.log }) c.in-Ok.told c.in-Ok.ensures.told)
 
 pub returns-then-not-publish-clause-grows : goal.returns-then-not-publish-clause-grows
-returns-then-not-publish-clause-grows g c = grows_published c.args.pass.now.number c.args.self.now c.publish.new.self c.publish.ensures.same
+returns-then-not-publish-clause-grows g c =
+    grows_published g.R.Rules g.N.Run.limits g.N.Run.opening c.args.request.now c.args.pass.now.number
+    c.args.self.now c.publish.new.self c.publish.ensures.same
+
+pub returns-in-Err-clause-grows : goal.returns-in-Err-clause-grows
+returns-in-Err-clause-grows g c =
+    grows_settled g.R.Rules g.N.Run.limits g.N.Run.opening c.args.request.now c.args.pass.now.number
+    c.args.self.now c.publish.new.self c.settle.new.self c.settle.new.self c.publish.ensures.same c.settle.ensures.grows refl
+
+pub returns-then-not-publish-2-clause-grows : goal.returns-then-not-publish-2-clause-grows
+returns-then-not-publish-2-clause-grows g c =
+    grows_settled g.R.Rules g.N.Run.limits g.N.Run.opening c.args.request.now c.args.pass.now.number
+    c.args.self.now c.publish.new.self c.settle.new.self c.publish-2.new.self c.publish.ensures.same c.settle.ensures.grows
+    c.publish-2.ensures.same
 
 pub returns-in-Err-decide-clause-grows : goal.returns-in-Err-decide-clause-grows
 returns-in-Err-decide-clause-grows g c =
@@ -70,10 +83,10 @@ returns-in-Err-decide-clause-grows g c =
     let second = c.publish-2.ensures.done c.if-not-publish-2.false in
     let since = seen_since c.args.pass.now c.publish.new.pass c.settle.new.pass c.publish-2.new.pass c.publish.new.self c.publish-2.new.self
     first c.in_default.ensures.settled.1 second in
-    grows_asked c.args.pass.now.number c.args.self.now c.publish.new.self c.settle.new.self c.publish-2.new.self
-    c.decide.new.self c.publish.new.pass.number c.publish-2.new.pass.number c.publish.ensures.same
-    c.settle.ensures.grows (ap (λ p. p.number) first.seen)
-    c.publish-2.ensures.same c.decide.ensures.grows since.1
+    grows_asked g.R.Rules g.N.Run.limits g.N.Run.opening c.args.request.now c.args.pass.now.number
+    _ c.args.self.now c.publish.new.self c.settle.new.self c.publish-2.new.self c.decide.new.self c.decide.new.self
+    c.publish-2.new.pass.number c.publish.ensures.same c.settle.ensures.grows c.in_default.ensures.settled.0 c.publish-2.ensures.same
+    c.in-Err-decide.ensures.grows since.1 refl
 
 pub returns-then-not-publish-3-clause-grows : goal.returns-then-not-publish-3-clause-grows
 returns-then-not-publish-3-clause-grows g c =
@@ -81,12 +94,10 @@ returns-then-not-publish-3-clause-grows g c =
     let second = c.publish-2.ensures.done c.if-not-publish-2.false in
     let since = seen_since c.args.pass.now c.publish.new.pass c.settle.new.pass c.publish-2.new.pass c.publish.new.self c.publish-2.new.self
     first c.in_default.ensures.settled.1 second in
-    let asked = grows_asked c.args.pass.now.number c.args.self.now c.publish.new.self c.settle.new.self c.publish-2.new.self
-    c.decide.new.self c.publish.new.pass.number c.publish-2.new.pass.number c.publish.ensures.same
-    c.settle.ensures.grows (ap (λ p. p.number) first.seen)
-    c.publish-2.ensures.same c.decide.ensures.grows since.1 in
-    grows_then c.args.pass.now.number c.args.self.now c.decide.new.self c.publish-3.new.self asked
-    (grows_published c.args.pass.now.number c.decide.new.self c.publish-3.new.self c.publish-3.ensures.same)
+    grows_asked g.R.Rules g.N.Run.limits g.N.Run.opening c.args.request.now c.args.pass.now.number
+    c.in-Ok.told.number c.args.self.now c.publish.new.self c.settle.new.self c.publish-2.new.self c.decide.new.self c.publish-3.new.self
+    c.publish-2.new.pass.number c.publish.ensures.same c.settle.ensures.grows c.in_default.ensures.settled.0 c.publish-2.ensures.same
+    c.in-Ok.ensures.grows since.1 c.publish-3.ensures.same
 
 pub returns-clause-grows : goal.returns-clause-grows
 returns-clause-grows g c =
@@ -94,9 +105,7 @@ returns-clause-grows g c =
     let second = c.publish-2.ensures.done c.if-not-publish-2.false in
     let since = seen_since c.args.pass.now c.publish.new.pass c.settle.new.pass c.publish-2.new.pass c.publish.new.self c.publish-2.new.self
     first c.in_default.ensures.settled.1 second in
-    let asked = grows_asked c.args.pass.now.number c.args.self.now c.publish.new.self c.settle.new.self c.publish-2.new.self
-    c.decide.new.self c.publish.new.pass.number c.publish-2.new.pass.number c.publish.ensures.same
-    c.settle.ensures.grows (ap (λ p. p.number) first.seen)
-    c.publish-2.ensures.same c.decide.ensures.grows since.1 in
-    grows_then c.args.pass.now.number c.args.self.now c.decide.new.self c.publish-3.new.self asked
-    (grows_published c.args.pass.now.number c.decide.new.self c.publish-3.new.self c.publish-3.ensures.same)
+    grows_asked g.R.Rules g.N.Run.limits g.N.Run.opening c.args.request.now c.args.pass.now.number
+    c.in-Ok.told.number c.args.self.now c.publish.new.self c.settle.new.self c.publish-2.new.self c.decide.new.self c.publish-3.new.self
+    c.publish-2.new.pass.number c.publish.ensures.same c.settle.ensures.grows c.in_default.ensures.settled.0 c.publish-2.ensures.same
+    c.in-Ok.ensures.grows since.1 c.publish-3.ensures.same

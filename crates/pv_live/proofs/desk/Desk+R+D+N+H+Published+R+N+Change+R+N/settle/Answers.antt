@@ -1,9 +1,9 @@
-use Rattle.std.proofs.Common.{inl, inr, arith, ap, ◌∙◌}
+use Rattle.std.proofs.Common.{[], ◌∷◌, ◌++◌, inl, inr, arith, ap, sym, ◌∙◌}
 use Rattle.left_right.specs.Handles.{published, pending}
 use Rattle.pv_live.specs.declared.entry.Entry.{Entry}
 use Rattle.pv_live.proofs.Lists.{fold_last}
 use Rattle.pv_live.proofs.Desks.{desk_more, hand_made}
-use Rattle.pv_live.proofs.Growing.{grows_none}
+use Rattle.pv_live.proofs.Growing.{settles_none, settles_one}
 use Rattle.pv_live.proofs.desk.Desk+R+D+N+H+Published+R+N+Change+R+N.settle.Goals as goal
 
 -- the record in hand is the next one of the run
@@ -30,15 +30,26 @@ invariant_of-self-in-Ok-Some g c =
       i.3,
       i.4,
       i.5,
+      c.take_in.ensures.supplied,
     )
 
 -- what was in hand still is
 pub returns-in-Err-clause-grows : goal.returns-in-Err-clause-grows
 returns-in-Err-clause-grows g c =
-    grows_none c.args.pass.now.number c.args.self.now _ (ap (λ b. b.log) c.self.view_is)
-    (inr (inl (c.in-Err.ensures.unsettled.hand ∙ ap (λ b. b.node.hand) c.self.view_is, ap (λ b. b.maker) c.self.view_is)))
+    settles_none c.args.self.now _ (ap (λ b. b.log) c.self.view_is)
+    (inr (c.in-Err.ensures.unsettled.hand ∙ ap (λ b. b.node.hand) c.self.view_is, ap (λ b. b.maker) c.self.view_is))
 
 pub returns-in-Ok-None-clause-grows : goal.returns-in-Ok-None-clause-grows
 returns-in-Ok-None-clause-grows g c =
     let settled = rw c.in-Ok-None.field-0-is at c.in-Ok-None.ensures.settled in
-    grows_none c.args.pass.now.number c.args.self.now _ (ap (λ b. b.log) c.self.view_is) (inl settled.hand)
+    settles_none c.args.self.now _ (ap (λ b. b.log) c.self.view_is) (inl settled.hand)
+
+-- it is stored for the pass whose ask made it
+pub returns-in-Ok-Some-clause-grows : goal.returns-in-Ok-Some-clause-grows
+returns-in-Ok-Some-clause-grows g c =
+    let stored = rw c.in-Ok-Some.field-0-is at c.in-Ok-Some.ensures.settled in
+    let entry : Entry g.row.R-Rec.Denot = record { rec = c.in-Ok-Some.rec; pass = c.self.inside.maker } in
+    settles_one c.args.self.now _ entry
+    (c.take_in.ensures.known ∙ ap (λ b. b.log ++ entry ∷ []) c.self.view_is)
+    (sym (ap (λ b. b.node.hand) c.self.view_is) ∙ stored.was, ap (λ b. b.maker) c.self.view_is)
+    stored.hand

@@ -1,10 +1,10 @@
-use Rattle.std.proofs.Common.{◌≡◌, inl, inr, ◌+◌, ◌≤◌, length, refl, arith, ap, sym, ◌∙◌}
+use Rattle.std.proofs.Common.{◌≡◌, [], ◌∷◌, ◌++◌, inl, inr, ◌+◌, ◌≤◌, length, refl, arith, ap, sym, ◌∙◌}
 use Rattle.left_right.specs.Handles.{published, pending}
 use Rattle.pv_history.proofs.CallerLemmas.{prefix_self}
 use Rattle.pv_live.specs.declared.entry.Entry.{Entry}
 use Rattle.pv_live.proofs.Lists.{fold_last}
 use Rattle.pv_live.proofs.Desks.{node_state, node_count, desk_more, desk_taken, reply_is, storing, taking, refusing, refusing_same}
-use Rattle.pv_live.proofs.Growing.{grows_none}
+use Rattle.pv_live.proofs.Growing.{grows_none, grows_stored}
 use Rattle.pv_live.proofs.desk.Desk+R+D+N+H+Published+R+N+Change+R+N.store.Goals as goal
 
 pub take_in-requires-clause-made : goal.take_in-requires-clause-made
@@ -38,6 +38,7 @@ invariant_of-self g c =
       i.3,
       i.4,
       i.5,
+      c.take_in.ensures.supplied,
     )
 
 pub invariant_of-self-in-Err-Disk : goal.invariant_of-self-in-Err-Disk
@@ -58,6 +59,7 @@ invariant_of-self-in-Err-Disk g c =
       i.3,
       i.4,
       i.5,
+      i.6,
     )
 
 pub returns-in-Ok-clause-told : goal.returns-in-Ok-clause-told
@@ -106,10 +108,47 @@ returns-in-Err-Full-clause-failed g c =
           c.args.pass.now seen carried,
     )
 
+-- what is stored is for this pass
+pub returns-in-Ok-clause-grows : goal.returns-in-Ok-clause-grows
+returns-in-Ok-clause-grows g c =
+    let d = c.self.inside in
+    let i = c.self.invariant in
+    let node = ap (λ b. b.node) c.self.view_is in
+    let judged = rw (← node) at c.requires.judged in
+    let none = ap (λ n. n.hand) node ∙ c.requires.settled in
+    let s = storing g.R.Rules g.D.Reports g.N.Run.limits g.N.Run.opening d.known d.told.total d.failed.total d.node i.0
+    c.args.request.now c.args.rec c.requires.valid judged g.row.D-Failure.Denot c.ask.new.self c.in-Ok.told
+    (c.in-Ok.ensures.answers none) in
+    let entry : Entry g.row.R-Rec.Denot = record { rec = c.args.rec; pass = c.pass.inside.number } in
+    rw s.2 (grows_stored g.R.Rules g.N.Run.limits g.N.Run.opening c.args.request.now c.args.pass.now.number
+    c.args.self.now _ entry d.node.journal.count (c.take_in.ensures.known ∙ ap (λ b. b.log ++ entry ∷ []) c.self.view_is)
+    (ap (λ p. p.number) c.pass.view_is) s.0.hand)
+
 -- what is in hand is for this pass
 pub returns-in-Err-Disk-clause-grows : goal.returns-in-Err-Disk-clause-grows
 returns-in-Err-Disk-clause-grows g c =
-    grows_none c.args.pass.now.number c.args.self.now _ (ap (λ b. b.log) c.self.view_is) (inr (inr (ap (λ p. p.number) c.pass.view_is)))
+    let d = c.self.inside in
+    let i = c.self.invariant in
+    let node = ap (λ b. b.node) c.self.view_is in
+    let judged = rw (← node) at c.requires.judged in
+    let none = ap (λ n. n.hand) node ∙ c.requires.settled in
+    let carried = rw c.in-Err-Disk.field-0-is at c.in-Err-Disk.ensures.answers none in
+    let t = taking g.R.Rules g.D.Reports g.N.Run.limits g.N.Run.opening d.known d.told.total d.failed.total d.node i.0
+    c.args.request.now c.args.rec c.requires.valid judged g.row.D-Failure.Denot c.ask.new.self c.in-Err-Disk.failure carried in
+    let replied = reply_is g.R.Rules g.D.Reports g.N.Run.limits g.N.Run.opening d.known d.told.total d.failed.total d.node i.0
+    c.args.request.now c.args.rec c.requires.valid judged in
+    grows_none g.R.Rules g.N.Run.limits g.N.Run.opening c.args.request.now c.args.pass.now.number
+    c.args.self.now _ (ap (λ b. b.log) c.self.view_is) (inr (inr (record {
+      rec = c.args.rec;
+      reply = replied.0;
+      hand = t.0.hand;
+      maker = ap (λ p. p.number) c.pass.view_is;
+      judged = (
+        d.node.state,
+        node_state g.R.Rules g.D.Reports g.N.Run.limits g.N.Run.opening d.known d.told.total d.failed.total d.node i.0,
+        replied.1,
+      );
+    })))
 
 pub returns-in-Err-Full-clause-grows : goal.returns-in-Err-Full-clause-grows
 returns-in-Err-Full-clause-grows g c =
@@ -121,4 +160,5 @@ returns-in-Err-Full-clause-grows g c =
     let same = refusing_same g.R.Rules g.D.Reports g.N.Run.limits g.N.Run.opening d.known d.told.total d.failed.total d.node
     c.self.invariant.0 c.args.request.now c.args.rec c.requires.valid judged g.row.D-Failure.Denot c.ask.new.self
     c.in-Err-Full.count carried in
-    grows_none c.args.pass.now.number c.args.self.now _ (ap (λ b. b.log) c.self.view_is) (inl (ap (λ n. n.hand) same ∙ none))
+    grows_none g.R.Rules g.N.Run.limits g.N.Run.opening c.args.request.now c.args.pass.now.number
+    c.args.self.now _ (ap (λ b. b.log) c.self.view_is) (inl (ap (λ n. n.hand) same ∙ none))
