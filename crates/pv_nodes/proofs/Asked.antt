@@ -24,7 +24,7 @@ module _ {S State Request Rec Reply : Type 0} (r : rules.Ghosts S State Request 
         → StandsFor r memory.ghosts new (records_with records (stored_of limit count d))
     pub hand : new.hand ≡ None
 
-  -- a reply was told, or this one
+  -- the reply is in the answer, or is this one
   abbrev reply_or : Told Reply → Result (Told Reply) (AskFault Medium Failed) → Told Reply
   reply_or other (Ok told) = told
   reply_or other (Err fault) = other

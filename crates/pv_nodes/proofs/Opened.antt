@@ -13,7 +13,7 @@ use Rattle.pv_node.specs.Opening.{IsOutside, IsOpenDiskFault}
 use Rattle.pv_node.specs.declared.fault.NodeFault.{NodeFault}
 use Rattle.pv_node.specs.declared.fault.NodeFault.TheVariants.{Memory, Disk, NotFormatted, Broken, TooMany, Unreadable}
 
--- a fault of the outside that is none of the disk is want of memory
+-- a fault of the outside that is none of the disk is that memory ran out
 pub only_memory : {D F : Type 0} (fault : NodeFault D F) → IsOutside fault → (IsOpenDiskFault fault → ⊥) → fault ≡ Memory
 only_memory Memory outside no_disk = refl
 only_memory (Disk failure) outside no_disk = absurd (no_disk tt)

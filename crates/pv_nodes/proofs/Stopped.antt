@@ -10,7 +10,7 @@ use Rattle.pv_outside.specs.declared.limits.Limits.{Limits}
 use Rattle.pv_memory.specs.Medium.{Medium, moment_of, IsImage, budget_of}
 use Rattle.pv_memory.specs.MediumLaws.{new_disk}
 use Rattle.pv_memory.specs.contracts.disk.MemDiskReports.TheImpl as memory
-use Rattle.pv_node.specs.Asking.{CarriesOut, FailsOnDisk, records_with}
+use Rattle.pv_node.specs.Asking.{CarriesOut, AskFailsOnDisk, records_with}
 use Rattle.pv_node.specs.Parts.{Parts}
 use Rattle.pv_node.specs.Standing.{Stands, StandsEither, StandsFor, DiskStands, Meets, MeetsBoth}
 use Rattle.pv_node.specs.declared.decision.Decision.{Decision}
@@ -25,7 +25,7 @@ use Rattle.pv_irc.specs.Growing.{grown}
 use Rattle.pv_irc.specs.History.{CentreState, centre_state_of, with_centre_record}
 use Rattle.pv_irc.specs.declared.record.CentreRecord.{CentreRecord}
 use Rattle.pv_nodes.specs.OnDisk.{list_with, centre_with}
-use Rattle.pv_nodes.specs.declared.cut.TheConstants.{APPEND_CALLS, GATE_CALLS}
+use Rattle.pv_journal.specs.declared.storing.TheConstants.{APPEND_CALLS, GATE_CALLS}
 use Rattle.pv_nodes.specs.declared.cut.Cut.TheVariants.{Kept, Lost}
 use Rattle.pv_nodes.specs.Cutting.{cut_by, IsLeft, IsLeftWith, IsCut}
 use Rattle.pv_nodes.specs.Nodes.{stored_of, HasRecords, IsReady}
@@ -93,7 +93,7 @@ module _ {S State Request Rec Reply : Type 0} (r : rules.Ghosts S State Request 
 
     -- what the disk then stands for, by what was decided and what came of it
     pub left_by : (d : Decision Rec Reply) (result : Result (Told Reply) (AskFault Medium Failed))
-        → CarriesOut r memory.ghosts d old new result → (APPEND_CALLS ≤ calls → FailsOnDisk result → ⊥)
+        → CarriesOut r memory.ghosts d old new result → (APPEND_CALLS ≤ calls → AskFailsOnDisk result → ⊥)
         → IsLeft r calls (stored_of (r.limits_of old.state).records (r.count_of old.state) d) (r.limits_of old.state) disk records
     left_by (Answer reply) result is passes = unchanged is.1
     left_by (Store rec reply) (Ok told) is passes =
@@ -194,7 +194,7 @@ module _ {S State Request Rec Reply : Type 0} (r : rules.Ghosts S State Request 
       ];
     }
 
-    -- what became of the record is told by the counts
+    -- the counts say what became of the record
     pub cut_by_counts : (stored : Option Rec) → AreLeft stored
         → IsCut r calls stored (cut_by (is_some stored) (r.count_of old.state) (r.count_of new.state)) old new
     cut_by_counts None left = record { may = tt; limits = same; stands = λ records stood. opened records (left records stood).stands }

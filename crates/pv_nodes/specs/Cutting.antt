@@ -1,8 +1,9 @@
 -- A node that stops within an ask: its disk passes some more calls and then none, and the node is opened again from what a crash
 -- leaves.
-use Rattle.std.specs.Prelude.{◌≡◌, ◌⊎◌, ℕ, ◌<◌, ◌≤◌, ◌==◌, Bool, if◌then◌else◌, List, [], ◌∷◌, ◌++◌, Option, Some, None}
+use Rattle.std.specs.Prelude.{◌≡◌, ◌⊎◌, ℕ, ◌+◌, ◌<◌, ◌≤◌, ◌==◌, Bool, if◌then◌else◌, List, [], ◌∷◌, ◌++◌, Option, Some, None}
 use Rattle.pv_outside.specs.declared.limits.Limits.{Limits}
-use Rattle.pv_memory.specs.Medium.{Medium}
+use Rattle.pv_journal.specs.Journal.{HasLeft}
+use Rattle.pv_memory.specs.Medium.{Medium, budget_of, image_of}
 use Rattle.pv_memory.specs.contracts.disk.MemDiskReports.TheImpl as memory
 use Rattle.pv_node.specs.Asking.{records_with}
 use Rattle.pv_node.specs.Parts.{Parts}
@@ -10,7 +11,7 @@ use Rattle.pv_node.specs.Standing.{Meets, DiskStands, StandsFor}
 use Rattle.pv_node.specs.declared.rules.Rules as rules
 use Rattle.pv_nodes.specs.declared.cut.Cut.{Cut}
 use Rattle.pv_nodes.specs.declared.cut.Cut.TheVariants.{NotStored, Kept, Lost}
-use Rattle.pv_nodes.specs.declared.cut.TheConstants.{APPEND_CALLS, GATE_CALLS}
+use Rattle.pv_journal.specs.declared.storing.TheConstants.{APPEND_CALLS, GATE_CALLS}
 
 -- what became of a record, if one was to be stored, by how many there were and are
 abbrev pub cut_by : Bool → ℕ → ℕ → Cut
@@ -30,6 +31,16 @@ module _ {Rec : Type 0} where
   kept_record stored NotStored = None
   kept_record stored Kept = stored
   kept_record stored Lost = None
+
+-- A stop of a node with this disk: an ask is made on a disk of the same bytes, of which this many more calls pass; and the text is the image
+-- of this number of the disk that it leaves.
+pub record IsStop (calls image : ℕ) (disk : Medium) (text : List ℕ) : Type 0 where
+  pub begun : Medium
+  pub stopped : Medium
+  pub bytes : begun.text ≡ disk.text
+  pub left : HasLeft calls (budget_of begun)
+  pub passed : stopped.clock ≤ begun.clock + calls
+  pub image_is : text ≡ image_of stopped image
 
 module _ {S State Request Rec Reply : Type 0} (r : rules.Ghosts S State Request Rec Reply) where
   -- the disk stands for these records, and they meet the limits

@@ -32,7 +32,7 @@ list_with list (Some edit) = with_record list edit
 
 -- ---- a retrieval centre
 
--- what it knows is what its records come to, and each image of its disk spells them
+-- what it knows is what its records make, and each image of its disk spells them
 pub record CentreIsOnDisk (node : OnDisk CentreState) : Type 0 where
   pub records : List CentreRecord
   pub state : node.state ≡ centre_state_of node.state.centre node.state.limits records

@@ -2,11 +2,11 @@ ghost use Rattle.std.specs.Prelude.{◌≡◌, ◌<◌, ◌≤◌, [], IfOk, OnO
 ghost use Rattle.pv_memory.specs.Medium.{image_of};
 ghost use Rattle.pv_irc.specs.Deciding.{IsCentreRequest, centre_judgement};
 ghost use Rattle.pv_irc.specs.History.{centre_state_of, state_count};
-ghost use Rattle.pv_nodes.specs.Cutting.{MayBecome, kept_record};
+ghost use Rattle.pv_nodes.specs.Cutting.{MayBecome, kept_record, IsStop};
 ghost use Rattle.pv_nodes.specs.Nodes.{told_of, stored_of};
 ghost use Rattle.pv_nodes.specs.OnDisk.{CentreIsOnDisk, centre_with};
 ghost use Rattle.pv_nodes.specs.AnyNode.{on_disk};
-ghost use Rattle.pv_nodes.specs.declared.centre.TheConstants.{CENTRES};
+ghost use Rattle.pv_account.specs.declared.account.TheConstants.{MAX_CENTRES};
 
 use crate::cut::Cut;
 use crate::mem::MemNode;
@@ -15,9 +15,6 @@ use pv_node::Told;
 use pv_outside::Limits;
 use std::alloc::{AllocError, Global};
 use std::marker::Model;
-
-/// How many centres there may be.
-pub const CENTRES: u8 = 4;
 
 /// A node of the rules of one of the four numbers.
 #[derive(Drop)]
@@ -63,10 +60,10 @@ impl Drop for CentreNode {
 }
 
 impl CentreNode {
-    /// The node of the centre of this number, which is below [`CENTRES`], with no records. All memory that it
-    /// ever needs is taken here.
+    /// The node of the centre of this number, which is below [`MAX_CENTRES`](pv_account::MAX_CENTRES), with no
+    /// records. All memory that it ever needs is taken here.
     pub fn open(alloc: Global, number: u8, limits: Limits) -> Result<CentreNode, AllocError>
-        requires { number < CENTRES }
+        requires { number < MAX_CENTRES }
         ensures nothing { IfOk result (λ node. node.state ≡ centre_state_of number limits []) }
         ensures on_disk { IfOk result CentreIsOnDisk }
     {
@@ -136,6 +133,9 @@ impl CentreNode {
         ensures state { IfOk result (λ cut. self.new.state ≡ centre_with self.old.state (kept_record
             (stored_of self.old.state.limits.records (state_count self.old.state)
             (centre_judgement self.old.state request.now)) cut)) }
+
+        // The disk is left with the image, and without memory nothing happened.
+        ensures bytes { OnOk result (IsStop calls image self.old.disk self.new.disk.text) }
         ensures err { OnErr result (self.new ≡ self.old) }
         ensures on_disk { CentreIsOnDisk self.new }
     {
@@ -182,6 +182,9 @@ fn cut_node<const C: u8>(
     ensures state { IfOk result (λ cut. node.new.state ≡ centre_with node.old.state (kept_record
         (stored_of node.old.state.limits.records (state_count node.old.state)
         (centre_judgement node.old.state request.now)) cut)) }
+
+    // The disk is left with the image, and without memory nothing happened.
+    ensures bytes { OnOk result (IsStop calls image node.old.journal.disk node.new.journal.disk.text) }
     ensures err { OnErr result (node.new ≡ node.old) }
     ensures on_disk { CentreIsOnDisk (on_disk node.new) }
 {

@@ -1,12 +1,6 @@
 ghost use Rattle.std.specs.Prelude.{◌≡◌};
 ghost use Rattle.pv_nodes.specs.Cutting.{cut_by};
 
-/// How many calls of the disk an append makes: from then on its record is on the disk.
-pub const APPEND_CALLS: u8 = 4;
-
-/// How many of them pass before the gate is written: until then its record is not on the disk.
-pub const GATE_CALLS: u8 = 2;
-
 /// What became of the record of an ask within which the node stopped.
 #[derive(Clone, Copy, Debug, PartialEq, Eq)]
 pub enum Cut {

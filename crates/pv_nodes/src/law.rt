@@ -19,7 +19,8 @@ pub fn a_centre_shows_what_the_list_shows()
         ≡ frame_at records name }
     ensures account { (records : List Record) (number : ℕ) → account_at (records_below records) number
         ≡ account_at records number }
-    ensures sight { (records : List Record) (letters : ℕ → List WaitingLetter) (centre : ℕ) (caller : Option ℕ)
+    ensures sight { (records : List Record) (letters : ℕ → List WaitingLetter) (centre : ℕ)
+        → (caller : Option ℕ)
         → sight_of (records_below records) letters centre caller ≡ sight_of records letters centre caller }
     ensures letter { (records : List Record) (centre account place : ℕ)
         → letter_down centre account (map down_of records) place ≡ letter_at records centre account place }

@@ -29,8 +29,8 @@ mod law;
 mod mem;
 mod update;
 
-pub use centre::{CENTRES, CentreNode};
-pub use cut::{APPEND_CALLS, Cut, GATE_CALLS};
+pub use centre::CentreNode;
+pub use cut::Cut;
 pub use law::a_centre_shows_what_the_list_shows;
 pub use mem::MemNode;
 pub use update::UpdateNode;

@@ -6,7 +6,7 @@ ghost use Rattle.pv_memory.specs.contracts.disk.MemDiskReports.TheImpl as memory
 ghost use Rattle.pv_node.specs.Asking.{records_with};
 ghost use Rattle.pv_node.specs.Standing.{DiskStands, StandsFor};
 ghost use Rattle.pv_node.specs.declared.fault.NodeFault.TheVariants as faults;
-ghost use Rattle.pv_nodes.specs.Cutting.{IsLeft, IsCut};
+ghost use Rattle.pv_nodes.specs.Cutting.{IsLeft, IsCut, IsStop};
 ghost use Rattle.pv_nodes.specs.Nodes.{IsMemNode, IsReady, told_of, stored_of, state_with, OpensAgain};
 
 use crate::cut::Cut;
@@ -135,6 +135,9 @@ impl<R: Rules> MemNode<R> {
         ensures ok { IfOk result (λ cut. IsCut ⟦<R as Rules>⟧ calls
             (stored_of (R.limits_of self.old.state).records (R.count_of self.old.state)
             (R.judgement self.old.state request.now)) cut self.old self.new) }
+
+        // The disk is left with the image, and without memory nothing happened.
+        ensures bytes { OnOk result (IsStop calls image self.old.journal.disk self.new.journal.disk.text) }
         ensures err { OnErr result (self.new ≡ self.old) }
         ensures is { IsMemNode ⟦<R as Rules>⟧ self.new }
     {
@@ -175,6 +178,7 @@ impl<R: Rules> MemNode<R> {
             (R.judgement self.now.state request.now)) (R.limits_of self.now.state) disk records) }
         ensures endless { IfOk result
             (λ disk. IsEndless (longest (R.limits_of self.now.state).records) (budget_of disk)) }
+        ensures bytes { IfOk result (λ disk. IsStop calls image self.now.journal.disk disk.text) }
     {
         let disk = self.node.disk().image(alloc, AS_IT_READS)?;
         let Ok(mut node) = open_node::<R>(alloc, disk, self.limits) else {

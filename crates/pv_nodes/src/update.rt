@@ -3,7 +3,7 @@ ghost use Rattle.pv_memory.specs.Medium.{image_of};
 ghost use Rattle.pv_udc.specs.EditList.{empty_list};
 ghost use Rattle.pv_udc.specs.Judgement.{judge};
 ghost use Rattle.pv_udc.specs.Requests.{IsRequest};
-ghost use Rattle.pv_nodes.specs.Cutting.{MayBecome, kept_record};
+ghost use Rattle.pv_nodes.specs.Cutting.{MayBecome, kept_record, IsStop};
 ghost use Rattle.pv_nodes.specs.Nodes.{told_of, stored_of};
 ghost use Rattle.pv_nodes.specs.OnDisk.{UpdateIsOnDisk, list_with};
 
@@ -104,6 +104,9 @@ impl UpdateNode {
         ensures state { IfOk result (λ cut. self.new.state ≡ list_with self.old.state (kept_record
             (stored_of self.old.state.limits.records (length self.old.state.records)
             (judge self.old.state.limits self.old.state.records request.now)) cut)) }
+
+        // The disk is left with the image, and without memory nothing happened.
+        ensures bytes { OnOk result (IsStop calls image self.old.disk self.new.disk.text) }
         ensures err { OnErr result (self.new ≡ self.old) }
         ensures on_disk { UpdateIsOnDisk self.new }
     {

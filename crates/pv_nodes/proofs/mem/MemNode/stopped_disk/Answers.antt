@@ -1,12 +1,12 @@
 use Rattle.std.proofs.Common.{◌≡◌, ◌<◌, List, None, refl, ap, sym, subst, ◌∙◌, arith}
 use Rattle.pv_outside.specs.Disk.{HasCalls, IsEndless}
 use Rattle.pv_journal.specs.Log.{longest}
-use Rattle.pv_memory.specs.Medium.{Medium, moment_of, IsImage, budget_of}
+use Rattle.pv_memory.specs.Medium.{Medium, moment_of, IsImage, budget_of, image_of}
 use Rattle.pv_memory.specs.contracts.disk.MemDiskReports.TheImpl as memory
 use Rattle.pv_node.specs.Parts.{Parts}
 use Rattle.pv_node.specs.Standing.{Stands, StandsEither, StandsFor}
-use Rattle.pv_nodes.specs.declared.cut.TheConstants.{APPEND_CALLS, GATE_CALLS}
-use Rattle.pv_nodes.specs.Cutting.{IsLeft}
+use Rattle.pv_journal.specs.declared.storing.TheConstants.{APPEND_CALLS, GATE_CALLS}
+use Rattle.pv_nodes.specs.Cutting.{IsLeft, IsStop}
 use Rattle.pv_nodes.specs.Nodes.{stored_of}
 use Rattle.pv_nodes.proofs.Opened.{image_stands, if_ok}
 use Rattle.pv_nodes.proofs.Stopped.{left_by, endless_calls, fewer_calls, endless_again, same_left}
@@ -84,3 +84,23 @@ returns-clause-endless g c =
     let here = subst (λ (d : Medium). HasCalls 0 (longest (g.R.Rules.limits_of c.args.self.now.state).records) (budget_of d)) (sym c.disk-2.ensures) room in
     if_ok c.image-2.result (λ disk is. subst (λ (d : Medium). IsEndless (longest (g.R.Rules.limits_of c.args.self.now.state).records) (budget_of d)) (sym is)
     (endless_again _ c.disk-2.result.now _ refl here disk.text)) c.image-2.ensures.fresh
+
+-- the ask was made on a disk of the same bytes, of which as many calls passed, and the image is one of the disk that it left
+stop_of : (g : Over) (c : goal.After-drop-node-inside-6 g) (disk : Medium) → disk.text ≡ image_of c.disk-2.result.now c.args.image
+    → IsStop c.args.calls c.args.image c.args.self.now.journal.disk disk.text
+stop_of g c disk is =
+    let left = c.fuse.ensures.left _ (endless_calls 0 _ _ c.in-Ok.ensures.opened.endless) in
+    let copied : c.in_ok-disk.disk.text ≡ c.args.self.now.journal.disk.text =
+    c.in_ok-disk.ensures.image ∙ ap (λ (d : Medium). d.text) (c.disk.ensures ∙ ap (λ (node : Node g c). node.journal.disk) c.self.view_is) in
+    let reads : c.fuse.new.self.journal.disk.text ≡ c.in-Ok.node.journal.disk.text = cc c.fuse.ensures.disk.reads in
+    let paid = c.ask.ensures.spends.spends.paid c.args.calls left in record {
+      begun = c.fuse.new.self.journal.disk;
+      stopped = c.ask.new.self.journal.disk;
+      bytes = reads ∙ c.in-Ok.ensures.bytes ∙ copied;
+      left = left;
+      passed = omega (arith, paid.2);
+      image_is = is ∙ ap (λ (d : Medium). image_of d c.args.image) c.disk-2.ensures;
+    }
+
+pub returns-clause-bytes : goal.returns-clause-bytes
+returns-clause-bytes g c = if_ok c.image-2.result (stop_of g c) c.image-2.ensures.image
