@@ -1,0 +1,8 @@
+mod Counting
+mod Facts
+mod Laws
+mod Numbering
+mod Phases
+mod Sessions
+mod Settling
+mod Talking
