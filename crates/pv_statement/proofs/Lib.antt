@@ -1,0 +1,6 @@
+mod Dates
+mod Facts
+mod MonthSums
+mod Texts
+mod Walking
+mod Writes
