@@ -1,0 +1,4 @@
+pub mod Options
+pub mod Statements
+pub mod Status
+pub use Rattle.pv_node.specs.Standing
