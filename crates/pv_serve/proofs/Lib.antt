@@ -1,0 +1,3 @@
+mod Disks
+mod Facts
+mod Given
