@@ -1,4 +1,4 @@
--- Only a seed and an editor's line are answered by a reply, and it is a line that begins with a capital letter.
+-- Only a seed and an editor's line are answered by a reply. It stands on one row, and begins with a capital letter.
 use Rattle.std.proofs.Common.{◌≡◌, ℕ, zero, suc, ◌+◌, Bool, true, false, cond, List, [], ◌∷◌, ◌++◌, Option, Some, None, Result, Ok, Err, sym, subst}
 use Rattle.std.specs.Prelude.{All, IfOk, slice_get}
 use Rattle.pv_page.specs.Names.{Name}
@@ -31,7 +31,7 @@ use Rattle.pv_network.specs.declared.way.Way.{Way}
 use Rattle.pv_network.specs.declared.way.Way.TheVariants as ways
 use Rattle.pv_network.specs.Call.{Call, is_waiting, wish_to_store}
 use Rattle.pv_network.specs.Calling.{calls_at, call_at, view_at, holdings_at}
-use Rattle.pv_network.specs.Calls.{Calls, Holdings, step_answer, turn_at, dial_at, hang_at, press_at, away_answer, is_refused, storing_unless, storing_at, store_at, showing_at, show_at}
+use Rattle.pv_network.specs.Calls.{Calls, Holdings, step_answer, turn_at, dial_at, hang_at, press_at, away_answer, lacks_room, storing_unless, storing_at, store_at, showing_at, show_at}
 use Rattle.pv_network.specs.Cutting.{node_of, stored_world, step_of_stop}
 use Rattle.pv_network.specs.Editing.{seed_request, step_of_line}
 use Rattle.pv_network.specs.Keying.{KeyedByte, turns_answer, keys_refusal, step_of_taken_keys, keys_from}
@@ -84,7 +84,7 @@ module _ (holdings : Holdings) (calls : Calls) (port : ℕ) where
 
   storing_answered : (call : Call) (wish : Option Wish) → RepliesByLine (storing_at holdings calls port call wish).1
   storing_answered call None = tt
-  storing_answered call (Some wish) = unless_answered (is_refused holdings wish) call wish
+  storing_answered call (Some wish) = unless_answered (lacks_room holdings wish) call wish
 
   store_answered : (call : Option Call) → RepliesByLine (store_at holdings calls port call).1
   store_answered None = tt

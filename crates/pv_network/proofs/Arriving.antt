@@ -27,7 +27,7 @@ use Rattle.pv_network.specs.declared.arrival.Arrival.{Arrival}
 use Rattle.pv_network.specs.declared.arrival.Arrival.TheVariants as arrivals
 use Rattle.pv_network.specs.Cutting.{record_for}
 use Rattle.pv_network.specs.Centre.{Centre, with_next, record_count, arrival_of, centre_with_arrival, asked_of, reply_to_arrival, state_of_prefix, node_state}
-use Rattle.pv_network.specs.Run.{IsRun}
+use Rattle.pv_network.specs.Run.{IsEditRun}
 use Rattle.pv_network.specs.Sound.{CarriesRecord}
 
 -- ---- one record more
@@ -102,7 +102,7 @@ taken_record _ number rec = None
 -- What came down has the room that the list has.
 module _ (room_below : (limits : Limits) (records : List Record) (edit : Record)
     → has_room limits (records_below records) edit ≡ has_room limits records edit)
-    (c : ℕ) (u : EditList) (run : IsRun u.limits u.records) (centre : Centre) (within : centre.applied ≤ length u.records)
+    (c : ℕ) (u : EditList) (run : IsEditRun u.limits u.records) (centre : Centre) (within : centre.applied ≤ length u.records)
     (number : ℕ) (rec : DownRecord) (carries : CarriesRecord u.records number rec) where
   -- what the centre's node knows
   abbrev state : CentreState
@@ -173,7 +173,8 @@ module _ (room_below : (limits : Limits) (records : List Record) (edit : Record)
   records_taken = by (ltb number centre.applied) (ltb centre.applied number) refl refl
     where
       full : (is_full : Bool) → leb u.limits.records (record_count centre) ≡ is_full → ltb number centre.applied ≡ false
-          → ltb centre.applied number ≡ false → number ≡ centre.applied → record_for state (Some (Apply number rec)) ≡ taken_record arrival number rec
+          → ltb centre.applied number ≡ false → number ≡ centre.applied
+          → record_for state (Some (Apply number rec)) ≡ taken_record arrival number rec
       full true how below above next =
           let same : eqb number centre.applied ≡ true = grind (arith, nat_tests, next) in
           let count : state_count state ≡ record_count centre = omega arith in

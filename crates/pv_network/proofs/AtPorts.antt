@@ -21,9 +21,10 @@ use Rattle.pv_session.specs.Turns.{storing_turn, full_turn}
 use Rattle.pv_network.specs.declared.outcome.Outcome.{Outcome}
 use Rattle.pv_network.specs.declared.outcome.Outcome.TheVariants as outcomes
 use Rattle.pv_network.specs.Call.{Call, call_of, is_waiting, wish_to_store, key_turn}
-use Rattle.pv_network.specs.Calls.{Calls, is_recorded, is_refused, call_among, call_in, IsDone, turn_at, press_at, show_at, away_answer, wish_or_nothing, wish_at, log_ons_with, items_with, removals_with, reply_for, store_at}
+use Rattle.pv_network.specs.Calls.{Calls, makes_record, lacks_room, call_among, call_in, IsDone, turn_at, press_at, show_at, away_answer, wish_or_nothing, wish_at, log_ons_with, items_with, removals_with, reply_for, store_at}
 use Rattle.pv_network.specs.Cutting.{wish_of, is_stored_for, record_for}
-use Rattle.pv_network.specs.Centre.{Held, calls_of, holdings_of, request_for, paid_by, asked_of, Asked, Comes}
+use Rattle.pv_network.specs.Centre.{Held, calls_of, holdings_of, asked_of, Asked, Comes}
+use Rattle.pv_wishes.specs.Wishes.{request_for, paid_by}
 use Rattle.pv_network.proofs.SoundCalls.{none_stored}
 
 -- what is done at the ports is done with the calls
@@ -42,7 +43,8 @@ comes_of old ports outcome step done =
 
 -- what a centre makes of what a call at a port owes
 abbrev Stores : Held → Held → ℕ → Outcome → Type 0
-Stores old new port outcome = Comes old new outcome (store_at (holdings_of old.node.state) (calls_of old) port (call_in (calls_of old) port))
+Stores old new port outcome =
+    Comes old new outcome (store_at (holdings_of old.node.state) (calls_of old) port (call_in (calls_of old) port))
 
 -- a call that is to have a wish stored owes it
 record Owes (found : Option Call) (wish : Wish) : Type 0 where
@@ -58,7 +60,7 @@ owes (Some call) wish is = record { call = call; is = refl; owes = of (wish_to_s
     of None is = absurd cc
     of (Some other) is = cc
 
--- what a node with room makes of a wish: it has what the calls have, and its reply is the one that they are told
+-- what a node with room makes of a wish: it has what the calls have, and it gives them the reply that they expect
 record IsWished (here : Held) (wish : Wish) : Type 0 where
   reply : IrcReply
   told : paid_by reply ≡ reply_for (calls_of here) wish
@@ -69,7 +71,7 @@ record IsWished (here : Held) (wish : Wish) : Type 0 where
     removals = removals_with (holdings_of here.node.state) (calls_of here) wish;
   }
 
-wished : (here : Held) (wish : Wish) → is_refused (holdings_of here.node.state) wish ≡ false → IsWished here wish
+wished : (here : Held) (wish : Wish) → lacks_room (holdings_of here.node.state) wish ≡ false → IsWished here wish
 wished here (wishes.LogOn account) room =
     record { reply = replies.Serial here.node.state.log_ons; told = refl; replied = rw room refl; known = rw room refl }
 wished here (wishes.Charge line) room =
@@ -83,8 +85,8 @@ wished here (wishes.Remove account number) room = by (has_letter (letters_for he
     by true waits room = record { reply = replies.Applied; told = refl; replied = rw (waits, room) refl; known = rw (waits, room) refl }
     by false waits room = record { reply = replies.Nothing; told = refl; replied = rw waits refl; known = rw waits refl }
 
--- a node without room for its record turns a wish away
-unwished : (state : CentreState) (wish : Wish) → is_refused (holdings_of state) wish ≡ true
+-- a node without room for its record refuses a wish
+unwished : (state : CentreState) (wish : Wish) → lacks_room (holdings_of state) wish ≡ true
     → asked_of state (request_for wish) ≡ (Err (state_count state), state)
 unwished state (wishes.LogOn account) full = rw full refl
 unwished state (wishes.Charge line) full = rw full refl
@@ -139,7 +141,7 @@ pub stored_comes : (here : Held) (port : ℕ) (wish : Wish) (found : Option Call
 stored_comes here port wish None is owes stores node known on_disk = absurd cc
 stored_comes here port wish (Some call) is owes stores node known on_disk =
     let holdings = holdings_of here.node.state in
-    let room = not_refused (is_recorded holdings wish) (leb holdings.limit holdings.count) stores in
+    let room = not_refused (makes_record holdings wish) (leb holdings.limit holdings.count) stores in
     let done = wished here wish room in
     let rec : record_for here.node.state (Some (request_for wish)) ≡ Some (record_of_wish wish) =
     recorded_for here.node.state wish ∙ ap (λ (test : Bool). cond test (Some (record_of_wish wish)) None) stores in (
@@ -178,7 +180,7 @@ module _ (old asked : Held) (port : ℕ) (wish : Wish) (result : Result IrcReply
   there = ap (λ (l : List (Option Call)). call_among l port) was.ports ∙ owing.is
 
   abbrev refused : Bool
-  refused = is_refused (holdings_of old.node.state) wish
+  refused = lacks_room (holdings_of old.node.state) wish
 
   -- the reply is noted
   pub noted : (reply : IrcReply) (paid : Paid) → result ≡ Ok reply → paid ≡ paid_by reply

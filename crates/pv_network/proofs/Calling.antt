@@ -15,7 +15,7 @@ use Rattle.pv_udc.specs.Replies.{down_of}
 use Rattle.pv_network.specs.declared.outcome.BillLine.{BillLine}
 use Rattle.pv_network.specs.declared.outcome.Outcome.{Outcome}
 use Rattle.pv_network.specs.Calling.{calls_at, call_at, letters_at, holdings_at, with_calls, step_of_dial, step_of_hang, step_of_press, step_of_store, step_of_show}
-use Rattle.pv_network.specs.Calls.{Calls, Holdings, caller_account, call_in, dial_at, hang_at, press_at, store_at, show_at, IsPortEntry}
+use Rattle.pv_network.specs.Calls.{Calls, Holdings, given_account, call_in, dial_at, hang_at, press_at, store_at, show_at, IsPortEntry}
 use Rattle.pv_network.specs.Charging.{IsChargedWorld, SeatLaws}
 use Rattle.pv_network.specs.Centre.{Centre, Held, CentreStands, Comes, Pressed, calls_of, holdings_of, record_count, node_state}
 use Rattle.pv_network.specs.Crashing.{crash_at, step_of_lost_calls}
@@ -137,7 +137,7 @@ module _ (s : State) (w : World) (stands : StandsFor s w) (c : ℕ) (here : Held
         × StandsFor after (step_of_press w c port key entry).0 × (outcome ≡ (step_of_press w c port key entry).1)
     presses laws by_places below shown key moment moment_is pressed =
         let entry = pressed.entry in
-        let caller = caller_account (call_in (calls_of here) port) in
+        let caller = given_account (call_in (calls_of here) port) in
         let view : sight_of here.node.state.edits (letters_for here.node.state) here.node.state.centre caller
         ≡ sight_of (page_base w c) (letters_at w c) c caller =
         ap (λ (state : CentreState). sight_of state.edits (holdings_of here.node.state).letters state.centre caller) stood.state
@@ -147,12 +147,13 @@ module _ (s : State) (w : World) (stands : StandsFor s w) (c : ℕ) (here : Held
         subst (λ (calls : Calls). IsPortEntry (call_in calls port) key entry) calls_there pressed.says in
         let done =
         does
-        (λ calls. press_at calls port key (sight_of (page_base w c) (letters_at w c) c (caller_account (call_in calls port))) w.moment entry
+        (λ calls. press_at calls port key (sight_of (page_base w c) (letters_at w c) c (given_account (call_in calls port))) w.moment entry
         (call_in calls port))
         w.shown w.stopped
         (subst (λ (n : ℕ). Comes here new outcome (press_at (calls_of here) port key
         (sight_of (page_base w c) (letters_at w c) c caller) n entry (call_in (calls_of here) port))) moment_is
-        (subst (λ (seen : View). Comes here new outcome (press_at (calls_of here) port key seen moment entry (call_in (calls_of here) port)))
+        (subst (λ (seen : View). Comes here new outcome
+        (press_at (calls_of here) port key seen moment entry (call_in (calls_of here) port)))
         view pressed.comes))
         (sound_press w c port stands.sound key entry) (charged_press w c stands.charged port stands.sound laws key entry says) in
         (entry, says, done.0, done.1)

@@ -3,7 +3,7 @@ use Rattle.std.proofs.Common.{◌≡◌, ℕ, zero, suc, ◌≤◌, Bool, true, 
 use Rattle.std.specs.Prelude.{is_some, slice_get}
 use Rattle.std.proofs.lemmas.Bool.{ltb-false}
 use Rattle.pv_edits.specs.Edits.{taken_of}
-use Rattle.pv_link.specs.Sending.{SendingEnd, number_in_turn, number_to_give}
+use Rattle.pv_link.specs.Sending.{SendingEnd, number_due, number_to_give}
 use Rattle.pv_packet.specs.declared.packet.Packet.{Packet}
 use Rattle.pv_packet.specs.declared.packet.Packet.TheVariants.{Down, Up, DownHeard, UpHeard}
 use Rattle.pv_network.specs.declared.arrival.Arrival.{Arrival}
@@ -34,7 +34,7 @@ HasBoth w c = ((centre_at w c).applied ≡ length w.update.records) × (taken_of
 none_left : (end : SendingEnd) (count : ℕ) → is_some (number_to_give end count) ≡ false → count ≤ end.acknowledged
 none_left end count = by (ltb end.acknowledged count) refl
   where
-    by : (some : Bool) → ltb end.acknowledged count ≡ some → is_some (cond some (Some (number_in_turn end count)) None) ≡ false
+    by : (some : Bool) → ltb end.acknowledged count ≡ some → is_some (cond some (Some (number_due end count)) None) ≡ false
         → count ≤ end.acknowledged
     by true is none = absurd cc
     by false is none = ltb-false end.acknowledged count is
@@ -100,8 +100,10 @@ module _ (records items : ℕ) where
       answer way v number arrivals.Full is = cc
 
       packet_stops : (packet : Packet) → Stops (round_by (step_of_packet w c packet).1) → ⊥
-      packet_stops (Down from number rec) is = answer ways.Down (world_after w (with_next_at w c) (arrival_on ways.Down w c number)) number _ is
-      packet_stops (Up from number item) is = answer ways.Up (world_after w (with_item_of w c number item) (arrival_on ways.Up w c number)) number _ is
+      packet_stops (Down from number rec) is =
+          answer ways.Down (world_after w (with_next_at w c) (arrival_on ways.Down w c number)) number _ is
+      packet_stops (Up from number item) is =
+          answer ways.Up (world_after w (with_item_of w c number item) (arrival_on ways.Up w c number)) number _ is
       packet_stops (DownHeard from count) is = cc
       packet_stops (UpHeard from count) is = cc
 
@@ -140,5 +142,6 @@ module _ (records items : ℕ) where
   unfolding carry_rounds
   carried_has_both c zero w way load sound is = absurd cc
   carried_has_both c (suc more) w way load sound is =
-      both_on c (carry_rounds more c) (λ v next l here carried. carried_has_both c more v next l here carried) w way load (way_on way w c) sound
+      both_on c (carry_rounds more c) (λ v next l here carried. carried_has_both c more v next l here carried) w way load
+      (way_on way w c) sound
       refl is

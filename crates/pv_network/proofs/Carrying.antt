@@ -89,7 +89,12 @@ module _ (w : World) (c : ℕ) (there : c < length w.links) where
       pack number (Some packet) some =
           let link = with_packet way (link_at w c) packet in
           let sent = with_sent way (link_at w c) (front_of way w c) packet in (
-            omega (arith, count_set sent, more_size way (link_at w c) packet, same_size way link (end_after (end_on way link) (front_of way w c))),
+            omega (
+              arith,
+              count_set sent,
+              more_size way (link_at w c) packet,
+              same_size way link (end_after (end_on way link) (front_of way w c)),
+            ),
             length-set w.links c sent,
           )
 
@@ -135,7 +140,8 @@ module _ (w : World) (c : ℕ) (there : c < length w.links) where
     where
       of_packet : (packet : Packet) → Grows w (step_of_packet w c packet).0
       of_packet (Down from number rec) = grows_after ways.Down w (with_next_at w c) c number (arrival_on ways.Down w c number) there refl
-      of_packet (Up from number item) = grows_after ways.Up w (with_item_of w c number item) c number (arrival_on ways.Up w c number) there refl
+      of_packet (Up from number item) =
+          grows_after ways.Up w (with_item_of w c number item) c number (arrival_on ways.Up w c number) there refl
       of_packet (DownHeard from count) = grows_heard w c there ways.Down count
       of_packet (UpHeard from count) = grows_heard w c there ways.Up count
 
@@ -187,7 +193,7 @@ same_after one other w way load rounds.Taken same = same tt (with_one way load)
 same_after one other w way load rounds.Again same = same tt load
 same_after one other w way load (rounds.Stopped outcome) same = refl
 
--- so is a round on a way, if there is one, with what comes after it
+-- so are a round on the next way and what comes after it, or nothing if no way is left
 same_on : (one other : World → Way → Load → World × Outcome) (w : World) (c : ℕ) → c < length w.links
     → ((v : World) (way : Way) (l : Load) → c < length v.links → packet_room v.links < packet_room w.links → one v way l ≡ other v way l)
     → (load : Load) (next : Option Way) → rounds_on one w c load next ≡ rounds_on other w c load next

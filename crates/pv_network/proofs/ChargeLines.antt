@@ -14,7 +14,8 @@ use Rattle.pv_network.specs.World.{StoppedCall}
 
 -- ---- lines of a list of two parts
 
-pub lines_with-append : (kept more : List Item) (serial : ℕ) → lines_with (kept ++ more) serial ≡ lines_with kept serial ++ lines_with more serial
+pub lines_with-append : (kept more : List Item) (serial : ℕ)
+    → lines_with (kept ++ more) serial ≡ lines_with kept serial ++ lines_with more serial
 lines_with-append kept more serial =
     ap (filter (is_of_serial serial)) (filter_map-append line_in kept more)
     ∙ filter-append (is_of_serial serial) (filter_map line_in kept) (filter_map line_in more)
@@ -56,13 +57,15 @@ module _ (c : ℕ) where
     both : (k serial : ℕ) → shown_lines more k serial ≡ shown_lines shown k serial ++ shown_lines (map (line_at c) lines) k serial
     both k serial =
         ap charges (filter-append (is_of_call k serial) shown (map (line_at c) lines))
-        ∙ map-append (λ (line : BillLine). line.line) (filter (is_of_call k serial) shown) (filter (is_of_call k serial) (map (line_at c) lines))
+        ∙ map-append (λ (line : BillLine). line.line) (filter (is_of_call k serial) shown)
+        (filter (is_of_call k serial) (map (line_at c) lines))
 
     pub shown_here : (serial : ℕ) → shown_lines more c serial ≡ shown_lines shown c serial ++ filter (is_of_serial serial) lines
     shown_here serial = both c serial ∙ ap (λ (l : List Charge). shown_lines shown c serial ++ l) (here lines serial)
 
     pub shown_elsewhere : (k : ℕ) → k ≢ c → (serial : ℕ) → shown_lines more k serial ≡ shown_lines shown k serial ++ []
-    shown_elsewhere k other serial = both k serial ∙ ap (λ (l : List Charge). shown_lines shown k serial ++ l) (elsewhere k other lines serial)
+    shown_elsewhere k other serial = both k serial
+        ∙ ap (λ (l : List Charge). shown_lines shown k serial ++ l) (elsewhere k other lines serial)
 
 -- ---- a line of one call
 

@@ -94,7 +94,8 @@ module _ (w : World) (c : ℕ) (charged : IsChargedWorld w) where
     at_other k other =
         subst (λ (centre : Centre). AreCharged centre.calls (shown_lines shown_now k) (IsStoppedCall stopped_now k))
         (sym (get_or-set_other w.centres c k (record (centre_at w c) { calls = calls }) new_centre other))
-        (recharged (calls_at w k) (shown_lines w.shown k) (shown_lines shown_now k) (IsStoppedCall w.stopped k) (IsStoppedCall stopped_now k)
+        (recharged (calls_at w k) (shown_lines w.shown k) (shown_lines shown_now k) (IsStoppedCall w.stopped k)
+        (IsStoppedCall stopped_now k)
         (same k other) (on k other) (back k other) (charged k))
 
     all_charged : IsChargedWorld now
@@ -166,7 +167,8 @@ module _ (w : World) (c : ℕ) (charged : IsChargedWorld w) where
     pub charged_press : SeatLaws → (key : ℕ) (entry : Option Entry) → IsPortEntry (call_at w c port) key entry
         → IsChargedWorld (step_of_press w c port key entry).0
     charged_press laws key entry says =
-        calls_charged _ (press_charged (calls_at w c) shown Stopped port (sound.calls c) (charged c) laws key (view_at w c port) w.moment entry
+        calls_charged _ (press_charged (calls_at w c) shown Stopped port (sound.calls c) (charged c) laws key
+        (view_at w c port) w.moment entry
         (call_at w c port) refl says)
 
     pub charged_store : IsChargedWorld (step_of_store w c port).0
@@ -215,7 +217,8 @@ module _ (laws : SeatLaws) (c port : ℕ) where
       pressed : IsChargedWorld (step_of_press w c port key.byte key.entry).0
       pressed = charged_press w c charged port sound laws key.byte key.entry says
 
-  charged_keys : (w : World) (keys : List KeyedByte) → TakesAll w c port keys → IsSound w → IsChargedWorld w → IsChargedWorld (keys_from w c port keys).0
+  charged_keys : (w : World) (keys : List KeyedByte) → TakesAll w c port keys → IsSound w → IsChargedWorld w
+      → IsChargedWorld (keys_from w c port keys).0
   charged_keys w [] are sound charged = charged
   charged_keys w (key ∷ keys) are sound charged =
       by (is_over (step_of_key w c port key).1) are.1
@@ -325,7 +328,8 @@ module _ (laws : SeatLaws) where
   charged_happens w (events.Back centre index) choice is sound charged =
       charged_same w (happens w (events.Back centre index) choice).0 (λ c. arriving_same c ways.Up w centre index) charged
   charged_happens w (events.Carry centre) choice is sound charged =
-      charged_same w (happens w (events.Carry centre) choice).0 (λ c. rounds_same c (packet_room w.links + 1) centre w ways.Down no_load) charged
+      charged_same w (happens w (events.Carry centre) choice).0
+      (λ c. rounds_same c (packet_room w.links + 1) centre w ways.Down no_load) charged
   charged_happens w (events.Crash node) choice is sound charged = crash_charges w node sound charged
   charged_happens w (events.Cut calls image command) choice is sound charged =
       cut_charges w command choice.kept choice.said sound charged
@@ -337,7 +341,8 @@ module _ (laws : SeatLaws) where
   charged_happens w (events.Lines centre) choice is sound charged = charged
 
   -- and so it does however many events happen
-  pub charged_after : (w : World) (events : List (Event × Choice)) → AreChoices w events → IsSound w → IsChargedWorld w → IsChargedWorld (after w events)
+  pub charged_after : (w : World) (events : List (Event × Choice)) → AreChoices w events → IsSound w → IsChargedWorld w
+      → IsChargedWorld (after w events)
   charged_after w [] are sound charged = charged
   charged_after w (event ∷ events) are sound charged =
       charged_after (happens w event.0 event.1).0 events are.1 (sound_happens w event.0 event.1 sound)

@@ -18,7 +18,7 @@ use Rattle.pv_session.specs.declared.step.Step.{Step}
 use Rattle.pv_session.specs.declared.step.Step.TheVariants as steps
 use Rattle.pv_session.specs.declared.step.Wish.{Wish}
 use Rattle.pv_session.specs.declared.step.Wish.TheVariants as wishes
-use Rattle.pv_session.specs.Callers.{sender_of, IsOwn, IsOwnCharge, IsCall}
+use Rattle.pv_session.specs.Callers.{sender_of, IsOwn, IsOwnCharge, IsCallState}
 use Rattle.pv_session.specs.Calls.{Keyed, Stored as CallStored, Happens, lines_after, IsSameCaller}
 use Rattle.pv_session.specs.State.{CallState, is_owing, wish_in}
 use Rattle.pv_session.specs.Shown.{ShownFrame}
@@ -26,8 +26,8 @@ use Rattle.pv_session.specs.Turns.{charged_turn, storing_turn}
 use Rattle.pv_network.specs.declared.event.TheConstants.{PORTS}
 use Rattle.pv_network.specs.declared.outcome.Outcome.TheVariants as outcomes
 use Rattle.pv_network.specs.Call.{Call, call_of, first_call, is_waiting, wish_to_store, serial_with, serial_of, key_turn}
-use Rattle.pv_network.specs.Calls.{Calls, Holdings, is_refused, call_in, with_call, step_answer, call_after, turn_at, dial_at, hang_at, press_at, with_wish, storing_unless, storing_at, store_at, showing_at, show_at, IsEntryUnlessWaiting, IsPortEntry}
-use Rattle.pv_network.specs.Charging.{charge_in, line_in_hand, lines_in_hand, lines_with, is_of_serial, IsInHand, AreOwedLines, HasLines, IsChargedCall, AreCharged, ShowsFrameOf, SeatLaws}
+use Rattle.pv_network.specs.Calls.{Calls, Holdings, lacks_room, call_in, with_call, step_answer, call_after, turn_at, dial_at, hang_at, press_at, with_wish, storing_unless, storing_at, store_at, showing_at, show_at, IsEntryUnlessWaiting, IsPortEntry}
+use Rattle.pv_network.specs.Charging.{wish_charge, line_in_hand, lines_in_hand, lines_with, is_of_serial, IsInHand, AreOwedLines, HasLines, IsChargedCall, AreCharged, ShowsFrameOf, SeatLaws}
 use Rattle.pv_network.specs.Crashing.{without_calls}
 use Rattle.pv_network.specs.Sound.{serial_in, Answers, OwesItsReply, IsSoundCalls}
 use Rattle.pv_network.proofs.ChargeLines.{lines_with-append, its_own, not_its_own, from_filter_map, into_filter_map}
@@ -42,19 +42,19 @@ some_is is = cc
 
 -- ---- the line in hand
 
-module _ (call : Call) (line : Charge) (seat : IsCall call.seat) (in_hand : line_in_hand call ≡ Some line) where
+module _ (call : Call) (line : Charge) (seat : IsCallState call.seat) (in_hand : line_in_hand call ≡ Some line) where
   -- it is the call's own
   hand_own : IsOwnCharge call.seat line
   hand_own = by call.stored call.seat.phase seat.owed in_hand
     where
-      charged : (wish : Wish) → IsOwn call.seat wish → charge_in wish ≡ Some line → IsOwnCharge call.seat line
+      charged : (wish : Wish) → IsOwn call.seat wish → wish_charge wish ≡ Some line → IsOwnCharge call.seat line
       charged (wishes.LogOn account) own is = absurd cc
       charged (wishes.Charge other) own is = let same : other ≡ line = cc in subst (IsOwnCharge call.seat) same own
       charged (wishes.Post item) own is = absurd cc
       charged (wishes.Remove account number) own is = absurd cc
 
       by : (stored : Option Paid) (phase : Phase) → IfSome (wish_in phase) (IsOwn call.seat)
-          → cond (is_some stored) (wish_in phase >>= charge_in) None ≡ Some line → IsOwnCharge call.seat line
+          → cond (is_some stored) (wish_in phase >>= wish_charge) None ≡ Some line → IsOwnCharge call.seat line
       by None phase own is = absurd cc
       by (Some reply) Listening own is = absurd cc
       by (Some reply) (Owing wish) own is = charged wish own is
@@ -65,7 +65,7 @@ module _ (call : Call) (line : Charge) (seat : IsCall call.seat) (in_hand : line
   hand_serial replies = by call.stored call.seat.phase replies in_hand ∙ hand_own.serial
     where
       by : (stored : Option Paid) (phase : Phase) → IfSome stored (Answers phase)
-          → cond (is_some stored) (wish_in phase >>= charge_in) None ≡ Some line → serial_with stored call.seat.serial ≡ call.seat.serial
+          → cond (is_some stored) (wish_in phase >>= wish_charge) None ≡ Some line → serial_with stored call.seat.serial ≡ call.seat.serial
       by None phase fits is = absurd cc
       by (Some Stored) phase fits is = refl
       by (Some (Serial serial)) Listening fits is = absurd cc
@@ -75,12 +75,12 @@ module _ (call : Call) (line : Charge) (seat : IsCall call.seat) (in_hand : line
       by (Some (Serial serial)) (Owing (wishes.Remove account number)) fits is = absurd fits
       by (Some (Serial serial)) Over fits is = absurd cc
 
-  -- what its seat owes is the charge, and what was stored is told so
+  -- what its seat owes is the charge, and the reply says that it was stored
   pub hand_is : OwesItsReply call → (call.stored ≡ Some Stored) × (call.seat.phase ≡ Owing (wishes.Charge line))
   hand_is replies = by call.stored call.seat.phase replies in_hand
     where
       by : (stored : Option Paid) (phase : Phase) → IfSome stored (Answers phase)
-          → cond (is_some stored) (wish_in phase >>= charge_in) None ≡ Some line
+          → cond (is_some stored) (wish_in phase >>= wish_charge) None ≡ Some line
           → (stored ≡ Some Stored) × (phase ≡ Owing (wishes.Charge line))
       by None phase fits is = absurd cc
       by (Some Stored) Listening fits is = absurd cc
@@ -257,15 +257,15 @@ module _ (calls : Calls) (shown : ℕ → List Charge) (Stopped : ℕ → Type 0
 
 -- a call without a reply has no line in hand
 no_line : (call : Call) → call.stored ≡ None → line_in_hand call ≡ None
-no_line call none = ap (λ (stored : Option Paid). cond (is_some stored) (wish_in call.seat.phase >>= charge_in) None) none
+no_line call none = ap (λ (stored : Option Paid). cond (is_some stored) (wish_in call.seat.phase >>= wish_charge) None) none
 
 -- what owes no charge has none in hand
-no_charge : (call : Call) (wish : Wish) → charge_in wish ≡ None → wish_in call.seat.phase ≡ Some wish → line_in_hand call ≡ None
+no_charge : (call : Call) (wish : Wish) → wish_charge wish ≡ None → wish_in call.seat.phase ≡ Some wish → line_in_hand call ≡ None
 no_charge call wish none is = by call.stored
   where
-    by : (stored : Option Paid) → cond (is_some stored) (wish_in call.seat.phase >>= charge_in) None ≡ None
+    by : (stored : Option Paid) → cond (is_some stored) (wish_in call.seat.phase >>= wish_charge) None ≡ None
     by None = refl
-    by (Some reply) = ap (λ (owed : Option Wish). owed >>= charge_in) is ∙ none
+    by (Some reply) = ap (λ (owed : Option Wish). owed >>= wish_charge) is ∙ none
 
 module _ (calls : Calls) (shown : ℕ → List Charge) (Stopped : ℕ → Type 0) (port : ℕ) (sound : IsSoundCalls calls)
     (charged : AreCharged calls shown Stopped) where
@@ -286,7 +286,7 @@ module _ (calls : Calls) (shown : ℕ → List Charge) (Stopped : ℕ → Type 0
         (λ other is. absurd cc)
 
     -- its seat goes on with the same serial and as many lines
-    pub seat_goes_on : (turn : CallState × Step) → IsCall turn.0 → turn.0.serial ≡ serial_of call → turn.0.lines ≡ call.seat.lines
+    pub seat_goes_on : (turn : CallState × Step) → IsCallState turn.0 → turn.0.serial ≡ serial_of call → turn.0.lines ≡ call.seat.lines
         → AreCharged (turn_at calls port turn).0 shown Stopped
     seat_goes_on (seat, step) is serial count = by step
       where
@@ -303,8 +303,10 @@ module _ (calls : Calls) (shown : ℕ → List Charge) (Stopped : ℕ → Type 0
         }
 
         on : AreCharged (with_call calls port (Some (call_of seat))) shown Stopped
-        on = lines_stay calls shown Stopped port sound charged (with_call calls port (Some (call_of seat))) (Some (call_of seat)) refl (omega arith)
-            (λ s. refl) only_this (λ other same. let one : call_of seat ≡ other = cc in subst (IsChargedCall calls.items shown Stopped) one now)
+        on = lines_stay calls shown Stopped port sound charged (with_call calls port (Some (call_of seat)))
+            (Some (call_of seat)) refl (omega arith)
+            (λ s. refl) only_this
+            (λ other same. let one : call_of seat ≡ other = cc in subst (IsChargedCall calls.items shown Stopped) one now)
 
         by : (step : Step) → AreCharged (turn_at calls port (seat, step)).0 shown Stopped
         by steps.Quiet = on
@@ -324,13 +326,15 @@ module _ (calls : Calls) (shown : ℕ → List Charge) (Stopped : ℕ → Type 0
       subst (IsChargedCall calls.items shown Stopped) one (record { seat = laws.begins; lines = λ serial has. absurd cc }))
   dial_charged laws (Some call) is = charged
 
-  pub press_charged : SeatLaws → (key : ℕ) (view : View) (moment : ℕ) (entry : Option Entry) (call : Option Call) → call_in calls port ≡ call
+  pub press_charged : SeatLaws → (key : ℕ) (view : View) (moment : ℕ) (entry : Option Entry) (call : Option Call)
+      → call_in calls port ≡ call
       → IsPortEntry call key entry → AreCharged (press_at calls port key view moment entry call).0 shown Stopped
   press_charged laws key view moment entry None is says = charged
   press_charged laws key view moment entry (Some call) is says = by (is_waiting call) refl says
     where
       by : (waiting : Bool) → is_waiting call ≡ waiting → IsEntryUnlessWaiting waiting call key entry
-          → AreCharged (cond waiting (calls, outcomes.Owing) (turn_at calls port (key_turn call.seat key view moment entry))).0 shown Stopped
+          → AreCharged (cond waiting (calls, outcomes.Owing) (turn_at calls port (key_turn call.seat key view moment entry))).0 shown
+          Stopped
       by true waits said = charged
       by false free said =
           let none = none_stored (is_owing call.seat.phase) call.stored free in
@@ -346,16 +350,18 @@ module _ (calls : Calls) (shown : ℕ → List Charge) (Stopped : ℕ → Type 0
 
   -- a log-on is counted, and its serial is that count
   log_on_charged : (holdings : Holdings) (call : Call) (account : ℕ) → call_in calls port ≡ Some call → call.stored ≡ None
-      → wish_in call.seat.phase ≡ Some (wishes.LogOn account) → AreCharged (with_wish holdings calls port call (wishes.LogOn account)) shown Stopped
+      → wish_in call.seat.phase ≡ Some (wishes.LogOn account)
+      → AreCharged (with_wish holdings calls port call (wishes.LogOn account)) shown Stopped
   log_on_charged holdings call account is none owes =
-      lines_stay calls shown Stopped port sound charged (with_wish holdings calls port call (wishes.LogOn account)) (Some new) refl (omega arith)
+      lines_stay calls shown Stopped port sound charged (with_wish holdings calls port call (wishes.LogOn account))
+      (Some new) refl (omega arith)
       (λ serial. refl) (only_this call is (no_line call none))
       (λ other same. let one : new ≡ other = cc in subst (IsChargedCall calls.items shown Stopped) one now)
     where
       new : Call
       new = record call { stored = Some (Serial calls.log_ons) }
 
-      own : IsCall call.seat
+      own : IsCallState call.seat
       own = (charged.each port call is).seat
 
       unnamed : call.seat.serial ≡ None
@@ -367,7 +373,8 @@ module _ (calls : Calls) (shown : ℕ → List Charge) (Stopped : ℕ → Type 0
       first : HasLines new (lines_with calls.items calls.log_ons) (shown calls.log_ons) (Stopped calls.log_ons)
       first = record {
         lines = charged.given calls.log_ons (omega arith) ∙ sym (ap (λ (l : List Charge). l ++ []) none_yet)
-            ∙ ap (λ (line : Option Charge). shown calls.log_ons ++ option_to_list line) (sym (no_charge new (wishes.LogOn account) refl owes));
+            ∙ ap (λ (line : Option Charge). shown calls.log_ons ++ option_to_list line)
+            (sym (no_charge new (wishes.LogOn account) refl owes));
         count = own.lines unnamed ∙ sym (ap (λ (l : List Charge). length l) none_yet);
         going = λ gone. let less = charged.stopped calls.log_ons gone in absurd (omega (arith, less));
       }
@@ -382,7 +389,8 @@ module _ (calls : Calls) (shown : ℕ → List Charge) (Stopped : ℕ → Type 0
 
   -- the line of a charge is the last of its call's, and in hand
   charge_charged : (holdings : Holdings) (call : Call) (line : Charge) → call_in calls port ≡ Some call → call.stored ≡ None
-      → wish_in call.seat.phase ≡ Some (wishes.Charge line) → AreCharged (with_wish holdings calls port call (wishes.Charge line)) shown Stopped
+      → wish_in call.seat.phase ≡ Some (wishes.Charge line)
+      → AreCharged (with_wish holdings calls port call (wishes.Charge line)) shown Stopped
   charge_charged holdings call line is none owes =
       moved calls after shown shown Stopped Stopped port (Some new) refl sound charged moves
       (λ serial later. kept serial (λ same. let less = below in absurd (omega (arith, later, same, less))) ∙ charged.given serial later)
@@ -402,7 +410,7 @@ module _ (calls : Calls) (shown : ℕ → List Charge) (Stopped : ℕ → Type 0
       own = subst (λ (wish : Option Wish). IfSome wish (IsOwn call.seat)) owes was.seat.owed
 
       in_hand : line_in_hand new ≡ Some line
-      in_hand = ap (λ (wish : Option Wish). wish >>= charge_in) owes
+      in_hand = ap (λ (wish : Option Wish). wish >>= wish_charge) owes
 
       has : serial_of call ≡ Some line.serial
       has = ap (λ (stored : Option Paid). serial_with stored call.seat.serial) none ∙ own.serial
@@ -427,7 +435,8 @@ module _ (calls : Calls) (shown : ℕ → List Charge) (Stopped : ℕ → Type 0
       kept : (serial : ℕ) → (serial ≢ line.serial) → lines_with after.items serial ≡ lines_with calls.items serial
       kept serial other =
           lines_with-append calls.items (items.Charge line ∷ []) serial
-          ∙ ap (λ (l : List Charge). lines_with calls.items serial ++ l) (not_its_own line serial other) ∙ append-nil (lines_with calls.items serial)
+          ∙ ap (λ (l : List Charge). lines_with calls.items serial ++ l) (not_its_own line serial other)
+          ∙ append-nil (lines_with calls.items serial)
 
       moves : (serial : ℕ) → IsMoved calls after shown shown Stopped Stopped port (Some new) refl serial
       moves serial = elim (eqb_tells serial line.serial) [
@@ -469,7 +478,7 @@ module _ (calls : Calls) (shown : ℕ → List Charge) (Stopped : ℕ → Type 0
 
   -- what is stored for another wish is no line
   module _ (call : Call) (wish : Wish) (is : call_in calls port ≡ Some call) (none : call.stored ≡ None)
-      (owes : wish_in call.seat.phase ≡ Some wish) (free : charge_in wish ≡ None) where
+      (owes : wish_in call.seat.phase ≡ Some wish) (free : wish_charge wish ≡ None) where
     stored_charged : (after : Calls) → after.ports ≡ set calls.ports port (Some (record call { stored = Some Stored }))
         → calls.log_ons ≤ after.log_ons → ((serial : ℕ) → lines_with after.items serial ≡ lines_with calls.items serial)
         → AreCharged after shown Stopped
@@ -515,10 +524,12 @@ module _ (calls : Calls) (shown : ℕ → List Charge) (Stopped : ℕ → Type 0
       stored_charged call (wishes.Post item) is none owes refl (with_wish holdings calls port call (wishes.Post item)) refl (omega arith)
       (sent_lines call.seat.account item own.1 own.2)
   wish_charged holdings call (wishes.Remove account number) is none owes =
-      stored_charged call (wishes.Remove account number) is none owes refl (with_wish holdings calls port call (wishes.Remove account number)) refl
+      stored_charged call (wishes.Remove account number) is none owes refl
+      (with_wish holdings calls port call (wishes.Remove account number)) refl
       (omega arith) (λ serial. refl)
 
-  pub store_charged : (holdings : Holdings) (call : Option Call) → call_in calls port ≡ call → AreCharged (store_at holdings calls port call).0 shown Stopped
+  pub store_charged : (holdings : Holdings) (call : Option Call) → call_in calls port ≡ call
+      → AreCharged (store_at holdings calls port call).0 shown Stopped
   store_charged holdings None is = charged
   store_charged holdings (Some call) is = by (wish_to_store call) refl
     where
@@ -529,7 +540,7 @@ module _ (calls : Calls) (shown : ℕ → List Charge) (Stopped : ℕ → Type 0
 
       by : (wish : Option Wish) → wish_to_store call ≡ wish → AreCharged (storing_at holdings calls port call wish).0 shown Stopped
       by None owes = charged
-      by (Some wish) owes = full (is_refused holdings wish) wish owes
+      by (Some wish) owes = full (lacks_room holdings wish) wish owes
 
   -- ---- show
 
@@ -545,21 +556,22 @@ module _ (calls : Calls) (shown : ℕ → List Charge) (Stopped : ℕ → Type 0
   -- calls that are charged without it are with it
   unshown : (after : Calls) (there : Option Call) → (there >>= line_in_hand) ≡ None → AreCharged after shown Stopped
       → AreCharged after (shown_with there) Stopped
-  unshown after there none = recharged after shown (shown_with there) Stopped Stopped (shown_same there none) (λ s gone. gone) (λ s gone. gone)
+  unshown after there none =
+      recharged after shown (shown_with there) Stopped Stopped (shown_same there none) (λ s gone. gone) (λ s gone. gone)
 
   module _ (laws : SeatLaws) (call : Call) (is : call_in calls port ≡ Some call) (reply : Paid) (has : call.stored ≡ Some reply) where
     -- its seat goes on with the reply
     abbrev turn : CallState × Step
     turn = storing_turn call.seat call.seat.phase reply
 
-    was_seat : IsCall call.seat
+    was_seat : IsCallState call.seat
     was_seat = (charged.each port call is).seat
 
     replied : Happens call.seat (CallStored reply) (storing_turn call.seat call.seat.phase reply).0
         (storing_turn call.seat call.seat.phase reply).1
     replied = record { after_is = refl; step_is = refl }
 
-    seat_after : IsCall (storing_turn call.seat call.seat.phase reply).0
+    seat_after : IsCallState (storing_turn call.seat call.seat.phase reply).0
     seat_after = laws.lasts call.seat _ (CallStored reply) _ was_seat replied
 
     same : IsSameCaller call.seat (CallStored reply) (storing_turn call.seat call.seat.phase reply).0
@@ -571,7 +583,7 @@ module _ (calls : Calls) (shown : ℕ → List Charge) (Stopped : ℕ → Type 0
         ∙ ap (λ (stored : Option Paid). serial_with stored call.seat.serial) (sym has)
 
     -- the reply to what is no charge shows no priced frame
-    free_shown : (wish : Wish) (told : Paid) → charge_in wish ≡ None → call.seat.phase ≡ Owing wish → reply ≡ told
+    free_shown : (wish : Wish) (told : Paid) → wish_charge wish ≡ None → call.seat.phase ≡ Owing wish → reply ≡ told
         → lines_after (CallStored told) (Owing wish) call.seat.lines ≡ call.seat.lines
         → AreCharged (turn_at calls port (storing_turn call.seat call.seat.phase reply)).0 (shown_with (Some call)) Stopped
     free_shown wish told free owes is_told count =
@@ -588,7 +600,8 @@ module _ (calls : Calls) (shown : ℕ → List Charge) (Stopped : ℕ → Type 0
       own = hand_own call line was_seat in_hand
 
       its_serial : serial_of call ≡ Some line.serial
-      its_serial = hand_serial call line was_seat in_hand (subst (λ (there : Option Call). IfSome there OwesItsReply) is (sound.replies port))
+      its_serial = hand_serial call line was_seat in_hand
+          (subst (λ (there : Option Call). IfSome there OwesItsReply) is (sound.replies port))
 
       before : (serial : ℕ) → serial ≡ line.serial → HasLines call (lines_with calls.items serial) (shown serial) (Stopped serial)
       before serial this = (charged.each port call is).lines serial (its_serial ∙ ap Some (sym this))
@@ -646,7 +659,8 @@ module _ (calls : Calls) (shown : ℕ → List Charge) (Stopped : ℕ → Type 0
           charged_seat : (other : Call) (step : Step) → call_after turn.0 step ≡ Some other
               → IsChargedCall calls.items (shown_with (Some call)) Stopped other
           charged_seat other steps.Quiet is_it = subst (IsChargedCall calls.items (shown_with (Some call)) Stopped) (some_is is_it) now
-          charged_seat other (steps.Show screen) is_it = subst (IsChargedCall calls.items (shown_with (Some call)) Stopped) (some_is is_it) now
+          charged_seat other (steps.Show screen) is_it =
+              subst (IsChargedCall calls.items (shown_with (Some call)) Stopped) (some_is is_it) now
           charged_seat other (steps.Owe wish) is_it = subst (IsChargedCall calls.items (shown_with (Some call)) Stopped) (some_is is_it) now
           charged_seat other (steps.Ended why screen) is_it = absurd cc
 
@@ -657,12 +671,13 @@ module _ (calls : Calls) (shown : ℕ → List Charge) (Stopped : ℕ → Type 0
             → AreCharged (turn_at calls port (storing_turn call.seat call.seat.phase reply)).0 (shown_with (Some call)) Stopped
         by Listening (Serial serial) owes told never = absurd never
         by Listening Stored owes told never = absurd never
-        by (Owing (wishes.LogOn account)) (Serial serial) owes told answers = free_shown (wishes.LogOn account) (Serial serial) refl owes told refl
+        by (Owing (wishes.LogOn account)) (Serial serial) owes told answers =
+            free_shown (wishes.LogOn account) (Serial serial) refl owes told refl
         by (Owing (wishes.LogOn account)) Stored owes told never = absurd never
         by (Owing (wishes.Charge line)) (Serial serial) owes told never = absurd never
         by (Owing (wishes.Charge line)) Stored owes told answers =
-            charge_shown line (ap (λ (stored : Option Paid). cond (is_some stored) (wish_in call.seat.phase >>= charge_in) None) has
-            ∙ ap (λ (phase : Phase). wish_in phase >>= charge_in) owes)
+            charge_shown line (ap (λ (stored : Option Paid). cond (is_some stored) (wish_in call.seat.phase >>= wish_charge) None) has
+            ∙ ap (λ (phase : Phase). wish_in phase >>= wish_charge) owes)
             (same.lines ∙ ap (λ (r : Paid). lines_after (CallStored r) call.seat.phase call.seat.lines) told
             ∙ ap (λ (phase : Phase). lines_after (CallStored Stored) phase call.seat.lines) owes)
         by (Owing (wishes.Post item)) (Serial serial) owes told never = absurd never
@@ -673,11 +688,13 @@ module _ (calls : Calls) (shown : ℕ → List Charge) (Stopped : ℕ → Type 0
         by Over (Serial serial) owes told never = absurd never
         by Over Stored owes told never = absurd never
 
-  pub show_charged : SeatLaws → (call : Option Call) → call_in calls port ≡ call → AreCharged (show_at calls port call).0 (shown_with call) Stopped
+  pub show_charged : SeatLaws → (call : Option Call) → call_in calls port ≡ call
+      → AreCharged (show_at calls port call).0 (shown_with call) Stopped
   show_charged laws None is = unshown calls None refl charged
   show_charged laws (Some call) is = by call.stored refl
     where
-      by : (stored : Option Paid) → call.stored ≡ stored → AreCharged (showing_at calls port call.seat stored).0 (shown_with (Some call)) Stopped
+      by : (stored : Option Paid) → call.stored ≡ stored
+          → AreCharged (showing_at calls port call.seat stored).0 (shown_with (Some call)) Stopped
       by None has = unshown calls (Some call) (no_line call has) charged
       by (Some reply) has = reply_shown laws call is reply has
 
@@ -693,10 +710,11 @@ module _ (calls : Calls) (shown : ℕ → List Charge) (Stopped Gone : ℕ → T
     (charged : AreCharged calls shown Stopped) where
   -- no line is in hand, so that no call is stopped
   unstopped : (after : Calls) → IsStoppedWith Stopped Gone [] → AreCharged after shown Stopped → AreCharged after shown Gone
-  unstopped after stops = recharged after shown shown Stopped Gone (λ serial. refl) stops.before (λ serial gone. elim (stops.either serial gone) [
-    | inl before ↦ before
-    | inr now ↦ absurd (omega (arith, now.1.1))
-  ])
+  unstopped after stops =
+      recharged after shown shown Stopped Gone (λ serial. refl) stops.before (λ serial gone. elim (stops.either serial gone) [
+        | inl before ↦ before
+        | inr now ↦ absurd (omega (arith, now.1.1))
+      ])
 
   -- the call of a line in hand has a serial that was given
   hand_below : (port : ℕ) (call : Call) (line : Charge) → call_in calls port ≡ Some call → line_in_hand call ≡ Some line
@@ -767,7 +785,8 @@ module _ (calls : Calls) (shown : ℕ → List Charge) (Stopped Gone : ℕ → T
       where
         by : (line : Option Charge) → line_in_hand call ≡ line → IsStoppedWith Stopped Gone (cons_option line [])
             → AreCharged (with_call calls port None) shown Gone
-        by None in_hand stops = unstopped (with_call calls port None) stops (call_ends calls shown Stopped port sound charged call is in_hand)
+        by None in_hand stops =
+            unstopped (with_call calls port None) stops (call_ends calls shown Stopped port sound charged call is in_hand)
         by (Some line) in_hand stops = line_stopped call line is in_hand stops
 
   -- all calls are over

@@ -20,7 +20,8 @@ use Rattle.pv_network.proofs.Soundness.{sound_update_crash, sound_renewed}
 use Rattle.pv_network.proofs.Standing.{link_replaced}
 
 -- the node knows what it knew and has it on its disk, and the seats and the ends are new
-pub update_crashes : (s : State) (w : World) → StandsFor s w → (node : OnDisk EditList) (seats : List EditorSeat) (links : List Link) (count : ℕ)
+pub update_crashes : (s : State) (w : World) → StandsFor s w
+    → (node : OnDisk EditList) (seats : List EditorSeat) (links : List Link) (count : ℕ)
     → node.state ≡ s.update → UpdateIsOnDisk node → seats ≡ replicate EDITORS new_seat → links ≡ map (with_new_end ways.Down) s.links
     → count ≡ length node.state.records
     → StandsFor (record s { update = node.state; disk = node.disk; seats = seats; links = links }) (step_of_update_crash w).0

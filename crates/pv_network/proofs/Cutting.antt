@@ -20,7 +20,7 @@ use Rattle.pv_nodes.specs.Cutting.{MayBecome, kept_record}
 use Rattle.pv_nodes.specs.OnDisk.{OnDisk, UpdateIsOnDisk, CentreIsOnDisk, list_with, centre_with}
 use Rattle.pv_nodes.specs.declared.cut.Cut.{Cut}
 use Rattle.pv_nodes.specs.declared.cut.Cut.TheVariants as cuts
-use Rattle.pv_nodes.specs.declared.cut.TheConstants.{APPEND_CALLS}
+use Rattle.pv_journal.specs.declared.storing.TheConstants.{APPEND_CALLS}
 use Rattle.pv_packet.specs.declared.packet.Packet.{Packet}
 use Rattle.pv_packet.specs.declared.packet.Packet.TheVariants.{Down, Up, DownHeard, UpHeard}
 use Rattle.pv_session.specs.declared.step.Wish.{Wish}
@@ -39,12 +39,13 @@ use Rattle.pv_network.specs.declared.way.Way.TheVariants as ways
 use Rattle.pv_network.specs.Call.{Call}
 use Rattle.pv_network.specs.Calling.{call_at, holdings_at, step_of_store}
 use Rattle.pv_network.specs.Calls.{Calls, Holdings, call_in}
-use Rattle.pv_network.specs.Centre.{Held, Applies, CentreStands, arrival_by, asked_of, calls_of, holdings_of, request_for}
+use Rattle.pv_network.specs.Centre.{Held, Applies, CentreStands, arrival_by, asked_of, calls_of, holdings_of}
+use Rattle.pv_wishes.specs.Wishes.{request_for}
 use Rattle.pv_network.specs.Crashing.{step_of_update_crash, step_of_centre_crash}
 use Rattle.pv_network.specs.Cutting.{node_of, update_request, stored_for, recorded_world, wish_of, is_stored_for, wished_world, taken_world, applied_world, stored_world, MayBeKept, step_of_stop, IsSaid, cut_answer, apply_request, centre_request, record_for, Restarts}
 use Rattle.pv_network.specs.Link.{Link, link_in, packets_on, with_new_end}
 use Rattle.pv_network.specs.Sound.{IsGenuine, IsSound}
-use Rattle.pv_network.specs.Standing.{State, StandsFor, CanStore}
+use Rattle.pv_network.specs.Standing.{State, StandsFor, IsPossibleStoring}
 use Rattle.pv_network.specs.Traffic.{arrival_on, world_after, with_next_at}
 use Rattle.pv_network.specs.World.{World, centre_at, link_at, with_edit}
 use Rattle.pv_network.proofs.Arriving.{taken_record, records_taken}
@@ -133,7 +134,8 @@ module _ (s : State) (w : World) (stands : StandsFor s w) (calls : ℕ) (node : 
 -- ---- a centre
 
 -- a command to a centre is to one that there is
-pub reaches_centre : (s : State) (command : Storing) (c : ℕ) → node_of command ≡ nodes.Centre c → CanStore s command → c < length s.centres
+pub reaches_centre : (s : State) (command : Storing) (c : ℕ) → node_of command ≡ nodes.Centre c → IsPossibleStoring s command
+    → c < length s.centres
 reaches_centre s (commands.Seed name row) c its can = absurd cc
 reaches_centre s (commands.Edit port line) c its can = absurd cc
 reaches_centre s (commands.Store centre port) c its can =
@@ -219,7 +221,8 @@ module _ (s : State) (w : World) (stands : StandsFor s w) (c : ℕ) (here : Held
         -- what the node does if it is asked
         asks : record_for here.node.state (Some (Apply number rec)) ≡ Some (Applied number rec) → (node : OnDisk CentreState)
             → node.state ≡ with_centre_record here.node.state (Applied number rec) → CentreIsOnDisk node
-            → Applies here (record { node = node; ports = here.ports }) number rec (arrival_by (asked_of here.node.state (Apply number rec)).0)
+            → Applies here (record { node = node; ports = here.ports }) number rec
+            (arrival_by (asked_of here.node.state (Apply number rec)).0)
         asks is node known on_disk = record {
           reply = (asked_of here.node.state (Apply number rec)).0;
           asked = record {

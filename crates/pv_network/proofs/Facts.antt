@@ -53,7 +53,7 @@ pub arrivals : (arrival_of 3 9 10 3 ≡ Taken) × (arrival_of 3 9 10 2 ≡ Old) 
     × (arrival_of 3 10 10 3 ≡ Full) × (arrival_of 3 10 10 2 ≡ Old)
 arrivals = (refl, refl, refl, refl, refl)
 
--- An end sends in turn, begins again after the last record with the first that is not acknowledged, and sends nothing if all
+-- An end sends one after another, begins again after the last record with the first that is not acknowledged, and sends nothing if all
 -- are acknowledged.
 pub turns : (number_to_give (record { acknowledged = 0; next = 1 }) 3 ≡ Some 1)
     × (number_to_give (record { acknowledged = 1; next = 3 }) 3 ≡ Some 1)
@@ -86,7 +86,8 @@ with_item item = record new_centre { calls = record no_calls { items = item ∷ 
 
 -- a new centre gets both records of a list in two rounds, and then nothing is left to send
 pub two_are_carried : (one other : Record)
-    → (step_of_carry (record (start 1 small) { update = with_record (with_record (empty_list small) one) other }) 0).1 ≡ outcomes.Carried 2 0
+    → (step_of_carry (record (start 1 small) { update = with_record (with_record (empty_list small) one) other }) 0).1
+    ≡ outcomes.Carried 2 0
 unfolding carry_rounds
 two_are_carried one other = refl
 
@@ -135,7 +136,8 @@ editors = (refl, refl)
 
 -- a charge line of this price, for an account
 abbrev charge : ℕ → ℕ → Charge
-charge account price = record { serial = 0; number = 0; account = account; name = record { page = 1; letter = 0 }; price = price; moment = 0 }
+charge account price =
+    record { serial = 0; number = 0; account = account; name = record { page = 1; letter = 0 }; price = price; moment = 0 }
 
 -- the bill of an account has its own lines, of all centres, and their sum
 pub bills : bill_answer (bill_lines (
@@ -187,14 +189,22 @@ removals = (refl, refl, refl, refl)
 
 -- the line of a number in the call of a serial
 abbrev line : ℕ → ℕ → Charge
-line serial number = record { serial = serial; number = number; account = 1; name = record { page = 1; letter = 97 }; price = 5; moment = 0 }
+line serial number = record {
+  serial = serial;
+  number = number;
+  account = 1;
+  name = record { page = 1; letter = 97 };
+  price = 5;
+  moment = 0;
+}
 
 -- the call of serial 7 that owes its line of number 0
 abbrev owing : Call
 owing = call_of (record new_call { phase = Owing (wishes.Charge (line 7 0)); account = Some 1; serial = Some 7 })
 
 -- the lines of a call are those of its serial, in order
-pub lines_by_serial : lines_with (items.Charge (line 7 0) ∷ items.Charge (line 8 0) ∷ items.Charge (line 7 1) ∷ []) 7 ≡ line 7 0 ∷ line 7 1 ∷ []
+pub lines_by_serial : lines_with (items.Charge (line 7 0) ∷ items.Charge (line 8 0) ∷ items.Charge (line 7 1) ∷ []) 7
+    ≡ line 7 0 ∷ line 7 1 ∷ []
 lines_by_serial = refl
 
 -- what a call was shown is what its centre showed to its serial

@@ -25,7 +25,7 @@ module _ {X Y : Type 0} (f : X → Option Y) where
       ∙ ap (λ (ys : List Y). filter_map f (take n xs) ++ ys) (found_of_one (get_or xs n d)
       ∙ ap (λ (o : Option Y). option_to_list o) (sym (is (get_or xs n d) (slice_get-get_or xs n d there))))
 
--- with one more, if there is one, there is one more at most
+-- what was found makes a list at most one longer
 pub one_more_at_most : {Y : Type 0} (ys : List Y) (found : Option Y) → length (ys ++ option_to_list found) ≤ length ys + 1
 one_more_at_most ys None = omega (arith, length-append ys [])
 one_more_at_most ys (Some y) = omega (arith, length-append ys (y ∷ []))

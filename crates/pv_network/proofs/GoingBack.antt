@@ -68,7 +68,8 @@ module _ (records : List Record) (account : ℕ) where
       let none = filter_map-none (brings_charge_to account) (billed_in account) (only account) (take is.count records) last in
       sym (ap (λ (l : List BillLine). l ++ reverse lines) none) ∙ is.found
 
-  module _ (next : Option ℕ) (place : ℕ) (lines : List BillLine) (is : IsGoingBack records account next lines) (here : next ≡ Some place) where
+  module _ (next : Option ℕ) (place : ℕ) (lines : List BillLine) (is : IsGoingBack records account next lines)
+      (here : next ≡ Some place) where
     last : last_charge (take is.count records) account ≡ Some place
     last = sym is.next_is ∙ here
 
@@ -100,7 +101,8 @@ module _ (records : List Record) (account : ℕ) where
 
     -- is farther back
     pub falls : left (charge_before records place) < suc place
-    falls = by (charge_before records place) (λ k found. last_index-within (brings_charge_to account) (take place records) k (sym before ∙ found))
+    falls = by (charge_before records place)
+        (λ k found. last_index-within (brings_charge_to account) (take place records) k (sym before ∙ found))
       where
         by : (link : Option ℕ) → ((k : ℕ) → link ≡ Some k → k < length (take place records)) → left link < suc place
         by None inside = omega arith
@@ -113,7 +115,8 @@ module _ (records : List Record) (account : ℕ) where
         let its : line ≡ billed_in account edit = gives edit (slice_get-get_or records place some there) in
         let less : take place (take is.count records) ≡ take place records =
         take-take place is.count records (omega (arith, inside, size)) in
-        let found = filter_map-last (brings_charge_to account) (billed_in account) (only account) (take is.count records) place edit last at in
+        let found = filter_map-last (brings_charge_to account) (billed_in account) (only account) (take is.count records)
+        place edit last at in
         let front = bill_lines (take place records) account in
         record {
           count = place;

@@ -10,7 +10,7 @@ use Rattle.pv_session.specs.declared.step.Wish.TheVariants as wishes
 use Rattle.pv_network.specs.declared.outcome.Outcome.{Outcome}
 use Rattle.pv_network.specs.declared.outcome.Outcome.TheVariants as outcomes
 use Rattle.pv_network.specs.Call.{Call, is_waiting, wish_to_store, key_turn}
-use Rattle.pv_network.specs.Calls.{Calls, Holdings, is_refused, turn_at, dial_at, hang_at, press_at, with_wish, storing_unless, storing_at, store_at, showing_at, show_at}
+use Rattle.pv_network.specs.Calls.{Calls, Holdings, lacks_room, turn_at, dial_at, hang_at, press_at, with_wish, storing_unless, storing_at, store_at, showing_at, show_at}
 
 -- the items are those that were there, and then more
 abbrev pub KeepsItems : Calls → Calls → Type 0
@@ -59,7 +59,7 @@ module _ (calls : Calls) (port : ℕ) where
 
       by : (wish : Option Wish) → KeepsItems calls (storing_at holdings calls port call wish).0
       by None = same_items calls
-      by (Some wish) = unless (is_refused holdings wish) wish
+      by (Some wish) = unless (lacks_room holdings wish) wish
 
   pub show_items : (call : Option Call) → KeepsItems calls (show_at calls port call).0
   show_items None = same_items calls

@@ -122,11 +122,13 @@ entry_keeps seat view moment entries.Send = sending_keeps seat (item_to_send sea
 entry_keeps seat view moment entries.Keep = refl
 entry_keeps seat view moment (entries.Delete number) = removing_keeps seat number seat.account
 
-read_keeps : (seat : CallState) (byte : ℕ) (view : View) (moment : ℕ) (entry : Option Entry) → Keeps seat (read_turn seat byte view moment entry)
+read_keeps : (seat : CallState) (byte : ℕ) (view : View) (moment : ℕ) (entry : Option Entry)
+    → Keeps seat (read_turn seat byte view moment entry)
 read_keeps seat byte view moment None = refl
 read_keeps seat byte view moment (Some entry) = entry_keeps (call_at_entry seat) view moment entry
 
-byte_keeps : (seat : CallState) (byte : ℕ) (view : View) (moment : ℕ) (entry : Option Entry) → Keeps seat (byte_turn seat byte view moment entry)
+byte_keeps : (seat : CallState) (byte : ℕ) (view : View) (moment : ℕ) (entry : Option Entry)
+    → Keeps seat (byte_turn seat byte view moment entry)
 byte_keeps seat byte view moment entry = by (leaves_mode seat.mode byte)
   where
     by : (leaves : Bool) → Keeps seat (read_turn (cond leaves (browsing_call seat) seat) byte view moment entry)

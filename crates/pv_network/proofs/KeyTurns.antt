@@ -45,7 +45,8 @@ entry_turns seat byte view moment entry says = by seat.phase says
     listens false says = record { entry = entry; says = says; goes = record { after_is = refl; step_is = refl } }
 
     by : (phase : Phase) → IsEntryIn phase seat byte entry
-        → IsTurnIn phase seat byte view moment (key_turn_in phase seat byte view moment entry).0 (key_turn_in phase seat byte view moment entry).1
+        → IsTurnIn phase seat byte view moment (key_turn_in phase seat byte view moment entry).0
+        (key_turn_in phase seat byte view moment entry).1
     by Listening says = listens (is_spent seat) says
     by (Owing wish) says = record { after_is = refl; step_is = refl }
     by Over says = record { after_is = refl; step_is = refl }

@@ -1,4 +1,4 @@
--- What holds of an outcome, if there is one, and whether memory ran out.
+-- What holds of the outcome of an event, and of none if memory ran out.
 use Rattle.std.proofs.Common.{Bool, Result, Ok, Err}
 use Rattle.std.specs.Prelude.{IfOk}
 use Rattle.pv_network.specs.declared.event.Event.{Event}

@@ -79,7 +79,7 @@ takes_line s w stands port text here after step seats read says made =
       says.step_is ∙ ap (λ (t : EditorSeat × EditStep). t.1) same,
     )
 
--- the step of a line is done
+-- the step of an editor's line is done
 pub does_step : (w : World) (port : ℕ) (said : Option EditLine) (new : State) (outcome : Outcome) (step : EditStep)
     → step ≡ (step_of_line w port said).1
     → StandsFor new (step_of_said (step_of_line w port said).0 port step).0 ×
@@ -157,7 +157,8 @@ module _ (s : State) (w : World) (stands : StandsFor s w) (c : ℕ) where
       let after = sound_after_item w c stands.sound from number item genuine how (sym same) in
       let sound : IsSound (with_edit w (stored_on how rec)) = subst IsSound (sym (item_stored number item how)) after in
       let done = edit_stands s w stands here on_disk (stored_on how rec) (rw stands.update at stored) sound in (
-        subst (λ (a : Arrival). StandsFor (record s { update = here.state; disk = here.disk }) (world_after w (with_item_of w c number item) a))
+        subst (λ (a : Arrival). StandsFor (record s { update = here.state; disk = here.disk })
+            (world_after w (with_item_of w c number item) a))
             same
             (subst (λ (v : World). StandsFor (record s { update = here.state; disk = here.disk }) v) (item_stored number item how) done),
         same,
@@ -243,7 +244,8 @@ module _ (s : State) (w : World) (stands : StandsFor s w) (c : ℕ) where
               (centre_replaced s w stands c new (centre_at w c) w.shown w.stopped is (subst IsSound (sym same) stands.sound)
               (subst IsChargedWorld (sym same) stands.charged))
 
-          by : (how : Arrival) → arrival ≡ how → StandsFor (record s { centres = set s.centres c new }) (world_after w (with_next_at w c) how)
+          by : (how : Arrival) → arrival ≡ how
+              → StandsFor (record s { centres = set s.centres c new }) (world_after w (with_next_at w c) how)
           by arrivals.Taken is =
               let next = taken_is_next (received_count ways.Down w c) (receiver_count ways.Down w c) w.update.limits.records number is in
               let sound = sound_applied w c stands.sound number genuine.1.edit genuine.1.there next in

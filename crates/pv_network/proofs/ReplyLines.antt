@@ -1,4 +1,4 @@
--- The replies to an editor are lines that begin with a capital letter.
+-- Each reply to an editor stands on one row, and begins with a capital letter.
 use Rattle.std.proofs.Common.{◌≡◌, ℕ, zero, suc, ◌+◌, ◌-◌, ◌≤◌, lit≤, Bool, true, false, cond, List, [], ◌∷◌, ◌++◌, Option, Some, None, length, refl, ap, subst, ◌∙◌, arith}
 use Rattle.std.specs.Prelude.{All, decimal, codes, ◌==◌, slice_get, option_map, if◌then◌else◌, replicate}
 use Rattle.std.specs.List.{list_all}
@@ -32,28 +32,30 @@ use Rattle.pv_network.specs.Editing.{step_of_line, step_of_said, step_of_edit}
 use Rattle.pv_udc.specs.declared.request.UdcRequest.TheVariants.{Edit}
 use Rattle.pv_network.specs.Verdict.{verdict_of, reply_found, item_in}
 use Rattle.pv_network.specs.World.{World}
-use Rattle.pv_network.specs.Replies.{is_unbroken, IsUnbroken, IsReplyLine, RepliesByLine}
+use Rattle.pv_network.specs.Replies.{is_not_line_end, HasNoLineEnd, IsReplyLine, RepliesByLine}
 use Rattle.pv_network.proofs.CallerLemmas.{unbroken-append, unbroken-decimal, either}
 use Rattle.pv_network.proofs.Lists.{all_get}
 
 -- ---- the words of a reply
 
 -- words and a number
-with_number : (words : List ℕ) (n : ℕ) → IsUnbroken words → IsUnbroken (words_with words n)
+with_number : (words : List ℕ) (n : ℕ) → HasNoLineEnd words → HasNoLineEnd (words_with words n)
 with_number words n whole = unbroken-append words (decimal n) whole (unbroken-decimal n)
 
-others_unbroken : (code shown : ℕ) → IsUnbroken (other_words code shown)
+others_unbroken : (code shown : ℕ) → HasNoLineEnd (other_words code shown)
 others_unbroken code shown =
     either (code == 11) _ _ refl (either (code == 12) _ _ refl (either (code == 13) _ _ refl
     (either (code == 14) _ _ (with_number (codes "FULL ") shown refl) (either (code == 15) _ _ refl (either (code == 16) _ _ refl refl)))))
 
-words_unbroken : (code shown : ℕ) → IsUnbroken (refusal_words code shown)
+words_unbroken : (code shown : ℕ) → HasNoLineEnd (refusal_words code shown)
 words_unbroken code shown =
     let wanted = unbroken-append (words_with (codes "NUMBER ") shown) (codes " WANTED") (with_number (codes "NUMBER ") shown refl) refl in
     either (code == 1) _ _ refl (either (code == 2) _ _ refl (either (code == 3) _ _ wanted (either (code == 4) _ _ refl
-    (either (code == 5) _ _ (with_number (codes "FRAMES FULL ") shown refl) (either (code == 6) _ _ (with_number (codes "ACCOUNTS FULL ") shown refl)
+    (either (code == 5) _ _ (with_number (codes "FRAMES FULL ") shown refl)
+    (either (code == 6) _ _ (with_number (codes "ACCOUNTS FULL ") shown refl)
     (either (code == 7) _ _ (with_number (codes "BAD FRAME ") shown refl) (either (code == 8) _ _ refl
-    (either (code == 9) _ _ (with_number (codes "LEASES FULL ") shown refl) (either (code == 10) _ _ refl (others_unbroken code shown))))))))))
+    (either (code == 9) _ _ (with_number (codes "LEASES FULL ") shown refl)
+    (either (code == 10) _ _ refl (others_unbroken code shown))))))))))
 
 -- the reply to a request
 pub verdict_line : (reply : UdcReplyView) → IsReplyLine (reply_of reply)
@@ -62,40 +64,46 @@ verdict_line (Stored place) =
 verdict_line (Refused code shown) =
     let words = unbroken-append (codes " ") (refusal_words code shown) refl (words_unbroken code shown) in
     let number = unbroken-append (decimal code) (codes " " ++ refusal_words code shown) (unbroken-decimal code) words in
-    record { whole = unbroken-append (codes "NO ") (decimal code ++ (codes " " ++ refusal_words code shown)) refl number; first = _; rest = _; is = refl; capital = (lit≤ tt, lit≤ tt) }
+    record {
+      whole = unbroken-append (codes "NO ") (decimal code ++ (codes " " ++ refusal_words code shown)) refl number;
+      first = _;
+      rest = _;
+      is = refl;
+      capital = (lit≤ tt, lit≤ tt);
+    }
 
 -- ---- what callers keyed
 
-field_byte : (byte : ℕ) → is_field_byte byte ≡ true → is_unbroken byte ≡ true
+field_byte : (byte : ℕ) → is_field_byte byte ≡ true → is_not_line_end byte ≡ true
 field_byte byte is = grind (arith, nat_tests)
 
-field_unbroken : (text : List ℕ) → list_all is_field_byte text ≡ true → IsUnbroken text
+field_unbroken : (text : List ℕ) → list_all is_field_byte text ≡ true → HasNoLineEnd text
 field_unbroken [] is = refl
 field_unbroken (byte ∷ text) is =
     let parts = and_parts (is_field_byte byte) _ is in and_from _ _ (field_byte byte parts.0) (field_unbroken text parts.1)
 
-barred_unbroken : (fields : List (List ℕ)) → All IsFilled fields → IsUnbroken (barred_fields fields)
+barred_unbroken : (fields : List (List ℕ)) → All IsFilled fields → HasNoLineEnd (barred_fields fields)
 barred_unbroken [] all = refl
 barred_unbroken (field ∷ fields) all =
     let here = unbroken-append (codes "|") field refl (field_unbroken field (All-head IsFilled field fields all).bytes) in
     unbroken-append (codes "|" ++ field) (barred_fields fields) here (barred_unbroken fields (All-tail IsFilled field fields all))
 
-joined_unbroken : (fields : List (List ℕ)) → All IsFilled fields → IsUnbroken (joined_fields fields)
+joined_unbroken : (fields : List (List ℕ)) → All IsFilled fields → HasNoLineEnd (joined_fields fields)
 joined_unbroken [] all = refl
 joined_unbroken (field ∷ fields) all =
     unbroken-append field (barred_fields fields) (field_unbroken field (All-head IsFilled field fields all).bytes)
     (barred_unbroken fields (All-tail IsFilled field fields all))
 
-zeros_unbroken : (n : ℕ) → IsUnbroken (replicate n 48)
+zeros_unbroken : (n : ℕ) → HasNoLineEnd (replicate n 48)
 zeros_unbroken zero = refl
 zeros_unbroken (suc n) = and_from _ _ refl (zeros_unbroken n)
 
-name_unbroken : (name : Name) → IsName name → IsUnbroken (name_text name)
+name_unbroken : (name : Name) → IsName name → HasNoLineEnd (name_text name)
 name_unbroken name is =
-    let letter : is_unbroken name.letter ≡ true = by is.letter in
+    let letter : is_not_line_end name.letter ≡ true = by is.letter in
     unbroken-append (decimal name.page) (name.letter ∷ []) (unbroken-decimal name.page) (and_from _ _ letter refl)
   where
-    by : IsLetter name.letter → is_unbroken name.letter ≡ true
+    by : IsLetter name.letter → is_not_line_end name.letter ≡ true
     by within = grind (arith, nat_tests)
 
 -- what an editor is shown of a filled frame
@@ -109,7 +117,7 @@ response_line place reply is =
     let who = account ++ (gap ++ fields) in
     let after_name = gap ++ who in
     let after_place = gap ++ (name ++ after_name) in
-    let account_whole : IsUnbroken account =
+    let account_whole : HasNoLineEnd account =
     unbroken-append (replicate missing zero_digit) (decimal reply.account) (zeros_unbroken missing) (unbroken-decimal reply.account) in
     let fields_whole = unbroken-append gap fields refl (joined_unbroken reply.fields is.fields.filled) in
     let who_whole = unbroken-append account (gap ++ fields) account_whole fields_whole in
@@ -148,7 +156,7 @@ working_line : (working : Option Working) (step : Working → EditStep) → ((w 
 working_line None step each = verdict_line (plain 12)
 working_line (Some working) step each = each working
 
--- a line that is not refused
+-- an editor's line that is not refused
 done_line : (seat : EditorSeat) (edits : List Record) (places : List ℕ) (line : EditLine) → StepIsReplyLine (step_of seat edits places line)
 done_line seat edits places (lines.LogOn account password) =
     record { whole = refl; first = _; rest = _; is = refl; capital = (lit≤ tt, lit≤ tt) }

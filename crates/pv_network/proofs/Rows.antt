@@ -117,7 +117,8 @@ module _ (packets : List Packet) (links : List Places) (c : ℕ) (there : c < le
       )
 
   -- and the link has that end, which comes from its own
-  pub end_replaced : (way : Way) (next : SendingEnd → SendingEnd) → links_of packets (set links c (places_with_end way here (next (end_at way here))))
+  pub end_replaced : (way : Way) (next : SendingEnd → SendingEnd)
+      → links_of packets (set links c (places_with_end way here (next (end_at way here))))
       ≡ set (links_of packets links) c
       (with_end way (link_in (links_of packets links) c) (next (end_on way (link_in (links_of packets links) c))))
   end_replaced way next =
@@ -144,7 +145,8 @@ module _ (packets : List Packet) (links : List Places) (c : ℕ) (there : c < le
 
     -- those of a link are
     link_stays : (other : Places) → IsWithin packets other → link_of row other ≡ link_of packets other
-    link_stays other is = λ i. record { down = stays other.down is.down i; up = stays other.up is.up i; sending = other.sending; posting = other.posting }
+    link_stays other is =
+        λ i. record { down = stays other.down is.down i; up = stays other.up is.up i; sending = other.sending; posting = other.posting }
 
     -- one place more is that of the packet
     pub pushed : (places : List ℕ) → All (λ p. p < length packets) places
@@ -187,7 +189,8 @@ module _ (packets : List Packet) (links : List Places) (c : ℕ) (there : c < le
     -- places in the row are in the longer one
     longer : (places : List ℕ) → All (λ p. p < length packets) places → All (λ p. p < length row) places
     longer places all =
-        All-weaker (λ p. p < length packets) (λ p. p < length row) (λ p below. omega (arith, below, length-append packets (packet ∷ []))) places all
+        All-weaker (λ p. p < length packets) (λ p. p < length row)
+        (λ p below. omega (arith, below, length-append packets (packet ∷ []))) places all
 
     -- and so is one place more
     longer_push : (places : List ℕ) → All (λ p. p < length packets) places → All (λ p. p < length row) (places ++ place ∷ [])

@@ -34,7 +34,7 @@ use Rattle.pv_network.specs.declared.outcome.Outcome.TheVariants as outcomes
 use Rattle.pv_network.specs.declared.outcome.Turn.{Turn}
 use Rattle.pv_network.specs.Call.{Call, first_call, is_waiting, wish_to_store, key_turn}
 use Rattle.pv_network.specs.Calling.{calls_at, call_at, view_at, holdings_at, with_calls, step_of_dial, step_of_hang, step_of_press, step_of_store, step_of_show}
-use Rattle.pv_network.specs.Calls.{Holdings, is_refused, call_in, with_call, step_answer, call_after, turn_at, away_answer, with_wish, dial_at, hang_at, press_at, storing_unless, storing_at, store_at, showing_at, show_at, IsPortEntry, IsEntryUnlessWaiting}
+use Rattle.pv_network.specs.Calls.{Holdings, lacks_room, call_in, with_call, step_answer, call_after, turn_at, away_answer, with_wish, dial_at, hang_at, press_at, storing_unless, storing_at, store_at, showing_at, show_at, IsPortEntry, IsEntryUnlessWaiting}
 use Rattle.pv_network.specs.Centre.{Centre, new_centre}
 use Rattle.pv_network.specs.Crashing.{step_of_centre_crash, step_of_crash}
 use Rattle.pv_network.specs.Cutting.{node_of, update_request, stored_for, recorded_world, wish_of, is_stored_for, wished_world, taken_world, applied_world, stored_world, step_of_stop, step_of_cut}
@@ -245,7 +245,7 @@ stored_nothing_shown (outcomes.Bill lines pence) is = absurd cc
 -- ---- at a port
 
 module _ (w : World) (c p : ℕ) where
-  -- the same calls
+  -- a world that is given the calls which a centre has is as it was
   calls_same : with_calls w c (calls_at w c) ≡ w
   calls_same = ap (λ (centres : List _). record w { centres = centres }) (set-get_or w.centres c new_centre)
 
@@ -276,7 +276,8 @@ module _ (w : World) (c p : ℕ) where
           let turn = key_turn call.seat key (view_at w c p) w.moment entry in
           subst (λ (next : Option Call). Goes call.seat (Keyed key (view_at w c p) w.moment ∷ []) (screens_in (step_answer turn.1)) next)
           (sym (next_is call is (call_after turn.0 turn.1)))
-          (turn_goes call.seat (Keyed key (view_at w c p) w.moment) turn.0 turn.1 (entry_turns call.seat key (view_at w c p) w.moment entry said))
+          (turn_goes call.seat (Keyed key (view_at w c p) w.moment) turn.0 turn.1
+          (entry_turns call.seat key (view_at w c p) w.moment entry said))
 
   store_stretch : (holdings : Holdings) (call : Option Call) → call_at w c p ≡ call
       → Stretch call (store_events holdings call) (screens_in (store_at holdings (calls_at w c) p call).1)
@@ -300,7 +301,7 @@ module _ (w : World) (c p : ℕ) where
           → Stretch (Some call) (wish_events holdings wish) (screens_in (storing_at holdings (calls_at w c) p call wish).1)
           (call_at (with_calls w c (storing_at holdings (calls_at w c) p call wish).0) c p)
       by None owes = nothing_done (Some call) is
-      by (Some wish) owes = full (is_refused holdings wish) wish owes
+      by (Some wish) owes = full (lacks_room holdings wish) wish owes
 
   show_stretch : (call : Option Call) → call_at w c p ≡ call
       → Stretch call (show_events call) (screens_in (show_at (calls_at w c) p call).1)
@@ -361,7 +362,8 @@ key_stretch w c p key says = by (is_owes (step_of_press w c p key.byte key.entry
         let both = stretch_on (call_at w c p) (call_at v c p) (call_at (step_of_payment v c p).0 c p) _ (payment_events v c p) _
         (screens_in (step_of_payment v c p).1) first
         (payment_stretch v c p) in
-        subst (λ (l : List Turn). Stretch (call_at w c p) (press_events (view_at w c p) w.moment key.byte (call_at w c p) ++ payment_events v c p)
+        subst (λ (l : List Turn). Stretch (call_at w c p)
+        (press_events (view_at w c p) w.moment key.byte (call_at w c p) ++ payment_events v c p)
         (l ++ screens_in (step_of_payment v c p).1) (call_at (step_of_payment v c p).0 c p))
         (owes_nothing_shown (step_of_press w c p key.byte key.entry).1 is) both
     by false is = stretch_end (call_at w c p) _ _ _ first
@@ -487,7 +489,7 @@ module _ (w : World) (c p centre port : ℕ) (other : centre ≡ c → port ≡ 
       by : (wish : Option Wish)
           → call_at (with_calls w centre (storing_at holdings (calls_at w centre) port call wish).0) c p ≡ call_at w c p
       by None = kept_calls
-      by (Some wish) = full (is_refused holdings wish) wish
+      by (Some wish) = full (lacks_room holdings wish) wish
 
   show_elsewhere : (call : Option Call) → call_at (with_calls w centre (show_at (calls_at w centre) port call).0) c p ≡ call_at w c p
   show_elsewhere None = kept_calls
@@ -618,7 +620,8 @@ stored_leaves : (w : World) (command : Storing) (said : Option EditLine)
     → IfSome (stored_world w command said) (LeavesOthers (node_of command) w)
 stored_leaves w (commands.Seed name row) said = recorded_leaves w (stored_for w.update (update_request w (commands.Seed name row) said))
 stored_leaves w (commands.Edit port line) said = recorded_leaves w (stored_for w.update (update_request w (commands.Edit port line) said))
-stored_leaves w (commands.Back centre index) said = recorded_leaves w (stored_for w.update (update_request w (commands.Back centre index) said))
+stored_leaves w (commands.Back centre index) said =
+    recorded_leaves w (stored_for w.update (update_request w (commands.Back centre index) said))
 stored_leaves w (commands.Store centre port) said = by (wish_of (call_at w centre port))
   where
     if_stored : (test : Bool) → IfSome (cond test (Some (step_of_store w centre port).0) None) (LeavesOthers (nodes.Centre centre) w)

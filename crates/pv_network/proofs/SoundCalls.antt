@@ -20,12 +20,12 @@ use Rattle.pv_session.specs.State.{CallState, is_owing, wish_in}
 use Rattle.pv_session.specs.Turns.{charged_turn, storing_turn}
 use Rattle.pv_network.specs.declared.outcome.Outcome.TheVariants as outcomes
 use Rattle.pv_network.specs.Call.{Call, call_of, first_call, serial_with, serial_of, is_waiting, wish_to_store, key_turn}
-use Rattle.pv_network.specs.Calls.{Calls, Holdings, is_refused, call_in, with_call, turn_at, dial_at, hang_at, press_at, items_with, removals_with, reply_for, with_wish, storing_unless, storing_at, store_at, showing_at, show_at}
+use Rattle.pv_network.specs.Calls.{Calls, Holdings, lacks_room, call_in, with_call, turn_at, dial_at, hang_at, press_at, items_with, removals_with, reply_for, with_wish, storing_unless, storing_at, store_at, showing_at, show_at}
 use Rattle.pv_network.specs.Sound.{serial_in, Answers, OwesItsReply, IsSoundCalls}
 use Rattle.pv_network.proofs.KeptSerials.{key_keeps}
 use Rattle.pv_network.proofs.Lists.{set_at}
 
--- the serial that a call has, if there is one
+-- the serial of the call at a port; none without a call, or before it has logged on
 abbrev serial_of_any : Option Call → Option ℕ
 serial_of_any call = call >>= serial_of
 
@@ -159,7 +159,9 @@ module _ (calls : Calls) (port : ℕ) (sound : IsSoundCalls calls) where
         removals = removals_with holdings calls wish;
         ports = set calls.ports port (Some (record call { stored = Some Stored }));
       })
-      stored wish answers = with_call_sound (items_with calls wish) (removals_with holdings calls wish) (Some (record call { stored = Some Stored })) kept answers
+      stored wish answers =
+          with_call_sound (items_with calls wish) (removals_with holdings calls wish)
+          (Some (record call { stored = Some Stored })) kept answers
 
       by : (wish : Wish) → Answers call.seat.phase (reply_for calls wish) → IsSoundCalls (with_wish holdings calls port call wish)
       by (LogOn account) = log_on_sound holdings call account
@@ -189,7 +191,8 @@ module _ (calls : Calls) (port : ℕ) (sound : IsSoundCalls calls) where
           ∙ ap (λ (stored : Option Paid). serial_with stored call.seat.serial) (none_stored (is_owing call.seat.phase) call.stored how)
           ∙ sym (key_keeps call.seat key view moment entry) ∙ kept)
 
-  pub store_sound : (holdings : Holdings) (call : Option Call) → call_in calls port ≡ call → IsSoundCalls (store_at holdings calls port call).0
+  pub store_sound : (holdings : Holdings) (call : Option Call) → call_in calls port ≡ call
+      → IsSoundCalls (store_at holdings calls port call).0
   store_sound holdings None is = sound
   store_sound holdings (Some call) is = by (wish_to_store call) refl
     where
@@ -201,7 +204,7 @@ module _ (calls : Calls) (port : ℕ) (sound : IsSoundCalls calls) where
 
       by : (wish : Option Wish) → wish_to_store call ≡ wish → IsSoundCalls (storing_at holdings calls port call wish).0
       by None owes = sound
-      by (Some wish) owes = full (is_refused holdings wish) wish owes
+      by (Some wish) owes = full (lacks_room holdings wish) wish owes
 
   pub show_sound : (call : Option Call) → call_in calls port ≡ call → IsSoundCalls (show_at calls port call).0
   show_sound None is = sound

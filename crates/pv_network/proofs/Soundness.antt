@@ -51,7 +51,7 @@ use Rattle.pv_network.specs.declared.outcome.Outcome.{Outcome}
 use Rattle.pv_network.specs.declared.outcome.Turn.{Turn}
 use Rattle.pv_packet.specs.declared.packet.Packet.{Packet}
 use Rattle.pv_packet.specs.declared.packet.Packet.TheVariants.{Down, Up, DownHeard, UpHeard}
-use Rattle.pv_link.specs.Sending.{SendingEnd, new_end, number_in_turn, end_after, end_that_heard}
+use Rattle.pv_link.specs.Sending.{SendingEnd, new_end, number_due, end_after, end_that_heard}
 use Rattle.pv_network.specs.declared.round.Round.{Round}
 use Rattle.pv_network.specs.declared.round.Round.TheVariants as rounds
 use Rattle.pv_network.specs.declared.verdict.TheConstants.{FULL}
@@ -326,7 +326,7 @@ module _ (w : World) (editor q : ℕ) (wish : EditWish) (sound : IsSound w) wher
   sound_answered (replies.Old count) answered = absurd answered
   sound_answered (replies.Early count) answered = absurd answered
 
-  -- a sound world stays sound with the record of an edit, also if nobody is told
+  -- a sound world stays sound with the record of an edit, also without an acknowledgement
   sound_edited : IsSound (with_edit w (verdict_of w.update (Edit editor q wish)).stored)
   sound_edited = sound_recorded w (Edit editor q wish) sound
       (λ edit reply is c. edit_takes_none w.update.records c (calls_at w c).items editor edit
@@ -390,7 +390,7 @@ sound_edit w port said sound = by (step_of_line w port said).1
 heard_after : (end : SendingEnd) (front : ℕ) → (end_after end front).acknowledged ≡ end.acknowledged
 heard_after end front = by (ltb end.acknowledged front)
   where
-    by : (test : Bool) → (cond test (record end { next = number_in_turn end front + 1 }) end).acknowledged ≡ end.acknowledged
+    by : (test : Bool) → (cond test (record end { next = number_due end front + 1 }) end).acknowledged ≡ end.acknowledged
     by true = refl
     by false = refl
 
@@ -631,13 +631,14 @@ sound_round way w c sound = sent (step_of_sending way w c).0 (step_of_sending wa
     sent v outcome (Some index) next = sound_ack_back way (step_of_arriving way v c index).0 c _ (sound_arriving v c next way index)
 
 -- what comes after a round leaves a sound world sound if more rounds do
-sound_after_round : (more : World → Way → Load → World × Outcome) → ((v : World) (way : Way) (load : Load) → IsSound v → IsSound (more v way load).0)
+sound_after_round : (more : World → Way → Load → World × Outcome)
+    → ((v : World) (way : Way) (load : Load) → IsSound v → IsSound (more v way load).0)
     → (w : World) (way : Way) (load : Load) (round : Round) → IsSound w → IsSound (after_round more w way load round).0
 sound_after_round more keeps w way load rounds.Taken sound = keeps w way (with_one way load) sound
 sound_after_round more keeps w way load rounds.Again sound = keeps w way load sound
 sound_after_round more keeps w way load (rounds.Stopped outcome) sound = sound
 
--- so does a round on a way, if there is one, and what comes after it
+-- so does a round on the next way with what comes after it; without a next way nothing changes
 sound_rounds_on : (more : World → Way → Load → World × Outcome)
     → ((v : World) (way : Way) (load : Load) → IsSound v → IsSound (more v way load).0)
     → (w : World) (c : ℕ) (load : Load) (next : Option Way) → IsSound w → IsSound (rounds_on more w c load next).0
@@ -770,7 +771,8 @@ sound_update_crash w sound = record {
   next = sound.next;
   records = sound.records;
   frames = sound.frames;
-  links = λ c. subst (λ (link : Link). IsSoundLink w.update.records c (centre_at w c) link) (sym (get_or-map (with_new_end ways.Down) w.links c new_link))
+  links = λ c. subst (λ (link : Link). IsSoundLink w.update.records c (centre_at w c) link)
+      (sym (get_or-map (with_new_end ways.Down) w.links c new_link))
       (renewed w.update.records c (centre_at w c) ways.Down (link_at w c) (sound.links c));
   calls = sound.calls;
 }
@@ -782,9 +784,10 @@ sound_crash w (nodes.Centre c) sound = sound_centre_crash w c sound
 
 -- ---- cut
 
--- what a request stores, if there is one
+-- a sound world stays sound with what a request stores; no request stores nothing
 sound_asked : (w : World) (request : Option UdcRequest) → IsSound w
-    → IfSome request (λ asked. IsSound (with_edit w (verdict_of w.update asked).stored)) → IsSound (with_edit w (stored_for w.update request))
+    → IfSome request (λ asked. IsSound (with_edit w (verdict_of w.update asked).stored))
+    → IsSound (with_edit w (stored_for w.update request))
 sound_asked w None sound is = sound
 sound_asked w (Some asked) sound is = is
 
@@ -819,7 +822,7 @@ sound_update w (commands.Back centre index) said sound =
     by None is = tt
     by (Some packet) is = of_packet packet (there_genuine w centre sound ways.Up index packet is)
 
--- the world with a record is sound, if there is one
+-- if a world with what is stored is sound, so is the world that has the record
 sound_if_recorded : (w : World) (stored : Option Record) → IsSound (with_edit w stored) → IfSome (recorded_world w stored) IsSound
 sound_if_recorded w None sound = tt
 sound_if_recorded w (Some edit) sound = sound
@@ -828,7 +831,8 @@ sound_if_recorded w (Some edit) sound = sound
 pub sound_stored_world : (w : World) (command : Storing) (said : Option EditLine) → IsSound w → IfSome (stored_world w command said) IsSound
 sound_stored_world w (commands.Seed name row) said sound = sound_if_recorded w _ (sound_update w (commands.Seed name row) said sound)
 sound_stored_world w (commands.Edit port line) said sound = sound_if_recorded w _ (sound_update w (commands.Edit port line) said sound)
-sound_stored_world w (commands.Back centre index) said sound = sound_if_recorded w _ (sound_update w (commands.Back centre index) said sound)
+sound_stored_world w (commands.Back centre index) said sound =
+    sound_if_recorded w _ (sound_update w (commands.Back centre index) said sound)
 sound_stored_world w (commands.Store centre port) said sound = by (wish_of (call_at w centre port))
   where
     if_stored : (test : Bool) → IfSome (cond test (Some (step_of_store w centre port).0) None) IsSound

@@ -99,15 +99,76 @@ module _ (s : State) (w : World) (stands : StandsFor s w) where
 
     pub edit_stands : (stored : Option Record) → here.state ≡ list_with w.update stored → IsSound (with_edit w stored)
         → StandsFor with_update (with_edit w stored)
-    edit_stands None is sound = record { sound = sound; charged = stands.charged; update = is; on_disk = on_disk; moment = stands.moment; seats = stands.seats; centres = stands.centres; links = stands.links }
-    edit_stands (Some edit) is sound = record { sound = sound; charged = stands.charged; update = is; on_disk = on_disk; moment = stands.moment; seats = stands.seats; centres = longer edit; links = stands.links }
+    edit_stands None is sound =
+        record {
+          sound = sound;
+          charged = stands.charged;
+          update = is;
+          on_disk = on_disk;
+          moment = stands.moment;
+          seats = stands.seats;
+          centres = stands.centres;
+          links = stands.links;
+        }
+    edit_stands (Some edit) is sound =
+        record {
+          sound = sound;
+          charged = stands.charged;
+          update = is;
+          on_disk = on_disk;
+          moment = stands.moment;
+          seats = stands.seats;
+          centres = longer edit;
+          links = stands.links;
+        }
 
     pub request_stands : (editor q : ℕ) (stored : Option Record) (reply : UdcReplyView) → here.state ≡ list_with w.update stored
-        → IsSound (with_receipt (with_edit w stored) editor q reply) → StandsFor with_update (with_receipt (with_edit w stored) editor q reply)
-    request_stands editor q None (Stored place) is sound = record { sound = sound; charged = stands.charged; update = is; on_disk = on_disk; moment = stands.moment; seats = stands.seats; centres = stands.centres; links = stands.links }
-    request_stands editor q None (Refused code shown) is sound = record { sound = sound; charged = stands.charged; update = is; on_disk = on_disk; moment = stands.moment; seats = stands.seats; centres = stands.centres; links = stands.links }
-    request_stands editor q (Some edit) (Stored place) is sound = record { sound = sound; charged = stands.charged; update = is; on_disk = on_disk; moment = stands.moment; seats = stands.seats; centres = longer edit; links = stands.links }
-    request_stands editor q (Some edit) (Refused code shown) is sound = record { sound = sound; charged = stands.charged; update = is; on_disk = on_disk; moment = stands.moment; seats = stands.seats; centres = longer edit; links = stands.links }
+        → IsSound (with_receipt (with_edit w stored) editor q reply)
+        → StandsFor with_update (with_receipt (with_edit w stored) editor q reply)
+    request_stands editor q None (Stored place) is sound =
+        record {
+          sound = sound;
+          charged = stands.charged;
+          update = is;
+          on_disk = on_disk;
+          moment = stands.moment;
+          seats = stands.seats;
+          centres = stands.centres;
+          links = stands.links;
+        }
+    request_stands editor q None (Refused code shown) is sound =
+        record {
+          sound = sound;
+          charged = stands.charged;
+          update = is;
+          on_disk = on_disk;
+          moment = stands.moment;
+          seats = stands.seats;
+          centres = stands.centres;
+          links = stands.links;
+        }
+    request_stands editor q (Some edit) (Stored place) is sound =
+        record {
+          sound = sound;
+          charged = stands.charged;
+          update = is;
+          on_disk = on_disk;
+          moment = stands.moment;
+          seats = stands.seats;
+          centres = longer edit;
+          links = stands.links;
+        }
+    request_stands editor q (Some edit) (Refused code shown) is sound =
+        record {
+          sound = sound;
+          charged = stands.charged;
+          update = is;
+          on_disk = on_disk;
+          moment = stands.moment;
+          seats = stands.seats;
+          centres = longer edit;
+          links = stands.links;
+        }
 
   -- another moment leaves all else standing
   pub clock_shows : (moment : ℕ) → StandsFor (record s { moment = moment }) (record w { moment = moment })

@@ -18,7 +18,7 @@ use Rattle.pv_udc.specs.Requests.{record_of}
 use Rattle.pv_udc.specs.declared.reply.UdcReply.{UdcReply}
 use Rattle.pv_udc.specs.declared.reply.UdcReply.TheVariants.{Stored, Old, Early}
 use Rattle.pv_udc.specs.declared.request.UdcRequest.TheVariants.{TakeUp}
-use Rattle.pv_network.specs.OneList.{item_of, taken_items}
+use Rattle.pv_network.specs.OneList.{item_from, taken_items}
 
 -- one if the test holds
 abbrev pub one_if : Bool → ℕ
@@ -58,7 +58,7 @@ taken_more edits more c = omega (arith, sum_by-append (λ (e : Record). one_if (
 
 -- the record takes up none of the centre's items, or the next one
 abbrev pub TakesNext : List Record → ℕ → List Item → Record → Type 0
-TakesNext edits c items edit = IfSome (item_of c edit) (λ item. slice_get items (taken_of edits c) ≡ Some item)
+TakesNext edits c items edit = IfSome (item_from c edit) (λ item. slice_get items (taken_of edits c) ≡ Some item)
 
 module _ (edits : List Record) (c : ℕ) (items : List Item) (is : taken_items edits c ≡ take (taken_of edits c) items) where
   -- a record that takes up none
@@ -66,8 +66,9 @@ module _ (edits : List Record) (c : ℕ) (items : List Item) (is : taken_items e
       → taken_items (edits ++ edit ∷ []) c ≡ take (taken_of (edits ++ edit ∷ []) c) items
   none_taken edit none other =
       let same : taken_of (edits ++ edit ∷ []) c ≡ taken_of edits c =
-      sum_by_push (λ (e : Record). one_if (is_of_centre c e)) edits edit ∙ ap (λ test. taken_of edits c + one_if test) other ∙ omega arith in
-      filter_map-append (item_of c) edits (edit ∷ []) ∙ ap (λ (l : List Item). taken_items edits c ++ l) none
+      sum_by_push (λ (e : Record). one_if (is_of_centre c e)) edits edit
+      ∙ ap (λ test. taken_of edits c + one_if test) other ∙ omega arith in
+      filter_map-append (item_from c) edits (edit ∷ []) ∙ ap (λ (l : List Item). taken_items edits c ++ l) none
       ∙ append-nil (taken_items edits c) ∙ is ∙ ap (λ n. take n items) (sym same)
 
   -- with it the items that were taken up are still the first ones
@@ -87,7 +88,7 @@ module _ (edits : List Record) (c : ℕ) (items : List Item) (is : taken_items e
           let one : taken_items (Taken up ∷ []) c ≡ up.item ∷ [] = rw same refl in
           let more : taken_of (edits ++ Taken up ∷ []) c ≡ taken_of edits c + 1 =
           sum_by_push (λ (e : Record). one_if (is_of_centre c e)) edits (Taken up) ∙ ap (λ test. taken_of edits c + one_if test) same in
-          filter_map-append (item_of c) edits (Taken up ∷ []) ∙ ap (λ (l : List Item). taken_items edits c ++ l) one
+          filter_map-append (item_from c) edits (Taken up ∷ []) ∙ ap (λ (l : List Item). taken_items edits c ++ l) one
           ∙ ap (λ (l : List Item). l ++ up.item ∷ []) is
           ∙ sym (ap (λ n. take n items) more
           ∙ take_more items (taken_of edits c) up.item (slice_get_within items (taken_of edits c) up.item there)

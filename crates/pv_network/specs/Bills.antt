@@ -12,7 +12,7 @@ use Rattle.pv_network.specs.Charging.{line_in, line_at}
 use Rattle.pv_network.specs.Prices.{pence_of}
 use Rattle.pv_network.specs.World.{World, centre_at}
 
--- lines, with the sum of their prices
+-- charge lines, with the sum of their prices
 abbrev pub bill_answer : List BillLine → Outcome
 bill_answer lines = outcomes.Bill lines (pence_of lines)
 
@@ -33,7 +33,7 @@ bill_lines records account = filter_map (billed_in account) records
 abbrev pub step_of_bill : World → ℕ → World × Outcome
 step_of_bill w account = (w, bill_answer (bill_lines w.update.records account))
 
--- ---- lines
+-- ---- charge lines of a centre
 
 -- the charge lines that a centre has stored, in that order
 abbrev pub stored_lines : ℕ → List Item → List BillLine

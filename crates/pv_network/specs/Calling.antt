@@ -7,7 +7,7 @@ use Rattle.pv_edits.specs.Sight.{View, sight_of}
 use Rattle.pv_session.specs.declared.entry.Entry.{Entry}
 use Rattle.pv_network.specs.declared.outcome.Outcome.{Outcome}
 use Rattle.pv_network.specs.Call.{Call}
-use Rattle.pv_network.specs.Calls.{Calls, Holdings, caller_account, call_in, dial_at, hang_at, press_at, store_at, show_at}
+use Rattle.pv_network.specs.Calls.{Calls, Holdings, given_account, call_in, dial_at, hang_at, press_at, store_at, show_at}
 use Rattle.pv_network.specs.Centre.{record_count}
 use Rattle.pv_network.specs.Charging.{with_shown, with_stops}
 use Rattle.pv_network.specs.World.{World, centre_at, with_centre, page_base}
@@ -44,7 +44,7 @@ letters_at w c account =
 
 -- what a centre shows to the caller at a port: what its page base has for his account, and the letter that waits
 abbrev pub view_at : World → ℕ → ℕ → View
-view_at w c port = sight_of (page_base w c) (letters_at w c) c (caller_account (call_at w c port))
+view_at w c port = sight_of (page_base w c) (letters_at w c) c (given_account (call_at w c port))
 
 -- a key at the moment of the clock, with the entry that it makes
 abbrev pub step_of_press : World → ℕ → ℕ → ℕ → Option Entry → World × Outcome

@@ -41,9 +41,9 @@ abbrev pub call_in : Calls → ℕ → Option Call
 call_in calls port = call_among calls.ports port
 
 -- the account that a caller gave, if there is a call
-abbrev pub caller_account : Option Call → Option ℕ
-caller_account None = None
-caller_account (Some call) = call.seat.account
+abbrev pub given_account : Option Call → Option ℕ
+given_account None = None
+given_account (Some call) = call.seat.account
 
 -- another call at a port, or none
 abbrev pub with_call : Calls → ℕ → Option Call → Calls
@@ -126,15 +126,15 @@ pub record Holdings : Type 0 where
   pub letters : ℕ → List WaitingLetter
 
 -- a record is stored for a wish: for each but the removal of a letter that does not wait
-abbrev pub is_recorded : Holdings → Wish → Bool
-is_recorded holdings (wishes.LogOn account) = true
-is_recorded holdings (wishes.Charge line) = true
-is_recorded holdings (wishes.Post item) = true
-is_recorded holdings (wishes.Remove account number) = has_letter (holdings.letters account) number
+abbrev pub makes_record : Holdings → Wish → Bool
+makes_record holdings (wishes.LogOn account) = true
+makes_record holdings (wishes.Charge line) = true
+makes_record holdings (wishes.Post item) = true
+makes_record holdings (wishes.Remove account number) = has_letter (holdings.letters account) number
 
 -- there is no room for the record of a wish
-abbrev pub is_refused : Holdings → Wish → Bool
-is_refused holdings wish = is_recorded holdings wish && nat_le holdings.limit holdings.count
+abbrev pub lacks_room : Holdings → Wish → Bool
+lacks_room holdings wish = makes_record holdings wish && nat_le holdings.limit holdings.count
 
 -- What was stored, once a wish is: a log-on is counted, a charge or what a caller sends is an item, and a removal is one of the
 -- letter at the count of the applied records.
@@ -183,7 +183,7 @@ storing_unless false holdings calls port call wish = (with_wish holdings calls p
 -- What a call owes is stored, if the centre has room. Nothing is stored for a call that owes nothing, or for which it was stored.
 abbrev pub storing_at : Holdings → Calls → ℕ → Call → Option Wish → Calls × Outcome
 storing_at holdings calls port call None = (calls, outcomes.Nothing)
-storing_at holdings calls port call (Some wish) = storing_unless (is_refused holdings wish) holdings calls port call wish
+storing_at holdings calls port call (Some wish) = storing_unless (lacks_room holdings wish) holdings calls port call wish
 
 abbrev pub store_at : Holdings → Calls → ℕ → Option Call → Calls × Outcome
 store_at holdings calls port None = (calls, outcomes.NoCall)

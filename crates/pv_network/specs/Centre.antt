@@ -14,19 +14,14 @@ use Rattle.pv_node.specs.declared.decision.Told.{Told}
 use Rattle.pv_nodes.specs.Below.{records_below}
 use Rattle.pv_nodes.specs.Nodes.{told_of, stored_of}
 use Rattle.pv_nodes.specs.OnDisk.{OnDisk, CentreIsOnDisk, centre_with}
-use Rattle.pv_post.specs.declared.item.Item.TheVariants as items
 use Rattle.pv_session.specs.declared.entry.Entry.{Entry}
-use Rattle.pv_session.specs.declared.step.Paid.{Paid}
-use Rattle.pv_session.specs.declared.step.Paid.TheVariants as paid
-use Rattle.pv_session.specs.declared.step.Wish.{Wish}
-use Rattle.pv_session.specs.declared.step.Wish.TheVariants as wishes
 use Rattle.pv_udc.specs.EditList.{EditList, empty_list}
 use Rattle.pv_udc.specs.Replies.{down_of}
 use Rattle.pv_network.specs.declared.arrival.Arrival.{Arrival}
 use Rattle.pv_network.specs.declared.arrival.Arrival.TheVariants.{Taken, Old, Early, Full}
 use Rattle.pv_network.specs.declared.outcome.Outcome.{Outcome}
 use Rattle.pv_network.specs.Call.{Call}
-use Rattle.pv_network.specs.Calls.{Calls, Holdings, no_calls, caller_account, call_in, press_at, IsPortEntry}
+use Rattle.pv_network.specs.Calls.{Calls, Holdings, no_calls, given_account, call_in, press_at, IsPortEntry}
 
 -- a centre: how many records it has applied, and its calls
 pub record Centre : Type 0 where
@@ -116,18 +111,6 @@ pub record Applies (old new : Held) (number : ℕ) (rec : DownRecord) (result : 
   pub asked : Asked old new (requests.Apply number rec) reply
   pub result_is : result ≡ arrival_by reply
 
--- what it is asked for a wish
-abbrev pub request_for : Wish → IrcRequest
-request_for (wishes.LogOn account) = requests.LogOn account
-request_for (wishes.Charge line) = requests.Keep (items.Charge line)
-request_for (wishes.Post item) = requests.Keep item
-request_for (wishes.Remove account number) = requests.Remove account number
-
--- what a call is told of the reply to it: the serial of a log-on, and else that it is stored
-abbrev pub paid_by : IrcReply → Paid
-paid_by (replies.Serial serial) = paid.Serial serial
-paid_by _ = paid.Stored
-
 -- the reply to a record that arrives
 abbrev pub reply_to_arrival : Arrival → Centre → Result IrcReply ℕ
 reply_to_arrival Taken centre = Ok replies.Applied
@@ -188,5 +171,5 @@ pub record Pressed (old new : Held) (port key moment : ℕ) (outcome : Outcome) 
   pub comes : Comes old new outcome
       (press_at (calls_of old) port key
       (sight_of old.node.state.edits (letters_for old.node.state) old.node.state.centre
-      (caller_account (call_in (calls_of old) port))) moment entry
+      (given_account (call_in (calls_of old) port))) moment entry
       (call_in (calls_of old) port))

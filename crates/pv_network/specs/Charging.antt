@@ -8,7 +8,7 @@ use Rattle.pv_post.specs.declared.item.Item.TheVariants as items
 use Rattle.pv_session.specs.declared.step.Step.{Step}
 use Rattle.pv_session.specs.declared.step.Wish.{Wish}
 use Rattle.pv_session.specs.declared.step.Wish.TheVariants as wishes
-use Rattle.pv_session.specs.Callers.{IsChargeFor, IsCall}
+use Rattle.pv_session.specs.Callers.{IsChargeFor, IsCallState}
 use Rattle.pv_session.specs.Calls.{CallEvent, Happens, IsSameCaller}
 use Rattle.pv_session.specs.Shown.{ShownFrame, screen_of_frame}
 use Rattle.pv_session.specs.State.{CallState, new_call, wish_in}
@@ -19,7 +19,7 @@ use Rattle.pv_network.specs.Call.{Call, serial_of}
 use Rattle.pv_network.specs.Calls.{Calls, call_in}
 use Rattle.pv_network.specs.World.{World, StoppedCall, centre_at}
 
--- ---- lines
+-- ---- charge lines
 
 -- the charge line of an item, if it is one
 abbrev pub line_in : Item → Option Charge
@@ -47,18 +47,18 @@ shown_lines shown c serial = map (λ line. line.line) (filter (is_of_call c seri
 abbrev pub line_at : ℕ → Charge → BillLine
 line_at c line = record { centre = c; line = line }
 
--- ---- a line in hand
+-- ---- a charge line in hand
 
--- the line of a wish, if it is a charge
-abbrev pub charge_in : Wish → Option Charge
-charge_in (wishes.LogOn account) = None
-charge_in (wishes.Charge line) = Some line
-charge_in (wishes.Post item) = None
-charge_in (wishes.Remove account number) = None
+-- the charge line of a wish, if it is a charge
+abbrev pub wish_charge : Wish → Option Charge
+wish_charge (wishes.LogOn account) = None
+wish_charge (wishes.Charge line) = Some line
+wish_charge (wishes.Post item) = None
+wish_charge (wishes.Remove account number) = None
 
 -- the line that was stored for a call and whose frame the caller is still to be shown
 abbrev pub line_in_hand : Call → Option Charge
-line_in_hand call = if is_some call.stored then (wish_in call.seat.phase >>= charge_in) else None
+line_in_hand call = if is_some call.stored then (wish_in call.seat.phase >>= wish_charge) else None
 
 -- the lines in hand at some ports
 abbrev pub lines_in_hand : List (Option Call) → List Charge
@@ -68,7 +68,7 @@ lines_in_hand ports = filter_map (λ there. there >>= line_in_hand) ports
 abbrev pub with_shown : World → ℕ → Option Call → World
 with_shown w c call = record w { shown = w.shown ++ map (line_at c) (lines_in_hand (call ∷ [])) }
 
--- the call of a line
+-- the call of a charge line
 abbrev pub call_of_line : ℕ → Charge → StoppedCall
 call_of_line c line = record { centre = c; serial = line.serial }
 
@@ -116,7 +116,7 @@ pub record HasLines (call : Call) (stored shown : List Charge) (Stopped : Type 0
 
 -- a live call owes what is its own, and so are its lines, once it has a serial
 pub record IsChargedCall (items : List Item) (shown : ℕ → List Charge) (Stopped : ℕ → Type 0) (call : Call) : Type 0 where
-  pub seat : IsCall call.seat
+  pub seat : IsCallState call.seat
   pub lines : (serial : ℕ) → serial_of call ≡ Some serial → HasLines call (lines_with items serial) (shown serial) (Stopped serial)
 
 -- The law holds at a centre, with what keeps it so: no line has a serial that was not given yet, no such call was stopped, and each
@@ -131,7 +131,7 @@ pub record AreCharged (calls : Calls) (shown : ℕ → List Charge) (Stopped : �
 abbrev pub IsChargedWorld : World → Type 0
 IsChargedWorld w = (c : ℕ) → AreCharged (centre_at w c).calls (shown_lines w.shown c) (IsStoppedCall w.stopped c)
 
--- ---- the frame of a line
+-- ---- the frame of a charge line
 
 -- the outcome shows a frame, and the line is the charge for it
 pub record ShowsFrameOf (line : Charge) (outcome : Outcome) : Type 0 where
@@ -143,7 +143,8 @@ pub record ShowsFrameOf (line : Charge) (outcome : Outcome) : Type 0 where
 
 -- what every seat keeps to: what its call owes is its own, and its caller stays who he is
 pub record SeatLaws : Type 0 where
-  pub begins : IsCall new_call
-  pub lasts : (call after : CallState) (event : CallEvent) (step : Step) → IsCall call → Happens call event after step → IsCall after
-  pub stays : (call after : CallState) (event : CallEvent) (step : Step) → IsCall call → Happens call event after step
+  pub begins : IsCallState new_call
+  pub lasts : (call after : CallState) (event : CallEvent) (step : Step) → IsCallState call → Happens call event after step
+      → IsCallState after
+  pub stays : (call after : CallState) (event : CallEvent) (step : Step) → IsCallState call → Happens call event after step
       → IsSameCaller call event after

@@ -17,7 +17,7 @@ use Rattle.pv_irc.specs.declared.request.IrcRequest.TheVariants.{Apply}
 use Rattle.pv_nodes.specs.Cutting.{MayBecome, kept_record}
 use Rattle.pv_nodes.specs.declared.cut.Cut.{Cut}
 use Rattle.pv_nodes.specs.declared.cut.Cut.TheVariants as cuts
-use Rattle.pv_nodes.specs.declared.cut.TheConstants.{APPEND_CALLS, GATE_CALLS}
+use Rattle.pv_journal.specs.declared.storing.TheConstants.{APPEND_CALLS, GATE_CALLS}
 use Rattle.pv_nodes.specs.Nodes.{stored_of}
 use Rattle.pv_nodes.specs.OnDisk.{CentreIsOnDisk, centre_with}
 use Rattle.pv_packet.specs.declared.packet.Packet.{Packet}
@@ -38,8 +38,9 @@ use Rattle.pv_network.specs.declared.storing.Storing.TheVariants as commands
 use Rattle.pv_network.specs.declared.way.Way.TheVariants as ways
 use Rattle.pv_network.specs.Call.{Call, wish_to_store}
 use Rattle.pv_network.specs.Calling.{call_at, holdings_at, step_of_store}
-use Rattle.pv_network.specs.Calls.{Holdings, is_recorded}
-use Rattle.pv_network.specs.Centre.{Held, request_for}
+use Rattle.pv_network.specs.Calls.{Holdings, makes_record}
+use Rattle.pv_network.specs.Centre.{Held}
+use Rattle.pv_wishes.specs.Wishes.{request_for}
 use Rattle.pv_network.specs.Crashing.{step_of_crash}
 use Rattle.pv_network.specs.Editing.{seed_request, step_of_line}
 use Rattle.pv_network.specs.Link.{packets_on}
@@ -61,7 +62,7 @@ node_of (commands.Back centre index) = nodes.Udc
 abbrev pub request_of_edit : ℕ × ℕ × EditWish → UdcRequest
 request_of_edit asked = Edit asked.0 asked.1 asked.2
 
--- the request of a line, by the step of its seat, if it is one
+-- the request of an editor's line, by the step of its seat, if it is one
 abbrev pub request_in : EditStep → Option UdcRequest
 request_in (steps.Ask editor q wish) = Some (Edit editor q wish)
 request_in _ = None
@@ -71,22 +72,22 @@ abbrev pub item_request : ℕ → Packet → Option UdcRequest
 item_request c (Up from number item) = Some (TakeUp c number item)
 item_request c _ = None
 
--- the same of the packet of an index, if a centre made it
-abbrev pub item_asked : World → ℕ → ℕ → Option UdcRequest
-item_asked w c index = slice_get (packets_on ways.Up (link_at w c)) index >>= item_request c
+-- the request that takes up the item of an index's packet, if a centre made that packet
+abbrev pub item_request_at : World → ℕ → ℕ → Option UdcRequest
+item_request_at w c index = slice_get (packets_on ways.Up (link_at w c)) index >>= item_request c
 
--- what a command asks of the Update Centre, if it asks something; of a line goes what it says
+-- what a command asks of the Update Centre, if it asks something; an editor's line is given as what it says
 abbrev pub update_request : World → Storing → Option EditLine → Option UdcRequest
 update_request w (commands.Seed name row) said = Some (request_of_edit (seed_request w name row))
 update_request w (commands.Edit port line) said = request_in (step_of_line w port said).1
-update_request w (commands.Back centre index) said = item_asked w centre index
+update_request w (commands.Back centre index) said = item_request_at w centre index
 update_request w _ said = None
 
 -- the record that it stores for that, if it stores one
 abbrev pub stored_for : EditList → Option UdcRequest → Option Record
 stored_for u request = request >>= λ asked. (verdict_of u asked).stored
 
--- the world with the record, if there is one
+-- the world that has the record, if one is stored
 abbrev pub recorded_world : World → Option Record → Option World
 recorded_world w stored = option_map (λ (edit : Record). with_edit w (Some edit)) stored
 
@@ -98,7 +99,7 @@ wish_of call = call >>= wish_to_store
 
 -- a record is stored for a wish: one is to be, and there is room for it
 abbrev pub is_stored_for : Holdings → Wish → Bool
-is_stored_for holdings wish = is_recorded holdings wish && not (nat_le holdings.limit holdings.count)
+is_stored_for holdings wish = makes_record holdings wish && not (nat_le holdings.limit holdings.count)
 
 -- the world in which the wish of the call at a port is stored, if a record is stored for it
 abbrev pub wished_world : World → ℕ → ℕ → Wish → Option World
@@ -109,7 +110,7 @@ abbrev pub taken_world : World → ℕ → Arrival → Option World
 taken_world w c arrivals.Taken = Some (with_next_at w c)
 taken_world w c _ = None
 
--- the same of a packet's record, if the packet has one
+-- the world in which a centre has applied the record of a packet, if the packet has one and it is taken
 abbrev pub applied_world : World → ℕ → Packet → Option World
 applied_world w c (Down from number rec) = taken_world w c (arrival_on ways.Down w c number)
 applied_world w c _ = None
@@ -129,8 +130,7 @@ stored_world w (commands.Back centre index) said =
 
 -- ---- the stop
 
--- The record may be on the disk from the write of the gate on, and may not be there as long as not all calls of the disk passed that
--- an append makes.
+-- The record may be on the disk once the gate was written. It may be missing until all disk calls of an append have passed.
 abbrev pub MayBeKept : ℕ → Bool → Type 0
 MayBeKept calls true = GATE_CALLS ≤ calls
 MayBeKept calls false = calls < APPEND_CALLS
@@ -163,14 +163,14 @@ abbrev pub apply_request : Packet → Option IrcRequest
 apply_request (Down from number rec) = Some (Apply number rec)
 apply_request _ = None
 
--- the same of the packet of an index, if it was made for a centre
-abbrev pub record_asked : World → ℕ → ℕ → Option IrcRequest
-record_asked w c index = slice_get (packets_on ways.Down (link_at w c)) index >>= apply_request
+-- the request that applies the record of an index's packet, if that packet was made for a centre
+abbrev pub record_request_at : World → ℕ → ℕ → Option IrcRequest
+record_request_at w c index = slice_get (packets_on ways.Down (link_at w c)) index >>= apply_request
 
 -- what a command asks of a centre's node, if it asks something
 abbrev pub centre_request : World → Storing → Option IrcRequest
 centre_request w (commands.Store centre port) = option_map request_for (wish_of (call_at w centre port))
-centre_request w (commands.Deliver centre index) = record_asked w centre index
+centre_request w (commands.Deliver centre index) = record_request_at w centre index
 centre_request w _ = None
 
 -- the record that a centre's node stores for that, if it stores one
@@ -185,7 +185,7 @@ pub record RestartsNode (old new : Held) (calls : ℕ) (stored : Option CentreRe
   pub on_disk : CentreIsOnDisk new.node
   pub ports : new.ports ≡ old.ports
 
--- the same of a centre, whose calls are over
+-- a centre's node was opened again, and has the record or not; its calls are over
 pub record Restarts (old new : Held) (calls : ℕ) (stored : Option CentreRecord) (cut : Cut) : Type 0 where
   pub may : MayBecome calls stored cut
   pub state : new.node.state ≡ centre_with old.node.state (kept_record stored cut)

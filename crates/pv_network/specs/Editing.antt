@@ -44,12 +44,12 @@ step_of_seeding w name row = let request = seed_request w name row in step_of_re
 
 -- ---- edit
 
--- a line is taken at a seat: what it says makes another seat of it, and gives a step
+-- an editor's line is taken at a seat: what it says makes another seat of it, and gives a step
 abbrev pub step_of_line : World → ℕ → Option EditLine → World × EditStep
 step_of_line w port said =
     let turn = turn_of (seat_at w port) w.update.records (all_places w.update.records) said in (with_seat w port turn.0, turn.1)
 
--- the step of a line is done; after the end of a session the seat is new
+-- the step of an editor's line is done; after the end of a session the seat is new
 abbrev pub step_of_said : World → ℕ → EditStep → World × Outcome
 step_of_said w port (steps.Say text) = (w, outcomes.Reply text)
 step_of_said w port (steps.Ask editor q wish) = step_of_request w editor q wish

@@ -7,7 +7,7 @@ use Rattle.pv_edits.specs.declared.record.Record.TheVariants.{Put, Drop, Account
 use Rattle.pv_edits.specs.Edits.{is_edit_of, number_in, taken_of}
 use Rattle.pv_udc.specs.EditList.{EditList}
 use Rattle.pv_network.specs.Centre.{Centre, new_centre}
-use Rattle.pv_network.specs.Run.{EachFollows, IsRun}
+use Rattle.pv_network.specs.Run.{EachFollows, IsEditRun}
 use Rattle.pv_network.specs.World.{World, Receipt}
 
 -- the number of an edit is one more than how many edits of its editor come before it
@@ -36,23 +36,23 @@ abbrev pub MatchesReceipt : List Record → Receipt → Type 0
 MatchesReceipt edits receipt = StandsAt edits receipt.editor receipt.number receipt.place
 
 -- the item of a centre that the record took up, if it took one up
-abbrev pub item_of : ℕ → Record → Option Item
-item_of c (Put editor q name frame) = None
-item_of c (Drop editor q name) = None
-item_of c (Account editor q profile) = None
-item_of c (Lease editor q root account) = None
-item_of c (Taken taken) = if taken.centre == c then Some taken.item else None
+abbrev pub item_from : ℕ → Record → Option Item
+item_from c (Put editor q name frame) = None
+item_from c (Drop editor q name) = None
+item_from c (Account editor q profile) = None
+item_from c (Lease editor q root account) = None
+item_from c (Taken taken) = if taken.centre == c then Some taken.item else None
 
 -- the items of a centre that were taken up, in the order of the list
 abbrev pub taken_items : List Record → ℕ → List Item
-taken_items edits c = filter_map (item_of c) edits
+taken_items edits c = filter_map (item_from c) edits
 
 -- The edit list is a run from nothing within the limits. It holds every acknowledged edit once, in order: an editor and a
 -- number have one place, an editor's numbers are 1, 2, 3 and on, and each acknowledged edit stands at the place of its
 -- receipt. Each centre has applied a prefix of the list. The items that were taken up from a centre are the first of its
 -- items, each once and in order.
 pub record IsOneList (u : EditList) (centres : List Centre) (receipts : List Receipt) : Type 0 where
-  pub run : IsRun u.limits u.records
+  pub run : IsEditRun u.limits u.records
   pub one_place : HasOnePlaceEach u.records
   pub numbered : HasNumbersInOrder u.records
   pub kept : All (MatchesReceipt u.records) receipts

@@ -5,13 +5,13 @@ use Rattle.std.specs.List.{list_all}
 use Rattle.pv_network.specs.declared.outcome.Outcome.{Outcome}
 use Rattle.pv_network.specs.declared.outcome.Outcome.TheVariants.{Reply}
 
--- the byte does not end a line
-abbrev pub is_unbroken : ℕ → Bool
-is_unbroken byte = not (byte == 10)
+-- the byte is no line end
+abbrev pub is_not_line_end : ℕ → Bool
+is_not_line_end byte = not (byte == 10)
 
--- the text has no end of a line
-abbrev pub IsUnbroken : List ℕ → Type 0
-IsUnbroken text = list_all is_unbroken text ≡ true
+-- the text has no line end
+abbrev pub HasNoLineEnd : List ℕ → Type 0
+HasNoLineEnd text = list_all is_not_line_end text ≡ true
 
 -- the codes of A and of Z
 abbrev pub first_capital : ℕ
@@ -20,15 +20,15 @@ first_capital = 65
 abbrev pub last_capital : ℕ
 last_capital = 90
 
--- the text is one line, which begins with a capital letter
+-- the text stands on one row, and begins with a capital letter
 pub record IsReplyLine (text : List ℕ) : Type 0 where
-  pub whole : IsUnbroken text
+  pub whole : HasNoLineEnd text
   pub first : ℕ
   pub rest : List ℕ
   pub is : text ≡ first ∷ rest
   pub capital : IsInRange first_capital last_capital first
 
--- an outcome that is a reply is such a line
+-- an outcome that is a reply is such a text
 abbrev pub RepliesByLine : Outcome → Type 0
 RepliesByLine (Reply text) = IsReplyLine text
 RepliesByLine _ = Unit {0}

@@ -15,5 +15,5 @@ pub record MayFollow (limits : Limits) (before : List Record) (edit : Record) : 
   pub record_room : length before < limits.records
 
 -- each record of the list may follow those before it
-abbrev pub IsRun : Limits → List Record → Type 0
-IsRun limits edits = EachFollows (MayFollow limits) edits
+abbrev pub IsEditRun : Limits → List Record → Type 0
+IsEditRun limits edits = EachFollows (MayFollow limits) edits

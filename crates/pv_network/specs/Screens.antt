@@ -13,7 +13,7 @@ use Rattle.pv_network.specs.declared.outcome.Outcome.TheVariants as outcomes
 use Rattle.pv_network.specs.declared.outcome.Turn.{Turn}
 use Rattle.pv_network.specs.Call.{Call, is_waiting, wish_to_store}
 use Rattle.pv_network.specs.Calling.{call_at, view_at, holdings_at, step_of_press, step_of_store}
-use Rattle.pv_network.specs.Calls.{Holdings, is_refused}
+use Rattle.pv_network.specs.Calls.{Holdings, lacks_room}
 use Rattle.pv_network.specs.Keying.{KeyedByte, is_owes, is_storing, step_of_key, screens_in, is_over, keys_refusal}
 use Rattle.pv_network.specs.Step.{Choice, IsChoice, happens}
 use Rattle.pv_network.specs.World.{World}
@@ -28,7 +28,7 @@ press_events view moment key (Some call) = if is_waiting call then [] else Keyed
 -- a full centre refuses to store what is owed; if it is stored, the seat does not know it yet
 abbrev pub wish_events : Holdings → Option Wish → List CallEvent
 wish_events holdings None = []
-wish_events holdings (Some wish) = if is_refused holdings wish then Refused ∷ [] else []
+wish_events holdings (Some wish) = if lacks_room holdings wish then Refused ∷ [] else []
 
 abbrev pub store_events : Holdings → Option Call → List CallEvent
 store_events holdings None = []

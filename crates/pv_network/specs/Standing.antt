@@ -59,37 +59,37 @@ IsStanding s = (w : World) × StandsFor s w
 abbrev pub Performs : {A : Type 0} → State → State → A → (World → World × A) → Type 0
 Performs old new outcome step = (w : World) → StandsFor old w → StandsFor new (step w).0 × (outcome ≡ (step w).1)
 
--- the same of a key at a port, with the entry that it makes in that world
+-- a key at a port does what it does in each such world, with the entry that it makes there
 abbrev pub Presses : State → State → Outcome → ℕ → ℕ → ℕ → Type 0
 Presses old new outcome c port key = (w : World) → StandsFor old w
     → (entry : Option Entry) × IsPortEntry (call_at w c port) key entry
     × StandsFor new (step_of_press w c port key entry).0 × (outcome ≡ (step_of_press w c port key entry).1)
 
--- the same of one key, with the store and the show of what it owes
+-- one key does what it does in each such world: what it owes is stored and shown at once
 abbrev pub PaysKey : State → State → Outcome → ℕ → ℕ → ℕ → Type 0
 PaysKey old new outcome c port byte = (w : World) → StandsFor old w
     → (entry : Option Entry) × IsPortEntry (call_at w c port) byte entry
     × StandsFor new (step_of_key w c port (record { byte = byte; entry = entry })).0
     × (outcome ≡ (step_of_key w c port (record { byte = byte; entry = entry })).1)
 
--- the same, with the screen that it adds, and whether the call ended
+-- one key does so, adds its screen to those before, and says whether the call ended
 abbrev pub TakesKey : State → State → List Turn → List Turn → Bool → ℕ → ℕ → ℕ → Type 0
 TakesKey old new before after over c port byte = (outcome : Outcome) × PaysKey old new outcome c port byte
     × (after ≡ before ++ screens_in outcome) × (over ≡ is_over outcome)
 
--- the same of all keys of a notation, and the screens that they add
+-- all keys of a notation do so, one after another, and add their screens to those before
 abbrev pub TakesKeys : State → State → List Turn → List Turn → ℕ → ℕ → List ℕ → Type 0
 TakesKeys old new before after c port text = (w : World) → StandsFor old w
     → (keyed : List KeyedByte) × ReadsAs text (bytes_of keyed) × TakesAll w c port keyed
     × StandsFor new (keys_from w c port keyed).0 × (after ≡ before ++ (keys_from w c port keyed).1)
 
--- the same of keys at a port
+-- the keys of a notation at a port, answered as in each such world
 abbrev pub AnswersKeys : State → State → Outcome → ℕ → ℕ → List ℕ → Type 0
 AnswersKeys old new outcome c port text = (w : World) → StandsFor old w
     → (keyed : List KeyedByte) × ReadsAs text (bytes_of keyed) × TakesAllAt w c port keyed
     × StandsFor new (step_of_keys w c port keyed).0 × (outcome ≡ (step_of_keys w c port keyed).1)
 
--- the same of a cut, with what the line of its command says
+-- a cut does what it does in each such world, with what its command's editor line says and one choice of the disk
 abbrev pub TakesCut : ℕ → Storing → State → State → Outcome → Type 0
 TakesCut calls command old new outcome = (said : Option EditLine) × IsSaid command said
     × ((w : World) → StandsFor old w → (kept : Bool) × MayBeKept calls kept
@@ -126,12 +126,12 @@ IsThere s nodes.Udc = Unit {0}
 IsThere s (nodes.Centre c) = c < length s.centres
 
 -- a command to store a record is at a node or at a port that there is
-abbrev pub CanStore : State → Storing → Type 0
-CanStore s (commands.Seed name row) = Unit {0}
-CanStore s (commands.Edit port line) = port < EDITORS
-CanStore s (commands.Store centre port) = (centre < length s.centres) × (port < PORTS)
-CanStore s (commands.Deliver centre index) = centre < length s.centres
-CanStore s (commands.Back centre index) = centre < length s.centres
+abbrev pub IsPossibleStoring : State → Storing → Type 0
+IsPossibleStoring s (commands.Seed name row) = Unit {0}
+IsPossibleStoring s (commands.Edit port line) = port < EDITORS
+IsPossibleStoring s (commands.Store centre port) = (centre < length s.centres) × (port < PORTS)
+IsPossibleStoring s (commands.Deliver centre index) = centre < length s.centres
+IsPossibleStoring s (commands.Back centre index) = centre < length s.centres
 
 -- an event at a node or at a port is at one that there is
 abbrev pub IsPossible : State → Event → Type 0
@@ -149,7 +149,7 @@ IsPossible s (events.Deliver centre index) = centre < length s.centres
 IsPossible s (events.Back centre index) = centre < length s.centres
 IsPossible s (events.Carry centre) = centre < length s.centres
 IsPossible s (events.Crash node) = IsThere s node
-IsPossible s (events.Cut calls image command) = CanStore s command
+IsPossible s (events.Cut calls image command) = IsPossibleStoring s command
 IsPossible s (events.Clock moment) = moment ≤ LAST_MOMENT
 IsPossible s (events.View centre name) = centre < length s.centres
 IsPossible s (events.At centre) = centre < length s.centres

@@ -59,7 +59,7 @@ pub record Choice : Type 0 where
   pub said : Option EditLine
   pub keyed : List KeyedByte
 
--- What a line says is read from it, and is nothing if it is none of an editor's lines. What a key says is read from those that
+-- What an editor's line says is read from it, and is nothing if it is none of an editor's lines. What a key says is read from those that
 -- the caller has keyed in this world. How many calls of its disk passed says whether the node may have the record.
 abbrev pub IsChoice : World → Event → Choice → Type 0
 IsChoice w (events.Edit port line) choice = Exactly (IsLine line) choice.said

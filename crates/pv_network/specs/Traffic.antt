@@ -61,7 +61,7 @@ abbrev pub sent_answer : Way → ℕ → ℕ → Outcome
 sent_answer ways.Down index number = outcomes.SentRecord index number
 sent_answer ways.Up index number = outcomes.SentItem index number
 
--- the packet of a number goes, if there is one
+-- the packet of a number goes; without a packet there is nothing to send
 abbrev pub step_of_packing : Way → World → ℕ → ℕ → Option Packet → World × Outcome
 step_of_packing way w c number None = (w, outcomes.Idle)
 step_of_packing way w c number (Some packet) = (
@@ -143,7 +143,7 @@ step_of_packet w c (Up from number item) = step_of_arrival ways.Up w (with_item_
 step_of_packet w c (DownHeard from count) = step_of_hearing ways.Down w c count
 step_of_packet w c (UpHeard from count) = step_of_hearing ways.Up w c count
 
--- a packet arrives, if there is one
+-- a packet that was found arrives
 abbrev pub step_of_found : World → ℕ → Option Packet → World × Outcome
 step_of_found w c None = (w, outcomes.NoPacket)
 step_of_found w c (Some packet) = step_of_packet w c packet
@@ -233,7 +233,7 @@ after_round more w way load rounds.Taken = more w way (with_one way load)
 after_round more w way load rounds.Again = more w way load
 after_round more w way load (rounds.Stopped outcome) = (w, outcome)
 
--- a round on a way, if there is one, and what comes after it
+-- a round on the next way with what comes after it; without a next way all is carried
 abbrev pub rounds_on : (World → Way → Load → World × Outcome) → World → ℕ → Load → Option Way → World × Outcome
 rounds_on more w c load None = (w, outcomes.Carried load.records load.items)
 rounds_on more w c load (Some way) = let round = step_of_round way w c in after_round more round.0 way load round.1

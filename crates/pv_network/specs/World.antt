@@ -81,7 +81,7 @@ with_centre w c centre = record w { centres = slice_set w.centres c centre }
 abbrev pub with_link : World → ℕ → Link → World
 with_link w c link = record w { links = slice_set w.links c link }
 
--- the world with one more record, if there is one
+-- the world with what was stored: one more record, or as it was
 abbrev pub with_edit : World → Option Record → World
 with_edit w None = w
 with_edit w (Some edit) = record w { update = with_record w.update edit }

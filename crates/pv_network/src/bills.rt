@@ -81,7 +81,7 @@ fn stored_at(state: &IrcState, centre: u8, number: u64) -> Option<BillLine>
     }
 }
 
-/// The answer that has these lines.
+/// The answer that has these charge lines.
 fn answer(lines: BillLines) -> Outcome
     ensures { result ≡ bill_answer lines }
 {

@@ -10,7 +10,7 @@ ghost use Rattle.pv_network.specs.Call.{call_of};
 ghost use Rattle.pv_network.specs.Call as Spec;
 ghost use Rattle.pv_network.specs.Keying.{keys_refusal};
 ghost use Rattle.pv_network.specs.Cutting.{wish_of};
-ghost use Rattle.pv_network.specs.Calls.{caller_account, call_among, call_in, IsDone, turn_at, dial_at, hang_at, press_at, show_at, wish_at, away_answer, IsPortEntry};
+ghost use Rattle.pv_network.specs.Calls.{given_account, call_among, call_in, IsDone, turn_at, dial_at, hang_at, press_at, show_at, wish_at, away_answer, IsPortEntry};
 
 use crate::call::Call;
 use crate::event::PORTS;
@@ -54,7 +54,7 @@ impl Calls {
     /// The account that the caller at a port gave.
     pub(crate) fn account(&self, port: usize) -> Option<AccountNo>
         requires { port < PORTS }
-        ensures { result ≡ caller_account (call_among self.now port) }
+        ensures { result ≡ given_account (call_among self.now port) }
     {
         match &self.ports[port] {
             Some(call) => call.account(),

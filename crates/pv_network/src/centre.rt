@@ -5,18 +5,19 @@ ghost use Rattle.pv_edits.specs.Edits.{frame_at};
 ghost use Rattle.pv_irc.specs.Deciding.{IsCentreRequest};
 ghost use Rattle.pv_irc.specs.History.{state_count};
 ghost use Rattle.pv_udc.specs.EditList.{empty_list};
-ghost use Rattle.pv_network.specs.declared.event.TheConstants.{MAX_CENTRES, PORTS};
+ghost use Rattle.pv_account.specs.declared.account.TheConstants.{MAX_CENTRES};
+ghost use Rattle.pv_network.specs.declared.event.TheConstants.{PORTS};
 ghost use Rattle.pv_network.specs.Bills.{bill_answer, stored_lines};
 ghost use Rattle.pv_network.specs.Calls.{call_among, call_in, wish_at, dial_at, hang_at, store_at, show_at};
 ghost use Rattle.pv_network.specs.Crashing.{crash_at};
 ghost use Rattle.pv_network.specs.Cutting.{wish_of, record_for, Restarts, RestartsNode};
 ghost use Rattle.pv_network.specs.Keying.{keys_refusal};
-ghost use Rattle.pv_network.specs.Centre.{new_centre, calls_of, holdings_of, arrival_by, request_for, paid_by, Asked, Applies, CentreStands, AreNew, Comes, Pressed};
+ghost use Rattle.pv_wishes.specs.Wishes.{request_for};
+ghost use Rattle.pv_network.specs.Centre.{new_centre, calls_of, holdings_of, arrival_by, Asked, Applies, CentreStands, AreNew, Comes, Pressed};
 
 use crate::arrival::Arrival;
 use crate::bills::stored_lines;
 use crate::calls::Calls;
-use crate::event::MAX_CENTRES;
 use crate::outcome::Outcome;
 use pv_edits::DownRecord;
 use pv_frame::Frame;
@@ -25,7 +26,8 @@ use pv_nodes::{CentreNode, Cut};
 use pv_outside::Limits;
 use pv_page::FrameName;
 use pv_post::Item;
-use pv_session::{Paid, Wish};
+use pv_session::Wish;
+use pv_wishes::{paid_by, request_of};
 use std::alloc::{AllocError, Global};
 use std::marker::Model;
 
@@ -140,7 +142,7 @@ impl Centre {
         Ok(Outcome::Crashed { count })
     }
 
-    /// The centre is lost within a request to its node, if there is one, and opened again from this image of its disk.
+    /// The centre is lost within a request to its node, or while it is idle, and opened again from this image of its disk.
     /// Its calls are over. Returns what became of the record that was to be stored. The only error is that memory ran out
     /// for that, and then the centre is as it was.
     pub(crate) fn stop(
@@ -160,7 +162,7 @@ impl Centre {
         Ok(cut)
     }
 
-    /// Its node is lost within a request, if there is one, and opened again from this image of its disk.
+    /// Its node is lost within a request, or while it is idle, and opened again from this image of its disk.
     fn stop_node(
         &mut self,
         alloc: Global,
@@ -276,33 +278,6 @@ fn arrival_by(reply: Result<IrcReply, u64>) -> Arrival
         // There is room for each record of the list, so that no other reply comes.
         Ok(_) => Arrival::Early,
         Err(_) => Arrival::Full,
-    }
-}
-
-/// What a centre's node is asked for a wish.
-fn request_of(wish: Wish) -> IrcRequest
-    ensures within { IsCentreRequest result }
-    ensures request { result ≡ request_for wish }
-{
-    wish.within();
-    match wish {
-        Wish::LogOn(account) => IrcRequest::LogOn { account },
-        Wish::Charge(line) => IrcRequest::Keep {
-            item: Item::Charge(line),
-        },
-        Wish::Post(item) => IrcRequest::Keep { item },
-        Wish::Remove(account, number) => IrcRequest::Remove { account, number },
-    }
-}
-
-/// What a call is told of a node's reply to its wish: the serial of a log-on, and else that it is stored. A letter that
-/// does not wait counts as removed.
-fn paid_by(reply: &IrcReply) -> Paid
-    ensures { result ≡ paid_by reply.now }
-{
-    match reply {
-        IrcReply::Serial(serial) => Paid::Serial(*serial),
-        _ => Paid::Stored,
     }
 }
 

@@ -5,9 +5,6 @@ use pv_words::Part;
 /// How many editors' ports there are.
 pub const EDITORS: u8 = 4;
 
-/// How many retrieval centres a network has at most.
-pub const MAX_CENTRES: u8 = 4;
-
 /// How many callers' ports a centre has.
 pub const PORTS: u8 = 16;
 
@@ -94,9 +91,9 @@ pub enum Event<'a> {
     Crash {
         node: NodeName,
     },
-    /// A node is lost within a command that it is to store a record for: its disk passes this many more calls and then
-    /// none, nothing of the answer leaves the node, and it is opened again from the image of this number that a crash
-    /// then leaves of the disk.
+    /// A node is lost within a command that it is to store a record for. Its disk passes this many more calls and then
+    /// none, and nothing of the answer leaves the node. It is opened again from an image of its disk: the one of this
+    /// number among those that a crash may leave.
     Cut {
         calls: u8,
         image: u8,

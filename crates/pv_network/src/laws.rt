@@ -33,7 +33,7 @@ use pv_session::{a_call_owes_what_is_its_own, a_caller_stays_who_he_is};
 /// list's record or the centre's item of its number.
 ///
 /// For a bookkeeper: each priced frame that a caller is shown has one charge line, and no other frame has one. The
-/// centre stored the line before it showed the frame, so that what is stored of a call is what he was shown, in that
+/// centre stored the charge line before it showed the frame. So what is stored of a call is what he was shown, in that
 /// order, and at most one line more. That one is in hand: it was stored, and its frame comes next. If the caller hangs
 /// up or his centre stops in between, the line stays, and it is the only one that such a stop adds to his call.
 pub fn every_reachable_world_is_sound()

@@ -47,7 +47,7 @@ mod turns;
 mod verdict;
 mod way;
 
-pub use event::{EDITORS, Event, MAX_CENTRES, NodeName, PORTS};
+pub use event::{EDITORS, Event, NodeName, PORTS};
 pub use laws::{
     a_carried_centre_has_every_record, a_carry_has_rounds_enough,
     a_line_in_hand_is_for_the_frame_shown_next, caller_is_shown_the_steps_of_his_seat,

@@ -30,7 +30,7 @@ impl Model for BillLines {
 }
 
 impl BillLines {
-    /// No line.
+    /// No charge line.
     pub(crate) fn new(alloc: Global) -> BillLines
         ensures { result ≡ [] }
     {
@@ -40,7 +40,7 @@ impl BillLines {
         }
     }
 
-    /// Adds a line after the others, if there is one. The only error is that memory ran out.
+    /// Adds a charge line after the others. `None` adds nothing. The only error is that memory ran out.
     pub(crate) fn add(&mut self, line: Option<BillLine>) -> Result<(), AllocError>
         requires { length self.old < MAX_BILLED_LINES }
         ensures { OnOk result (self.new ≡ self.old ++ option_to_list line) }
@@ -55,7 +55,7 @@ impl BillLines {
         Ok(())
     }
 
-    /// Puts the lines in the opposite order.
+    /// Puts the charge lines in the opposite order.
     pub(crate) fn reverse(&mut self)
         ensures { self.new ≡ reverse self.old }
     {
@@ -69,7 +69,7 @@ impl BillLines {
         self.pence
     }
 
-    /// The lines.
+    /// The charge lines.
     pub fn all(&self) -> &[BillLine]
         ensures { result.now ≡ self.now }
     {

@@ -1,11 +1,10 @@
 ghost use Rattle.std.specs.Prelude.{◌≡◌, ◌<◌, ◌≤◌, false, length, map, replicate, slice_get, slice_set, IfOk};
 ghost use Rattle.pv_link.specs.Sending.{new_end, number_to_give};
 ghost use Rattle.pv_packet.specs.Packet.{centre_of};
-ghost use Rattle.pv_network.specs.declared.event.TheConstants.{MAX_CENTRES};
+ghost use Rattle.pv_account.specs.declared.account.TheConstants.{MAX_CENTRES};
 ghost use Rattle.pv_network.specs.declared.way.Way.TheVariants as ways;
 ghost use Rattle.pv_network.specs.Link.{new_link, link_in, is_packets_full, back_way, ack_packet, packets_on, end_on, with_packet, with_given_number, with_sent, with_heard, with_new_end, places_with_end};
 
-use crate::event::MAX_CENTRES;
 use crate::link::Link;
 use crate::packets::{MAX_PACKETS, Packets};
 use crate::way::Way;
@@ -23,7 +22,7 @@ pub struct Links {
 
 impl Model for Links {
     ghost use Rattle.std.specs.Prelude.{◌≡◌, ◌≤◌, List, length};
-    ghost use Rattle.pv_network.specs.declared.event.TheConstants.{MAX_CENTRES};
+    ghost use Rattle.pv_account.specs.declared.account.TheConstants.{MAX_CENTRES};
     ghost use Rattle.pv_network.specs.Link as Spec;
 
     ghost Value = { List Spec.Link };
@@ -59,7 +58,7 @@ impl Links {
         self.packets.len() >= MAX_PACKETS
     }
 
-    /// There are no more of them than there may be centres. This does nothing.
+    /// There are no more of them than there may be centres. A call states this and has no effect.
     pub(crate) fn within(&self)
         ensures { length self.now ≤ MAX_CENTRES }
     {

@@ -4,7 +4,7 @@ ghost use Rattle.pv_editor.specs.Lines.{IsLine};
 ghost use Rattle.pv_editor.specs.declared.line.EditLine.{EditLine};
 ghost use Rattle.pv_editor.specs.declared.step.EditStep.TheVariants as steps;
 ghost use Rattle.pv_charge.specs.declared.line.TheConstants.{LAST_MOMENT};
-ghost use Rattle.pv_network.specs.declared.event.TheConstants.{MAX_CENTRES};
+ghost use Rattle.pv_account.specs.declared.account.TheConstants.{MAX_CENTRES};
 ghost use Rattle.pv_network.specs.Bills.{step_of_bill, step_of_lines};
 ghost use Rattle.pv_network.specs.Replies.{RepliesByLine};
 ghost use Rattle.pv_network.specs.World.{World, start};
@@ -78,7 +78,7 @@ impl Model for Network {
 }
 
 impl Drop for Network {
-    /// Written out, so that who lets go of it has one call to think of and not each part.
+    /// One call frees all parts, so that a proof has one step where such a value ends.
     fn drop(self) {
         let Network {
             update: _,
@@ -124,7 +124,7 @@ impl Network {
         ensures performs { IfOk result (TakesPlace event.now self.old self.new) }
         ensures centres { length self.new.centres ≡ length self.old.centres }
 
-        // A reply to an editor is one line, which begins with a capital letter.
+        // A reply to an editor stands on one row, and begins with a capital letter.
         ensures replies { IfOk result RepliesByLine }
 
         // A network that is not out of memory succeeds, unless the event takes memory.
@@ -344,7 +344,7 @@ impl Network {
         Outcome::Records { count }
     }
 
-    /// The bill of an account. The only error is that memory ran out for its lines.
+    /// The bill of an account. The only error is that memory ran out for its charge lines.
     fn bill(&self, account: AccountNo) -> Result<Outcome, AllocError>
         ensures { IfOk result
             (λ outcome. Performs self.now self.now outcome (λ w. step_of_bill w account)) }

@@ -60,8 +60,8 @@ pub(crate) fn take_up(update: &mut UpdateNode, centre: u8, number: u64, item: &I
     }
 }
 
-/// The Update Centre is lost within the judgement of a request, if there is one, and opened again from this image of its
-/// disk. Returns what became of the record that was to be stored. The only error is that memory ran out for that, and
+/// The Update Centre is lost within the judgement of a request, or while it is idle, and opened again from this image of
+/// its disk. Returns what became of the record that was to be stored. The only error is that memory ran out for that, and
 /// then it is as it was. Each image of the disk then spells the records of the list.
 pub(crate) fn stop(
     update: &mut UpdateNode,
@@ -99,7 +99,7 @@ fn arrival_of(reply: UdcReply) -> Arrival
     }
 }
 
-/// An editor's request is within its ranges, by the types of its parts. This does nothing.
+/// An editor's request is within its ranges, by the types of its parts. A call states this and has no effect.
 pub(crate) fn within(editor: AccountNo, _q: u32, wish: &EditWish)
     ensures { IsRequest (Edit editor _q wish.now) }
 {

@@ -4,10 +4,11 @@ ghost use Rattle.pv_editor.specs.Lines.{IsLine};
 ghost use Rattle.pv_editor.specs.declared.line.EditLine.{EditLine};
 ghost use Rattle.pv_irc.specs.Deciding.{IsCentreRequest};
 ghost use Rattle.pv_udc.specs.Requests.{IsRequest};
-ghost use Rattle.pv_network.specs.declared.event.TheConstants.{EDITORS, MAX_CENTRES};
-ghost use Rattle.pv_network.specs.Cutting.{request_of_edit, request_in, item_request, item_asked, apply_request, record_asked, update_request, centre_request, IsSaid};
+ghost use Rattle.pv_account.specs.declared.account.TheConstants.{MAX_CENTRES};
+ghost use Rattle.pv_network.specs.declared.event.TheConstants.{EDITORS};
+ghost use Rattle.pv_network.specs.Cutting.{request_of_edit, request_in, item_request, item_request_at, apply_request, record_request_at, update_request, centre_request, IsSaid};
 ghost use Rattle.pv_network.specs.Editing.{seed_request, step_of_line};
-ghost use Rattle.pv_network.specs.Standing.{StandsFor, CanStore};
+ghost use Rattle.pv_network.specs.Standing.{StandsFor, IsPossibleStoring};
 ghost use Rattle.pv_network.specs.World.{World};
 
 use crate::network::Network;
@@ -23,7 +24,7 @@ use pv_udc::UdcRequest;
 impl Network {
     /// What a command asks of the Update Centre. `None` if it asks nothing.
     pub(super) fn update_request(&self, command: &Storing) -> Option<UdcRequest>
-        requires { CanStore self.now command.now }
+        requires { IsPossibleStoring self.now command.now }
         ensures within { IfSome result IsRequest }
         ensures request { (said : Option EditLine) × IsSaid command.now said
             × ((w : World) → StandsFor self.now w → result ≡ update_request w command.now said) }
@@ -63,7 +64,7 @@ impl Network {
     fn item_request(&self, centre: u8, index: u64) -> Option<UdcRequest>
         requires { centre < length self.now.centres }
         ensures within { IfSome result IsRequest }
-        ensures request { (w : World) → StandsFor self.now w → result ≡ item_asked w centre index }
+        ensures request { (w : World) → StandsFor self.now w → result ≡ item_request_at w centre index }
     {
         self.links.within();
         match self.links.packet(Way::Up, centre, index) {
@@ -74,7 +75,7 @@ impl Network {
 
     /// What a command asks of a centre. `None` if it asks nothing.
     pub(super) fn centre_request(&self, command: &Storing) -> Option<IrcRequest>
-        requires { CanStore self.now command.now }
+        requires { IsPossibleStoring self.now command.now }
         ensures within { IfSome result IsCentreRequest }
         ensures request { (w : World) → StandsFor self.now w → result ≡ centre_request w command.now }
     {
@@ -93,7 +94,7 @@ impl Network {
     fn record_request(&self, centre: u8, index: u64) -> Option<IrcRequest>
         requires { centre < length self.now.centres }
         ensures within { IfSome result IsCentreRequest }
-        ensures request { (w : World) → StandsFor self.now w → result ≡ record_asked w centre index }
+        ensures request { (w : World) → StandsFor self.now w → result ≡ record_request_at w centre index }
     {
         match self.links.packet(Way::Down, centre, index) {
             Some(packet) => record_in(packet),

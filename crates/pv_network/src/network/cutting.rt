@@ -1,7 +1,7 @@
 ghost use Rattle.std.specs.Prelude.{◌≡◌, length, IfOk};
 ghost use Rattle.pv_network.specs.declared.event.NodeName.TheVariants.{Udc, Centre};
 ghost use Rattle.pv_network.specs.Cutting.{node_of};
-ghost use Rattle.pv_network.specs.Standing.{CanStore, TakesCut};
+ghost use Rattle.pv_network.specs.Standing.{IsPossibleStoring, TakesCut};
 
 use crate::event::NodeName;
 use crate::network::Network;
@@ -22,7 +22,7 @@ impl Network {
         image: u8,
         command: &Storing,
     ) -> Result<Outcome, AllocError>
-        requires { CanStore self.old command.now }
+        requires { IsPossibleStoring self.old command.now }
         ensures performs { IfOk result (TakesCut calls command.now self.old self.new) }
         ensures centres { length self.new.centres ≡ length self.old.centres }
     {
@@ -34,7 +34,7 @@ impl Network {
 
     /// The Update Centre is lost within a command to it. The seats of the editors and the ends that send down are new.
     fn cut_update(&mut self, calls: u8, image: u8, command: &Storing) -> Result<Outcome, AllocError>
-        requires possible { CanStore self.old command.now }
+        requires possible { IsPossibleStoring self.old command.now }
         requires its { node_of command.now ≡ Udc }
         ensures performs { IfOk result (TakesCut calls command.now self.old self.new) }
         ensures centres { length self.new.centres ≡ length self.old.centres }
@@ -55,7 +55,7 @@ impl Network {
         image: u8,
         command: &Storing,
     ) -> Result<Outcome, AllocError>
-        requires possible { CanStore self.old command.now }
+        requires possible { IsPossibleStoring self.old command.now }
         requires its { node_of command.now ≡ Centre centre }
         ensures performs { IfOk result (TakesCut calls command.now self.old self.new) }
         ensures centres { length self.new.centres ≡ length self.old.centres }

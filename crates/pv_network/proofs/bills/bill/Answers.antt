@@ -19,7 +19,8 @@ billed_at-requires c =
 pub add-requires : goal.add-requires
 add-requires c =
     let place : c.loop-next.next ≡ Some c.in-Some.place = search rules in
-    let few = fewer c.args.update.now.records c.args.account c.loop-next.next c.in-Some.place c.loop-next.lines c.loop-next.invariant place in
+    let few = fewer c.args.update.now.records c.args.account c.loop-next.next c.in-Some.place c.loop-next.lines
+    c.loop-next.invariant place in
     let within = c.last_charge-next.ensures.within in
     search (rules, few, within)
 

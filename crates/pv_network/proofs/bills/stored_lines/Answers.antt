@@ -18,7 +18,8 @@ loop-number-preserved c =
     let before = c.loop-number.invariant in
     let found = c.stored_at.result in
     let within : c.loop-number.number < length c.args.state.now.items = omega (arith, c.loop-number-test.true, before.end) in
-    let more = found_more (λ item. option_map (line_at c.args.centre) (line_in item)) c.args.state.now.items c.loop-number.number some within found c.stored_at.ensures in
+    let more = found_more (λ item. option_map (line_at c.args.centre) (line_in item)) c.args.state.now.items c.loop-number.number some
+    within found c.stored_at.ensures in
     let added = c.in_ok-add.ensures in
     record {
       lines = added ∙ ap (λ (l : List BillLine). l ++ option_to_list found) before.lines ∙ sym more;

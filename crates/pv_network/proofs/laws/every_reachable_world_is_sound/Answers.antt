@@ -14,7 +14,8 @@ returns-clause-one_list c = λ centres limits events. (sound_after (start centre
 -- by induction on the events, which are what the seats can do
 pub returns-clause-charged : goal.returns-clause-charged
 returns-clause-charged c = λ centres limits events are.
-    charged_after c.seats_keep_their_own.ensures (start centres limits) events are (sound_start centres limits) (charged_start centres limits)
+    charged_after c.seats_keep_their_own.ensures (start centres limits) events are (sound_start centres limits)
+    (charged_start centres limits)
 
 -- the law is a part of that
 pub returns-clause-owed : goal.returns-clause-owed

@@ -7,4 +7,6 @@ use Rattle.pv_network.proofs.links.renew_all.Given as goal
 
 -- the ends of those before this one are new
 abbrev pub invariant-loop-link : goal.invariant-loop-link
-invariant-loop-link l = l.link-items ≡ map (λ here. places_with_end ways.Down here new_end) (take l.link-index l.fn.links.items) ++ drop l.link-index l.fn.links.items
+invariant-loop-link l =
+    l.link-items ≡ map (λ here. places_with_end ways.Down here new_end) (take l.link-index l.fn.links.items)
+    ++ drop l.link-index l.fn.links.items

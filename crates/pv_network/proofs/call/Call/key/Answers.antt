@@ -11,7 +11,8 @@ pub returns : goal.returns
 returns c =
     let call = c.self.inside in
     let with_seat : CallState → Call = λ seat. record { seat = seat; stored = call.stored } in
-    let done = turn_by_entry (state_of call.seat) (state_of c.key.new.self) c.args.byte (view_of c.args.sight.now) c.args.moment c.key.result
+    let done = turn_by_entry (state_of call.seat) (state_of c.key.new.self) c.args.byte (view_of c.args.sight.now)
+    c.args.moment c.key.result
     c.key.ensures.turn in
     rw (← c.self.view_is) (record {
       turn = (

@@ -13,4 +13,5 @@ returns c =
     ∙ sym c.index_mut.ensures.value ∙ c.in-Some.is in
     rw (← c.self.view_is)
     (shows_at ports c.answer.new.self c.answer.result c.args.port c.show-step.new.self c.show-step.result c.answer.ensures
-    c.in-Some.call at c.in-Some-stored.reply (sym c.stored.ensures ∙ c.in-Some-stored.is) c.show-step.ensures.after c.show-step.ensures.step)
+    c.in-Some.call at c.in-Some-stored.reply (sym c.stored.ensures ∙ c.in-Some-stored.is) c.show-step.ensures.after
+    c.show-step.ensures.step)

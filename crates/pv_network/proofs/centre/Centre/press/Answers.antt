@@ -12,5 +12,6 @@ returns c =
       entry = pressed.0;
       says = pressed.1;
       comes = rw shown at (comes_of (record { node = c.self.inside.node; ports = c.self.inside.calls }) c.press.new.self c.press.result
-          (λ calls. press_at calls c.args.port c.args.key (view_of c.sight.result) c.args.moment pressed.0 (call_in calls c.args.port)) pressed.2);
+          (λ calls. press_at calls c.args.port c.args.key (view_of c.sight.result) c.args.moment pressed.0 (call_in calls c.args.port))
+          pressed.2);
     })

@@ -12,7 +12,8 @@ invariant_of-self c =
     let there = rw (← c.self.view_is) at c.requires in
     let here = c.index_mut.result.now in
     let end = end_after (end_at c.args.way here) c.args.front in
-    let done = ended c.self.inside.packets links c.args.link there here c.index_mut.ensures.value c.args.way end c.self.invariant.0 c.self.invariant.1 in
+    let done = ended c.self.inside.packets links c.args.link there here c.index_mut.ensures.value c.args.way end c.self.invariant.0
+    c.self.invariant.1 in
     rw c.go_on.ensures
     (done.0, done.1, omega (arith, length-set links c.args.link (places_with_end c.args.way here end), c.self.invariant.2))
 

@@ -24,7 +24,8 @@ invariant_of-self c =
     let packet = c.args.packet.now in
     let place = c.len-place.result in
     let next = with_place c.args.way here place in
-    let row = within_placed packets links c.args.link there here c.index_mut.ensures.value c.self.invariant.0 packet place c.len-place.ensures c.args.way in
+    let row = within_placed packets links c.args.link there here c.index_mut.ensures.value c.self.invariant.0 packet place
+    c.len-place.ensures c.args.way in
     let done = stored packets links c.args.link there here c.index_mut.ensures.value c.self.invariant.0 packet place c.len-place.ensures
     next row (size_placed c.args.way here place) c.self.invariant.1 in
     rw (c.add-index.ensures.added, c.push.ensures)

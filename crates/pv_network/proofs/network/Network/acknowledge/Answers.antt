@@ -11,7 +11,15 @@ use Rattle.pv_network.proofs.network.Network.acknowledge.Goals.{After-acknowledg
 abbrev before : After-acknowledge → State
 before c =
     let n = c.self.inside in
-    record { update = n.update.state; disk = n.update.disk; moment = n.moment; seats = n.seats; centres = n.centres.items; links = n.links; is_out = n.is_out }
+    record {
+      update = n.update.state;
+      disk = n.update.disk;
+      moment = n.moment;
+      seats = n.seats;
+      centres = n.centres.items;
+      links = n.links;
+      is_out = n.is_out;
+    }
 
 -- the link has one acknowledgement more
 made : (c : After-acknowledge) (w : World) → StandsFor (before c) w

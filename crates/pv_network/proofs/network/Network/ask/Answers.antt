@@ -11,7 +11,15 @@ use Rattle.pv_network.proofs.network.Network.ask.Goals.{After-reply_text}
 abbrev before : After-reply_text → State
 before c =
     let n = c.self.inside in
-    record { update = n.update.state; disk = n.update.disk; moment = n.moment; seats = n.seats; centres = n.centres.items; links = n.links; is_out = n.is_out }
+    record {
+      update = n.update.state;
+      disk = n.update.disk;
+      moment = n.moment;
+      seats = n.seats;
+      centres = n.centres.items;
+      links = n.links;
+      is_out = n.is_out;
+    }
 
 -- the Update Centre does it
 asked : (c : After-reply_text) (w : World) → StandsFor (before c) w

@@ -24,7 +24,8 @@ add-requires-clause-items c = let less = c.in-Taken.ensures.room tt in omega (ar
 -- the round that comes next
 next : (c : In-Some) (w : World) → StandsFor c.args.self.now w
     → NextRound c.args.centre w c.rounds.load c.rounds.self (Some c.in-Some.next)
-next c w stands = next_round c.args.centre w c.rounds.way c.rounds.load c.rounds.self (Some c.in-Some.next) (c.rounds.invariant.rest w stands)
+next c w stands = next_round c.args.centre w c.rounds.way c.rounds.load c.rounds.self (Some c.in-Some.next)
+    (c.rounds.invariant.rest w stands)
     (λ v here. sym c.in-Some.is ∙ c.way_on.ensures v here)
 
 -- one more was taken
@@ -59,7 +60,8 @@ pub returns-in_default-clause-performs : goal.returns-in_default-clause-performs
 returns-in_default-clause-performs c = λ w stands.
     let idle = next_round c.args.centre w c.rounds.way c.rounds.load c.rounds.self None (c.rounds.invariant.rest w stands)
     (λ v here. sym c.in_default.is ∙ c.way_on.ensures v here) in
-    carry_ends c.args.centre w idle.so_far c.rounds.self _ idle.stands (idle.is ∙ ap (λ (o : Outcome). (idle.so_far, o)) (sym c.carried.ensures))
+    carry_ends c.args.centre w idle.so_far c.rounds.self _ idle.stands
+    (idle.is ∙ ap (λ (o : Outcome). (idle.so_far, o)) (sym c.carried.ensures))
 
 -- the carry cannot go on
 pub returns-in-Stopped-clause-performs : goal.returns-in-Stopped-clause-performs

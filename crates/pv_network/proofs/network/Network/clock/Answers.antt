@@ -13,7 +13,10 @@ pub invariant_of-self : goal.invariant_of-self
 invariant_of-self c =
     let stands = c.self.invariant.1 in (
       c.self.invariant.0,
-      (record stands.0 { moment = c.args.moment }, shows _ stands.0 stands.1 c.args.moment c.of-self-inside.result c.of-self-inside.ensures),
+      (
+        record stands.0 { moment = c.args.moment },
+        shows _ stands.0 stands.1 c.args.moment c.of-self-inside.result c.of-self-inside.ensures,
+      ),
     )
 
 pub returns-clause-performs : goal.returns-clause-performs

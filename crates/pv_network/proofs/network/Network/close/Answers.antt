@@ -12,7 +12,15 @@ use Rattle.pv_network.proofs.network.Network.close.Goals.{After-closing_text}
 abbrev before : After-closing_text → State
 before c =
     let n = c.self.inside in
-    record { update = n.update.state; disk = n.update.disk; moment = n.moment; seats = n.seats; centres = n.centres.items; links = n.links; is_out = n.is_out }
+    record {
+      update = n.update.state;
+      disk = n.update.disk;
+      moment = n.moment;
+      seats = n.seats;
+      centres = n.centres.items;
+      links = n.links;
+      is_out = n.is_out;
+    }
 
 -- the seat is new
 closed : (c : After-closing_text) (w : World) → StandsFor (before c) w

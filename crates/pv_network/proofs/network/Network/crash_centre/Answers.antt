@@ -11,7 +11,15 @@ use Rattle.pv_network.proofs.network.Network.crash_centre.Goals.{After-renew_up}
 abbrev before : After-renew_up → State
 before c =
     let n = c.self.inside in
-    record { update = n.update.state; disk = n.update.disk; moment = n.moment; seats = n.seats; centres = n.centres.items; links = n.links; is_out = n.is_out }
+    record {
+      update = n.update.state;
+      disk = n.update.disk;
+      moment = n.moment;
+      seats = n.seats;
+      centres = n.centres.items;
+      links = n.links;
+      is_out = n.is_out;
+    }
 
 -- the centre crashes in the world too, and its end is new
 done : (c : After-renew_up) (w : World) → StandsFor (before c) w

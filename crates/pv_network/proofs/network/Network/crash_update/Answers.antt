@@ -14,7 +14,15 @@ use Rattle.pv_network.proofs.network.Network.crash_update.Goals.{After-count-cou
 abbrev before : After-count-count → State
 before c =
     let n = c.self.inside in
-    record { update = n.update.state; disk = n.update.disk; moment = n.moment; seats = n.seats; centres = n.centres.items; links = n.links; is_out = n.is_out }
+    record {
+      update = n.update.state;
+      disk = n.update.disk;
+      moment = n.moment;
+      seats = n.seats;
+      centres = n.centres.items;
+      links = n.links;
+      is_out = n.is_out;
+    }
 
 -- the Update Centre crashes in the world too
 done : (c : After-count-count) (w : World) → StandsFor (before c) w

@@ -11,7 +11,15 @@ use Rattle.pv_network.proofs.network.Network.cut_centre.Goals.{After-cut}
 abbrev before : After-cut → State
 before c =
     let n = c.self.inside in
-    record { update = n.update.state; disk = n.update.disk; moment = n.moment; seats = n.seats; centres = n.centres.items; links = n.links; is_out = n.is_out }
+    record {
+      update = n.update.state;
+      disk = n.update.disk;
+      moment = n.moment;
+      seats = n.seats;
+      centres = n.centres.items;
+      links = n.links;
+      is_out = n.is_out;
+    }
 
 -- the centre is lost in the world too
 done : (c : After-cut) (w : World) → StandsFor (before c) w

@@ -10,7 +10,8 @@ returns-then-is_owes-clause-performs c =
     c.take.result
     (λ w stands.
     let pressed = c.press-pressed.ensures.performs w stands in
-    let done = key_paid c.args.centre c.args.port w c.pay-paid.new.self c.pay-paid.result c.args.byte pressed.0 c.press-pressed.result pressed.3
+    let done = key_paid c.args.centre c.args.port w c.pay-paid.new.self c.pay-paid.result c.args.byte pressed.0
+    c.press-pressed.result pressed.3
     (sym c.is_owes.ensures ∙ c.if-is_owes.true)
     (c.pay-paid.ensures.performs (step_of_press w c.args.centre c.args.port c.args.byte pressed.0).0 pressed.2) in
     (pressed.0, pressed.1, done.0, done.1))

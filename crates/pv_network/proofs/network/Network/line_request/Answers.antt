@@ -8,7 +8,7 @@ use Rattle.pv_network.proofs.Lists.{read_again}
 use Rattle.pv_network.proofs.Performing.{takes_line}
 use Rattle.pv_network.proofs.network.Network.line_request.Goals as goal
 
--- the step is the one that the line has in the world
+-- the step is the one that the editor's line has in the world
 pub returns-clause-request : goal.returns-clause-request
 returns-clause-request c =
     let here : EditorSeat = get_or c.self.inside.seats c.args.port c.index-self-port.result in

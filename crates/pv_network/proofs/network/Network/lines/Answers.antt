@@ -9,7 +9,8 @@ use Rattle.pv_network.proofs.Performing.{items_there}
 use Rattle.pv_network.proofs.network.Network.lines.Goals as goal
 
 -- the lines of the centre's items are those of the world's
-performed : {E : Type 0} (r : Result Outcome E) (s : State) (c : ℕ) (items : List Item) → IfOk r (λ outcome. outcome ≡ bill_answer (stored_lines c items))
+performed : {E : Type 0} (r : Result Outcome E) (s : State) (c : ℕ) (items : List Item)
+    → IfOk r (λ outcome. outcome ≡ bill_answer (stored_lines c items))
     → ((w : World) → StandsFor s w → items ≡ (centre_at w c).calls.items)
     → IfOk r (λ outcome. Performs s s outcome (λ w. step_of_lines w c))
 performed (Ok outcome) s c items is same = λ w stands. (stands, is ∙ ap (λ (l : List Item). bill_answer (stored_lines c l)) (same w stands))

@@ -13,7 +13,15 @@ use Rattle.pv_network.proofs.network.Network.press.Goals.{After-press}
 abbrev before : After-press → State
 before c =
     let n = c.self.inside in
-    record { update = n.update.state; disk = n.update.disk; moment = n.moment; seats = n.seats; centres = n.centres.items; links = n.links; is_out = n.is_out }
+    record {
+      update = n.update.state;
+      disk = n.update.disk;
+      moment = n.moment;
+      seats = n.seats;
+      centres = n.centres.items;
+      links = n.links;
+      is_out = n.is_out;
+    }
 
 -- the key makes an entry in the world, and does there what it does here
 done : (c : After-press) (w : World) → StandsFor (before c) w
@@ -24,7 +32,8 @@ done : (c : After-press) (w : World) → StandsFor (before c) w
 done c w stands =
     presses _ w stands c.args.centre c.index_mut.result.now (rw (← c.self.view_is) at c.requires.centre) c.index_mut.ensures.value
     c.args.port c.press.new.self c.press.result c.seats_keep_their_own.ensures c.letters_wait_by_places.ensures
-    c.a_centre_shows_what_the_list_shows.ensures.letter c.a_centre_shows_what_the_list_shows.ensures.sight c.args.key c.seconds-moment.result
+    c.a_centre_shows_what_the_list_shows.ensures.letter c.a_centre_shows_what_the_list_shows.ensures.sight c.args.key
+    c.seconds-moment.result
     (c.seconds-moment.ensures.value ∙ stands.moment) c.press.ensures
 
 pub invariant_of-self : goal.invariant_of-self

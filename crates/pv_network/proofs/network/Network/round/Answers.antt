@@ -12,7 +12,14 @@ returns-in-Some-clause-room c = λ on.
     let stands : StandsFor c.args.self.now w = subst (λ (s : State). StandsFor s w) c.self.view_is c.self.invariant.1.1 in
     let sent = c.send-sent.ensures.performs w stands in
     let brought = c.bring.ensures.performs (step_of_sending c.args.way w c.args.centre).0 sent.0 in
-    let made : packet_in (step_of_sending c.args.way w c.args.centre).1 ≡ Some c.in-Some.index = ap packet_in (sym sent.1) ∙ sym c.in-Some.ensures in
-    let there : c.args.centre < length w.links = omega (arith, rw (← c.self.view_is) at c.requires, c.self.invariant.0, ap (λ (l : List Link). length l) c.self.invariant.1.1.links) in
+    let made : packet_in (step_of_sending c.args.way w c.args.centre).1 ≡ Some c.in-Some.index = ap packet_in (sym sent.1)
+    ∙ sym c.in-Some.ensures in
+    let there : c.args.centre < length w.links =
+    omega (
+      arith,
+      rw (← c.self.view_is) at c.requires,
+      c.self.invariant.0,
+      ap (λ (l : List Link). length l) c.self.invariant.1.1.links,
+    ) in
     let takes = sent_takes_room w c.args.centre there c.args.way c.in-Some.index made in
     omega (arith, takes, ap (λ (l : List Link). packet_room l) brought.0.links, ap (λ (l : List Link). packet_room l) stands.links)

@@ -11,7 +11,15 @@ use Rattle.pv_network.proofs.network.Network.show.Goals.{After-show}
 abbrev before : After-show → State
 before c =
     let n = c.self.inside in
-    record { update = n.update.state; disk = n.update.disk; moment = n.moment; seats = n.seats; centres = n.centres.items; links = n.links; is_out = n.is_out }
+    record {
+      update = n.update.state;
+      disk = n.update.disk;
+      moment = n.moment;
+      seats = n.seats;
+      centres = n.centres.items;
+      links = n.links;
+      is_out = n.is_out;
+    }
 
 -- the caller is shown the same in the world
 done : (c : After-show) (w : World) → StandsFor (before c) w

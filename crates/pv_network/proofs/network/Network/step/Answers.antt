@@ -15,7 +15,7 @@ pub returns-clause-performs : goal.returns-clause-performs
 returns-clause-performs c =
     noted (answer c.happen-outcome.result) _ _ false c.args.event.now (rw (← c.self-2.view_is) at c.happen-outcome.ensures.performs)
 
--- a reply is a line
+-- a reply stands on one row
 pub returns-clause-replies : goal.returns-clause-replies
 returns-clause-replies c =
     answers_by_line c.args.self.now _ c.args.event.now (answer c.happen-outcome.result) (rw (← c.self.view_is) c.self.invariant.1)

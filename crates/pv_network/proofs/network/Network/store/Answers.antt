@@ -11,9 +11,17 @@ use Rattle.pv_network.proofs.network.Network.store.Goals.{After-store}
 abbrev before : After-store → State
 before c =
     let n = c.self.inside in
-    record { update = n.update.state; disk = n.update.disk; moment = n.moment; seats = n.seats; centres = n.centres.items; links = n.links; is_out = n.is_out }
+    record {
+      update = n.update.state;
+      disk = n.update.disk;
+      moment = n.moment;
+      seats = n.seats;
+      centres = n.centres.items;
+      links = n.links;
+      is_out = n.is_out;
+    }
 
--- the same is stored in the world
+-- the world stores what the network does
 done : (c : After-store) (w : World) → StandsFor (before c) w
     → StandsFor (record (before c) { centres = set c.self.inside.centres.items c.args.centre c.store.new.self })
     (step_of_store w c.args.centre c.args.port).0 × (c.store.result ≡ (step_of_store w c.args.centre c.args.port).1)

@@ -15,13 +15,21 @@ use Rattle.pv_network.proofs.network.Network.take_line.Goals.{After-line}
 abbrev before : After-line → State
 before c =
     let n = c.self.inside in
-    record { update = n.update.state; disk = n.update.disk; moment = n.moment; seats = n.seats; centres = n.centres.items; links = n.links; is_out = n.is_out }
+    record {
+      update = n.update.state;
+      disk = n.update.disk;
+      moment = n.moment;
+      seats = n.seats;
+      centres = n.centres.items;
+      links = n.links;
+      is_out = n.is_out;
+    }
 
 -- the seat
 abbrev here : After-line → EditorSeat
 here c = get_or c.self.inside.seats c.args.port c.index-self-port.result
 
--- what the line says at it
+-- what the editor's line says at it
 said : (c : After-line) → Says (here c) c.args.line.now c.self.inside.update.state.records
     (all_places c.self.inside.update.state.records) c.line.new.self c.line.result
 said c = rw (c.base.ensures.records, c.base.ensures.places, c.state.ensures) at c.line.ensures.says
@@ -32,7 +40,7 @@ read c =
     let four : length c.self.inside.seats ≡ EDITORS = search rules in
     read_again c.self.inside.seats c.args.port c.index-self-port.result new_seat (omega (arith, four, c.requires))
 
--- the line is taken there
+-- the editor's line is taken there
 taken : (c : After-line) (w : World) → StandsFor (before c) w
     → StandsFor (record (before c) { seats = set c.self.inside.seats c.args.port c.line.new.self })
     (step_of_line w c.args.port (said c).line).0

@@ -11,7 +11,15 @@ use Rattle.pv_network.proofs.network.Network.take_up.Goals.{After-take_up-arriva
 abbrev before : After-take_up-arrival → State
 before c =
     let n = c.self.inside in
-    record { update = n.update.state; disk = n.update.disk; moment = n.moment; seats = n.seats; centres = n.centres.items; links = n.links; is_out = n.is_out }
+    record {
+      update = n.update.state;
+      disk = n.update.disk;
+      moment = n.moment;
+      seats = n.seats;
+      centres = n.centres.items;
+      links = n.links;
+      is_out = n.is_out;
+    }
 
 -- with the Update Centre that was asked
 abbrev now : After-take_up-arrival → State
@@ -19,7 +27,8 @@ now c = record (before c) { update = c.take_up-arrival.new.update.state; disk = 
 
 -- the network stands for the world after the arrival, and the Update Centre did what the world's does
 taken : (c : After-take_up-arrival) (w : World) → StandsFor (before c) w
-    → StandsFor (now c) (world_after w (with_item_of w c.args.centre c.args.number c.args.item.now) (arrival_on ways.Up w c.args.centre c.args.number))
+    → StandsFor (now c) (world_after w (with_item_of w c.args.centre c.args.number c.args.item.now)
+    (arrival_on ways.Up w c.args.centre c.args.number))
     × (c.take_up-arrival.result ≡ arrival_on ways.Up w c.args.centre c.args.number)
 taken c w stands =
     takes_up _ w stands c.args.centre c.args.centre c.args.number c.args.item.now c.take_up-arrival.new.update c.take_up-arrival.result
@@ -45,5 +54,6 @@ invariant_of-self c =
 pub returns-clause-performs : goal.returns-clause-performs
 returns-clause-performs c = λ w stands.
     let a = (goal.at.returns-clause-performs c).After-take_up-arrival in
-    answered ways.Up w (with_item_of w c.args.centre c.args.number c.args.item.now) c.args.centre c.args.number c.take_up-arrival.result (now a)
+    answered ways.Up w (with_item_of w c.args.centre c.args.number c.args.item.now) c.args.centre c.args.number
+    c.take_up-arrival.result (now a)
     c.answer.new.self c.answer.result (taken a w (rw (← c.self.view_is) at stands)) c.answer.ensures.performs

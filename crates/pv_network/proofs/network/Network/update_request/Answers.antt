@@ -1,6 +1,6 @@
 use Rattle.pv_network.proofs.network.Network.update_request.Goals as goal
 
--- the line says what it says
+-- the editor's line says what the choice says
 pub returns-in-Edit-clause-request : goal.returns-in-Edit-clause-request
 returns-in-Edit-clause-request c =
     let asked = rw c.bytes.ensures at c.line_request.ensures.request in
