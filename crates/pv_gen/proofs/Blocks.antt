@@ -37,7 +37,7 @@ number_parted block k m =
     ∙ sym (append_assoc (flat_map block (range_with_len 1 k)) (block (1 + k)) (flat_map block (range_with_len (1 + k + 1) m)))
     ∙ ap (λ (x : ℕ). flat_map block (range_with_len 1 k) ++ block x ++ flat_map block (range_with_len (x + 1) m)) f
 
--- the next block, which is this text, is apart from those before it and after it
+-- the text of all blocks is that of those before the next one, this text for the next, and that of those after it
 pub later_blocks : (block : ℕ → List ℕ) (n k : ℕ) {text : List ℕ} → block (k + 1) ≡ text → k < n
     → (later : List ℕ) × (flat_map block (range_with_len 1 n) ≡ flat_map block (range_with_len 1 k) ++ text ++ later)
 later_blocks block n k is within =
@@ -49,7 +49,7 @@ later_blocks block n k is within =
           ∙ ap (λ (l : List ℕ). flat_map block (range_with_len 1 k) ++ l ++ later) is,
     )
 
--- one block more, which is this text
+-- with one block more, the text of the blocks goes on with this text
 pub blocks-more : (block : ℕ → List ℕ) (k : ℕ) {text : List ℕ} → block (k + 1) ≡ text
     → flat_map block (range_with_len 1 (k + 1)) ≡ flat_map block (range_with_len 1 k) ++ text
 blocks-more block k is =

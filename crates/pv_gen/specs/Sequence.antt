@@ -6,7 +6,7 @@ use Rattle.pv_gen.specs.declared.sequence.TheConstants.{MULTIPLIER, INCREMENT, M
 abbrev pub next_state : ℕ → ℕ
 next_state state = (MULTIPLIER * state + INCREMENT) % MODULUS
 
--- the state after so many steps from the number
+-- the state after n steps from the number
 abbrev pub state_at : ℕ → ℕ → ℕ
 state_at number zero = number
 state_at number (suc steps) = next_state (state_at number steps)
@@ -15,6 +15,6 @@ state_at number (suc steps) = next_state (state_at number steps)
 abbrev pub output_of : ℕ → ℕ
 output_of state = state / DIVISOR
 
--- the output after so many steps
+-- the output after n steps
 abbrev pub output_at : ℕ → ℕ → ℕ
 output_at number steps = output_of (state_at number steps)
