@@ -2,7 +2,7 @@
 use Rattle.std.proofs.Common.{lit≤, ◌≡◌, [], ◌∷◌, ◌*◌, true, Some, None, codes, refl}
 use Rattle.std.specs.Fmt.{digits}
 use Rattle.pv_network.specs.declared.event.Event.TheVariants.{Send, Deliver}
-use Rattle.pv_network.specs.declared.event.TheConstants.{MAX_CENTRES}
+use Rattle.pv_account.specs.declared.account.TheConstants.{MAX_CENTRES}
 use Rattle.pv_network.specs.declared.outcome.BillLine.{BillLine}
 use Rattle.pv_network.specs.declared.outcome.Outcome.TheVariants.{Turns, SentRecord, SentItem, Taken, Old, Carried, Kept, Lost, NotStored, Clock, NotHeld, Applied, Records, Bill}
 use Rattle.pv_network.specs.declared.outcome.Outcome.TheVariants.{Shown, Quiet}

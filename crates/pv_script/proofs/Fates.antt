@@ -17,7 +17,7 @@ use Rattle.pv_network.specs.declared.outcome.BillLine.{BillLine}
 use Rattle.pv_network.specs.declared.outcome.Outcome.{Outcome}
 use Rattle.pv_network.specs.declared.outcome.Outcome.TheVariants as outcomes
 use Rattle.pv_network.specs.declared.outcome.Turn.{Turn}
-use Rattle.pv_network.specs.Replies.{is_unbroken, IsUnbroken, IsReplyLine, RepliesByLine, first_capital, last_capital}
+use Rattle.pv_network.specs.Replies.{is_not_line_end, HasNoLineEnd, IsReplyLine, RepliesByLine, first_capital, last_capital}
 use Rattle.pv_network.proofs.CallerLemmas.{unbroken-append, unbroken-decimal}
 use Rattle.pv_script.specs.Fates.{fate_in, fates_in, fate_of, HasFates, HasFatesOf}
 use Rattle.pv_script.specs.Transcript.{newline, end_text, ack_text, turn_text, turns_text, charge_text, charges_text, answer_text, limits_text}
@@ -39,7 +39,7 @@ fates-append a b x y p q rest =
     ap fates_in (append_assoc a b rest) ∙ p (b ++ rest) ∙ ap (λ (l : List Bool). x ++ l) (q rest) ∙ sym (append_assoc x y (fates_in rest))
 
 -- a line that says none, with its end
-line_has_none : (line : List ℕ) → IsUnbroken line → fate_in line ≡ [] → HasFates (line ++ newline) []
+line_has_none : (line : List ℕ) → HasNoLineEnd line → fate_in line ≡ [] → HasFates (line ++ newline) []
 line_has_none line whole none rest =
     ap fates_in (append_assoc line newline rest)
     ∙ ap (flat_map fate_in) (unbroken_line line rest whole)
@@ -48,48 +48,48 @@ line_has_none line whole none rest =
 -- ---- parts of lines
 
 -- a number after words
-numbered : (words : List ℕ) (n : ℕ) → IsUnbroken words → IsUnbroken (words ++ decimal n)
+numbered : (words : List ℕ) (n : ℕ) → HasNoLineEnd words → HasNoLineEnd (words ++ decimal n)
 numbered words n whole = unbroken-append words (decimal n) whole (unbroken-decimal n)
 
 -- words, a number, words, and a number
-twice_numbered : (words : List ℕ) (m : ℕ) (more : List ℕ) (n : ℕ) → IsUnbroken words → IsUnbroken more
-    → IsUnbroken (words ++ decimal m ++ more ++ decimal n)
+twice_numbered : (words : List ℕ) (m : ℕ) (more : List ℕ) (n : ℕ) → HasNoLineEnd words → HasNoLineEnd more
+    → HasNoLineEnd (words ++ decimal m ++ more ++ decimal n)
 twice_numbered words m more n whole also =
     numbered (words ++ decimal m ++ more) n (unbroken-append (words ++ decimal m) more (numbered words m whole) also)
 
 -- such lines
-numbered_has_none : (words : List ℕ) (n : ℕ) → IsUnbroken words → fate_in (words ++ decimal n) ≡ []
+numbered_has_none : (words : List ℕ) (n : ℕ) → HasNoLineEnd words → fate_in (words ++ decimal n) ≡ []
     → HasFates (words ++ decimal n ++ newline) []
 numbered_has_none words n whole none = line_has_none (words ++ decimal n) (numbered words n whole) none
 
-twice_has_none : (words : List ℕ) (m : ℕ) (more : List ℕ) (n : ℕ) → IsUnbroken words → IsUnbroken more
+twice_has_none : (words : List ℕ) (m : ℕ) (more : List ℕ) (n : ℕ) → HasNoLineEnd words → HasNoLineEnd more
     → fate_in (words ++ decimal m ++ more ++ decimal n) ≡ [] → HasFates (words ++ decimal m ++ more ++ decimal n ++ newline) []
 twice_has_none words m more n whole also none =
     line_has_none (words ++ decimal m ++ more ++ decimal n) (twice_numbered words m more n whole also) none
 
 -- the notation of bytes
-char_unbroken : (d : ℕ) → is_unbroken (digit_char d) ≡ true
+char_unbroken : (d : ℕ) → is_not_line_end (digit_char d) ≡ true
 char_unbroken d = grind (arith, nat_tests)
 
-plain_unbroken : (byte : ℕ) → is_plain byte ≡ true → is_unbroken byte ≡ true
+plain_unbroken : (byte : ℕ) → is_plain byte ≡ true → is_not_line_end byte ≡ true
 plain_unbroken byte plain = grind (arith, nat_tests)
 
-byte_unbroken : (byte : ℕ) → IsUnbroken (notation_of_byte byte)
+byte_unbroken : (byte : ℕ) → HasNoLineEnd (notation_of_byte byte)
 byte_unbroken byte = by (is_plain byte) refl
   where
-    escaped : IsUnbroken (BACKSLASH ∷ digit_char (byte / 16) ∷ digit_char (byte % 16) ∷ [])
+    escaped : HasNoLineEnd (BACKSLASH ∷ digit_char (byte / 16) ∷ digit_char (byte % 16) ∷ [])
     escaped = and_from _ _ refl (and_from _ _ (char_unbroken (byte / 16)) (and_from _ _ (char_unbroken (byte % 16)) refl))
 
-    by : (b : Bool) → is_plain byte ≡ b → IsUnbroken (cond b (byte ∷ []) (BACKSLASH ∷ digit_char (byte / 16) ∷ digit_char (byte % 16) ∷ []))
+    by : (b : Bool) → is_plain byte ≡ b → HasNoLineEnd (cond b (byte ∷ []) (BACKSLASH ∷ digit_char (byte / 16) ∷ digit_char (byte % 16) ∷ []))
     by true is = and_from _ _ (plain_unbroken byte is) refl
     by false is = escaped
 
-notation_unbroken : (bytes : List ℕ) → IsUnbroken (notation_of bytes)
+notation_unbroken : (bytes : List ℕ) → HasNoLineEnd (notation_of bytes)
 notation_unbroken [] = refl
 notation_unbroken (byte ∷ bytes) =
     unbroken-append (notation_of_byte byte) (notation_of bytes) (byte_unbroken byte) (notation_unbroken bytes)
 
-ack_unbroken : (ack : Option ℕ) → IsUnbroken (ack_text ack)
+ack_unbroken : (ack : Option ℕ) → HasNoLineEnd (ack_text ack)
 ack_unbroken None = refl
 ack_unbroken (Some index) = numbered (codes " ack ") index refl
 
@@ -138,14 +138,14 @@ module _ (charge : BillLine) where
   abbrev after : List ℕ
   after = gap ++ decimal charge.line.price ++ gap ++ decimal charge.line.moment
 
-  before_unbroken : IsUnbroken before
+  before_unbroken : HasNoLineEnd before
   before_unbroken =
       let serial = twice_numbered (codes "line ") charge.centre gap charge.line.serial refl refl in
       let number = numbered (codes "line " ++ decimal charge.centre ++ gap ++ decimal charge.line.serial ++ gap) charge.line.number
       (unbroken-append (codes "line " ++ decimal charge.centre ++ gap ++ decimal charge.line.serial) gap serial refl) in
       unbroken-append (codes "line " ++ decimal charge.centre ++ gap ++ decimal charge.line.serial ++ gap ++ decimal charge.line.number) gap number refl
 
-  after_unbroken : IsUnbroken after
+  after_unbroken : HasNoLineEnd after
   after_unbroken = twice_numbered gap charge.line.price gap charge.line.moment refl refl
 
   -- a name is on the line, unless its letter were a newline: then the line ends there
@@ -158,7 +158,7 @@ module _ (charge : BillLine) where
       subst (λ (l : List ℕ). HasFates (l ++ (after ++ newline)) [])
       (append_assoc before page newline ∙ ap (λ (byte : ℕ). before ++ (page ++ byte ∷ [])) (sym end)) both
   named false is =
-      let other : is_unbroken letter ≡ true = grind (arith, nat_tests) in
+      let other : is_not_line_end letter ≡ true = grind (arith, nat_tests) in
       let name = unbroken-append page (letter ∷ []) (unbroken-decimal charge.line.name.page) (and_from _ _ other refl) in
       let line = before ++ (page ++ letter ∷ []) ++ after in
       let whole = unbroken-append (before ++ (page ++ letter ∷ [])) after (unbroken-append before (page ++ letter ∷ []) before_unbroken name) after_unbroken in
@@ -190,7 +190,7 @@ reply_has_none : (text : List ℕ) → IsReplyLine text → HasFates (text ++ ne
 reply_has_none text is = line_has_none text is.whole (ap fate_in is.is ∙ capital_has_none is.first is.rest is.capital)
 
 -- words, a number, and an acknowledgement
-arrival_has_none : (words : List ℕ) (number : ℕ) (ack : Option ℕ) → IsUnbroken words
+arrival_has_none : (words : List ℕ) (number : ℕ) (ack : Option ℕ) → HasNoLineEnd words
     → fate_in (words ++ decimal number ++ ack_text ack) ≡ []
     → HasFates (words ++ decimal number ++ ack_text ack ++ newline) []
 arrival_has_none words number ack whole none =

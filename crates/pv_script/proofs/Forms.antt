@@ -7,7 +7,7 @@ use Rattle.std.proofs.lemmas.Bool.{and_parts}
 use Rattle.std.proofs.lemmas.Bool.Decides.{nat_tests}
 use Rattle.pv_words.specs.Numbers.{IsBelow}
 use Rattle.pv_words.specs.Parts.{IsOne, AreTwo, AreThree}
-use Rattle.pv_words.specs.Split.{HasNone, IsTail, IsSplit, IsNext, word_gap}
+use Rattle.pv_words.specs.Split.{HasNone, IsTail, IsSplit, IsNextWord, word_gap}
 use Rattle.pv_network.specs.Standing.{IsNotation}
 use Rattle.pv_network.specs.declared.event.Event.{Event}
 use Rattle.pv_network.specs.declared.event.Event.TheVariants as events
@@ -42,7 +42,7 @@ ungapped (byte ∷ text) word =
     (differs, ungapped text parts.1)
 
 -- a word and the tail after it are the next part of a line
-next : (word later : List ℕ) → IsWord word → IsTail later → IsNext (word_gap ∷ word ++ later) word later
+next : (word later : List ℕ) → IsWord word → IsTail later → IsNextWord (word_gap ∷ word ++ later) word later
 next word later is after =
     let split : IsSplit (word ++ later) word later = record { parts = refl; before = ungapped word is; after = after } in
     record { text = word ++ later; parts = refl; split = split }

@@ -1,5 +1,6 @@
 pub mod CallerLemmas
 pub mod Counting
+pub mod EachWrite
 pub mod Ending
 pub mod Facts
 pub mod Fates

@@ -8,7 +8,7 @@ use Rattle.std.proofs.lemmas.Fmt.{decimal_by_steps}
 use Rattle.std.proofs.lemmas.List.Folds.{list_all-append}
 use Rattle.pv_cells.specs.Notation.{ReadsAs, is_plain}
 use Rattle.pv_words.specs.Lines.{lines_of, before_first_line}
-use Rattle.pv_network.specs.Replies.{is_unbroken, IsUnbroken}
+use Rattle.pv_network.specs.Replies.{is_not_line_end, HasNoLineEnd}
 
 -- all bytes of the text are plain
 abbrev pub IsPlainText : List ℕ → Type 0
@@ -42,26 +42,26 @@ plain_reads (byte ∷ text) plain =
 -- ---- lines
 
 -- a byte that is no newline
-other : (byte : ℕ) → is_unbroken byte ≡ true → (byte == 10) ≡ false
+other : (byte : ℕ) → is_not_line_end byte ≡ true → (byte == 10) ≡ false
 other byte differs = grind (arith, nat_tests)
 
 -- such a line with its end is the first of the lines
-pub unbroken_line : (line later : List ℕ) → IsUnbroken line → lines_of (line ++ 10 ∷ later) ≡ line ∷ lines_of later
+pub unbroken_line : (line later : List ℕ) → HasNoLineEnd line → lines_of (line ++ 10 ∷ later) ≡ line ∷ lines_of later
 unbroken_line [] later whole = refl
 unbroken_line (byte ∷ line) later whole =
-    let parts = and_parts (is_unbroken byte) _ whole in
+    let parts = and_parts (is_not_line_end byte) _ whole in
     let rest = lines_of (line ++ 10 ∷ later) in
     ap (λ (t : Bool). cond t ([] ∷ rest) (before_first_line byte rest)) (other byte parts.0)
     ∙ ap (before_first_line byte) (unbroken_line line later parts.1)
 
 -- a plain text is one
-unbroken-plain : (text : List ℕ) → IsPlainText text → IsUnbroken text
+unbroken-plain : (text : List ℕ) → IsPlainText text → HasNoLineEnd text
 unbroken-plain [] plain = refl
 unbroken-plain (byte ∷ text) plain =
     let parts = and_parts (is_plain byte) _ plain in
     and_from _ _ (by parts.0) (unbroken-plain text parts.1)
   where
-    by : is_plain byte ≡ true → is_unbroken byte ≡ true
+    by : is_plain byte ≡ true → is_not_line_end byte ≡ true
     by plain = grind (arith, nat_tests)
 
 -- a plain line with its end is the first of the lines

@@ -1,9 +1,10 @@
 -- The lines of the script, and what each of them asks for.
-use Rattle.std.specs.Prelude.{◌≡◌, ℕ, ◌+◌, Bool, IsTrue, ◌⊎◌, List, [], ◌∷◌, Some}
+use Rattle.std.specs.Prelude.{◌≡◌, ℕ, ◌+◌, ◌==◌, Bool, false, not, IsTrue, ◌⊎◌, List, [], ◌∷◌, count_by, Some}
 use Rattle.pv_words.specs.Numbers.{IsNumber, IsBelow}
 use Rattle.pv_words.specs.Parts.{IsPart, IsOne, AreTwo, AreThree, Gives, GivesAlone}
 use Rattle.pv_words.specs.Split.{IsSplit}
 use Rattle.pv_editor.specs.Parts.{IsAccountText}
+use Rattle.pv_network.specs.declared.event.Event.{Event}
 use Rattle.pv_network.specs.declared.event.Event.TheVariants as events
 use Rattle.pv_network.specs.declared.event.TheConstants.{EDITORS, PORTS}
 use Rattle.pv_network.specs.Step.{Choice, IsChoice}
@@ -19,41 +20,47 @@ use Rattle.pv_script.specs.Readers.{IsFrameText, IsNodeText, IsImageText, IsMome
 use Rattle.pv_script.specs.Storing.{IsStoringText}
 use Rattle.pv_script.specs.Words.{word_of_text}
 
--- a word of a caller's line and the tail after it ask for the command: a row for each form
-abbrev pub CallAsksAs : ℕ → CallWord → List ℕ → Command → Type 0
-CallAsksAs centres calling.Dial tail = Gives (AreTwo (IsBelow centres) (IsBelow PORTS)) (λ parts. Do (events.Dial parts.0 parts.1)) tail
+-- a word of a caller's line and the tail after it ask for the event: a row for each form
+abbrev pub CallAsksAs : ℕ → CallWord → List ℕ → Event → Type 0
+CallAsksAs centres calling.Dial tail = Gives (AreTwo (IsBelow centres) (IsBelow PORTS)) (λ parts. events.Dial parts.0 parts.1) tail
 CallAsksAs centres calling.Press tail =
-    Gives (AreThree (IsBelow centres) (IsBelow PORTS) IsKeyText) (λ parts. Do (events.Press parts.0 parts.1 parts.2)) tail
-CallAsksAs centres calling.Store tail = Gives (AreTwo (IsBelow centres) (IsBelow PORTS)) (λ parts. Do (events.Store parts.0 parts.1)) tail
-CallAsksAs centres calling.Show tail = Gives (AreTwo (IsBelow centres) (IsBelow PORTS)) (λ parts. Do (events.Show parts.0 parts.1)) tail
+    Gives (AreThree (IsBelow centres) (IsBelow PORTS) IsKeyText) (λ parts. events.Press parts.0 parts.1 parts.2) tail
+CallAsksAs centres calling.Store tail = Gives (AreTwo (IsBelow centres) (IsBelow PORTS)) (λ parts. events.Store parts.0 parts.1) tail
+CallAsksAs centres calling.Show tail = Gives (AreTwo (IsBelow centres) (IsBelow PORTS)) (λ parts. events.Show parts.0 parts.1) tail
 CallAsksAs centres calling.Keys tail =
-    Gives (AreThree (IsBelow centres) (IsBelow PORTS) IsKeysText) (λ parts. Do (events.Keys parts.0 parts.1 parts.2)) tail
-CallAsksAs centres calling.Hang tail = Gives (AreTwo (IsBelow centres) (IsBelow PORTS)) (λ parts. Do (events.Hang parts.0 parts.1)) tail
+    Gives (AreThree (IsBelow centres) (IsBelow PORTS) IsKeysText) (λ parts. events.Keys parts.0 parts.1 parts.2) tail
+CallAsksAs centres calling.Hang tail = Gives (AreTwo (IsBelow centres) (IsBelow PORTS)) (λ parts. events.Hang parts.0 parts.1) tail
 
--- the tail of a cut asks for the command
-abbrev pub CutAsksAs : ℕ → List ℕ → Command → Type 0
+-- the tail of a cut asks for the event
+abbrev pub CutAsksAs : ℕ → List ℕ → Event → Type 0
 CutAsksAs centres tail =
-    Gives (AreThree (IsBelow (MAX_CALLS + 1)) IsImageText (IsStoringText centres)) (λ parts. Do (events.Cut parts.0 parts.1 parts.2)) tail
+    Gives (AreThree (IsBelow (MAX_CALLS + 1)) IsImageText (IsStoringText centres)) (λ parts. events.Cut parts.0 parts.1 parts.2) tail
 
--- a word and the tail after it ask for the command, in a play of this many centres: a row for each form
+-- a word and the tail after it ask for the event, in a play of this many centres: a row for each form
+abbrev pub EventAsksAs : ℕ → Word → List ℕ → Event → Type 0
+EventAsksAs centres words.Limits tail = λ event. ⊥
+EventAsksAs centres words.Seed tail = Gives (AreTwo IsFrameText IsRowText) (λ parts. events.Seed parts.0 parts.1) tail
+EventAsksAs centres words.Edit tail = Gives (AreTwo (IsBelow EDITORS) IsPart) (λ parts. events.Edit parts.0 parts.1) tail
+EventAsksAs centres (words.Call word) tail = CallAsksAs centres word tail
+EventAsksAs centres words.Send tail = Gives (IsOne (IsBelow centres)) (λ centre. events.Send centre) tail
+EventAsksAs centres words.Post tail = Gives (IsOne (IsBelow centres)) (λ centre. events.Post centre) tail
+EventAsksAs centres words.Deliver tail = Gives (AreTwo (IsBelow centres) IsNumber) (λ parts. events.Deliver parts.0 parts.1) tail
+EventAsksAs centres words.Back tail = Gives (AreTwo (IsBelow centres) IsNumber) (λ parts. events.Back parts.0 parts.1) tail
+EventAsksAs centres words.Carry tail = Gives (IsOne (IsBelow centres)) (λ centre. events.Carry centre) tail
+EventAsksAs centres words.Crash tail = Gives (IsOne (IsNodeText centres)) (λ node. events.Crash node) tail
+EventAsksAs centres words.Cut tail = CutAsksAs centres tail
+EventAsksAs centres words.Clock tail = Gives (IsOne IsMomentText) (λ moment. events.Clock moment) tail
+EventAsksAs centres words.View tail = Gives (AreTwo (IsBelow centres) IsFrameText) (λ parts. events.View parts.0 parts.1) tail
+EventAsksAs centres words.At tail = Gives (IsOne (IsBelow centres)) (λ centre. events.At centre) tail
+EventAsksAs centres words.List tail = GivesAlone events.List tail
+EventAsksAs centres words.Bill tail = Gives (IsOne IsAccountText) (λ account. events.Bill account) tail
+EventAsksAs centres words.Lines tail = Gives (IsOne (IsBelow centres)) (λ centre. events.Lines centre) tail
+
+-- A word and the tail after it ask for the command. Limits are no event.
 abbrev pub AsksAs : ℕ → Word → List ℕ → Command → Type 0
-AsksAs centres words.Limits tail = Gives (IsOne IsLimitsText) (λ limits. Limits limits) tail
-AsksAs centres words.Seed tail = Gives (AreTwo IsFrameText IsRowText) (λ parts. Do (events.Seed parts.0 parts.1)) tail
-AsksAs centres words.Edit tail = Gives (AreTwo (IsBelow EDITORS) IsPart) (λ parts. Do (events.Edit parts.0 parts.1)) tail
-AsksAs centres (words.Call word) tail = CallAsksAs centres word tail
-AsksAs centres words.Send tail = Gives (IsOne (IsBelow centres)) (λ centre. Do (events.Send centre)) tail
-AsksAs centres words.Post tail = Gives (IsOne (IsBelow centres)) (λ centre. Do (events.Post centre)) tail
-AsksAs centres words.Deliver tail = Gives (AreTwo (IsBelow centres) IsNumber) (λ parts. Do (events.Deliver parts.0 parts.1)) tail
-AsksAs centres words.Back tail = Gives (AreTwo (IsBelow centres) IsNumber) (λ parts. Do (events.Back parts.0 parts.1)) tail
-AsksAs centres words.Carry tail = Gives (IsOne (IsBelow centres)) (λ centre. Do (events.Carry centre)) tail
-AsksAs centres words.Crash tail = Gives (IsOne (IsNodeText centres)) (λ node. Do (events.Crash node)) tail
-AsksAs centres words.Cut tail = CutAsksAs centres tail
-AsksAs centres words.Clock tail = Gives (IsOne IsMomentText) (λ moment. Do (events.Clock moment)) tail
-AsksAs centres words.View tail = Gives (AreTwo (IsBelow centres) IsFrameText) (λ parts. Do (events.View parts.0 parts.1)) tail
-AsksAs centres words.At tail = Gives (IsOne (IsBelow centres)) (λ centre. Do (events.At centre)) tail
-AsksAs centres words.List tail = GivesAlone (Do events.List) tail
-AsksAs centres words.Bill tail = Gives (IsOne IsAccountText) (λ account. Do (events.Bill account)) tail
-AsksAs centres words.Lines tail = Gives (IsOne (IsBelow centres)) (λ centre. Do (events.Lines centre)) tail
+AsksAs centres word tail (Do event) = EventAsksAs centres word tail event
+AsksAs centres words.Limits tail (Limits limits) = IsOne IsLimitsText tail limits
+AsksAs centres word tail command = ⊥
 
 -- a line asks for the command, by its first word and its tail
 abbrev pub Asks : ℕ → List ℕ → Command → Type 0
@@ -62,6 +69,15 @@ Asks centres line command = (first tail : List ℕ) × (word : Word) × IsSplit 
 -- an empty line and a comment ask for nothing
 abbrev pub AsksNothing : List ℕ → Type 0
 AsksNothing line = (line ≡ []) ⊎ ((comment : List ℕ) × (line ≡ COMMENT ∷ comment))
+
+-- whether a line has an answer: all but an empty line and a comment have one
+abbrev pub has_answer : List ℕ → Bool
+has_answer [] = false
+has_answer (byte ∷ line) = not (byte == COMMENT)
+
+-- how many of the lines have one
+abbrev pub answer_count : List (List ℕ) → ℕ
+answer_count lines = count_by has_answer lines
 
 -- limits stand on the first line of a script alone
 abbrev pub MayStand : Bool → Command → Type 0

@@ -1,12 +1,13 @@
 -- How a play may end, and what then was read and written.
-use Rattle.std.specs.Prelude.{◌≡◌, ℕ, ◌+◌, ◌≤◌, ◌==◌, Bool, IsTrue, List, [], ◌∷◌, ◌++◌, length, take, Option, Some, None, IsSomeAnd, codes}
+use Rattle.std.specs.Prelude.{◌≡◌, ℕ, ◌+◌, ◌≤◌, ◌==◌, Bool, IsTrue, List, [], ◌∷◌, ◌++◌, length, min, take, Option, Some, None, IsSomeAnd, codes}
 use Rattle.std.specs.Io.KnownBytes.{Appends, Consumes}
 use Rattle.std.proofs.Common.{lit<, lit≤}
+use Rattle.pv_outside.specs.declared.failed.TheConstants.{COUNT_END}
 use Rattle.pv_outside.specs.declared.limits.Limits.{Limits}
 use Rattle.pv_outside.specs.declared.status.Status.{Status}
 use Rattle.pv_outside.specs.declared.status.Status.TheVariants.{Done, Usage, BadLine, ReadFault, WriteFault, Memory, TooLong}
 use Rattle.pv_words.specs.Lines.{lines_of}
-use Rattle.pv_network.specs.declared.event.TheConstants.{MAX_CENTRES}
+use Rattle.pv_account.specs.declared.account.TheConstants.{MAX_CENTRES}
 use Rattle.pv_network.specs.Charging.{OwedLines}
 use Rattle.pv_network.specs.OneList.{OneList}
 use Rattle.pv_network.specs.Standing.{State, StandsFor}
@@ -14,7 +15,7 @@ use Rattle.pv_network.specs.World.{World, start}
 use Rattle.pv_network.specs.Step.{Choice}
 use Rattle.pv_script.specs.declared.grammar.Command.{Command}
 use Rattle.pv_script.specs.Asking.{AskFor, AskNot}
-use Rattle.pv_script.specs.Grammar.{ReadsLine, HasNoForm}
+use Rattle.pv_script.specs.Grammar.{ReadsLine, HasNoForm, answer_count}
 use Rattle.pv_script.specs.Fates.{fates_in, fates_of}
 use Rattle.pv_script.specs.Transcript.{AreRead, answers, world_after_all}
 
@@ -57,6 +58,10 @@ pub record IsTranscript (centres : ℕ) (first : World) (lines : List (List ℕ)
   pub runs : List (Command × Choice)
   pub read : AreRead first centres 1 lines runs
   pub written : Appends written_before written_now (answers first runs)
+
+-- each answer to the lines was one write: the count of the writes that succeeded rose by as many, up to its end
+abbrev pub WritesEach : List (List ℕ) → ℕ → ℕ → Type 0
+WritesEach lines before now = before ≤ COUNT_END → now ≡ min (before + answer_count lines) COUNT_END
 
 -- Every line of the text was run: what was written is the answers. Its lines `kept` and `lost` are the fates of the cuts' records, so
 -- that it says what was open in them. The network stands for the world after them, in which the law of the one list and the law of

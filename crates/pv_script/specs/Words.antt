@@ -33,6 +33,27 @@ storing_word_of_text text =
     if is_text text (codes "back") then Some storing.Back else
     None
 
+-- the word that asks for what is known that a text is, or a word of a caller
+abbrev pub asking_word_of_text : List ℕ → Option Word
+asking_word_of_text text =
+    if is_text text (codes "view") then Some words.View else
+    if is_text text (codes "at") then Some words.At else
+    if is_text text (codes "list") then Some words.List else
+    if is_text text (codes "bill") then Some words.Bill else
+    if is_text text (codes "lines") then Some words.Lines else
+    option_map words.Call (call_word_of_text text)
+
+-- the word of a packet, a crash or the clock that a text is, or one of those
+abbrev pub moving_word_of_text : List ℕ → Option Word
+moving_word_of_text text =
+    if is_text text (codes "deliver") then Some words.Deliver else
+    if is_text text (codes "back") then Some words.Back else
+    if is_text text (codes "carry") then Some words.Carry else
+    if is_text text (codes "crash") then Some words.Crash else
+    if is_text text (codes "cut") then Some words.Cut else
+    if is_text text (codes "clock") then Some words.Clock else
+    asking_word_of_text text
+
 -- the word that a text is
 abbrev pub word_of_text : List ℕ → Option Word
 word_of_text text =
@@ -41,15 +62,4 @@ word_of_text text =
     if is_text text (codes "edit") then Some words.Edit else
     if is_text text (codes "send") then Some words.Send else
     if is_text text (codes "post") then Some words.Post else
-    if is_text text (codes "deliver") then Some words.Deliver else
-    if is_text text (codes "back") then Some words.Back else
-    if is_text text (codes "carry") then Some words.Carry else
-    if is_text text (codes "crash") then Some words.Crash else
-    if is_text text (codes "cut") then Some words.Cut else
-    if is_text text (codes "clock") then Some words.Clock else
-    if is_text text (codes "view") then Some words.View else
-    if is_text text (codes "at") then Some words.At else
-    if is_text text (codes "list") then Some words.List else
-    if is_text text (codes "bill") then Some words.Bill else
-    if is_text text (codes "lines") then Some words.Lines else
-    option_map words.Call (call_word_of_text text)
+    moving_word_of_text text

@@ -1,16 +1,36 @@
-ghost use Rattle.std.specs.Prelude.{◌≡◌, ◌++◌, OnOk, codes, decimal};
+ghost use Rattle.std.specs.Prelude.{◌≡◌, ℕ, ◌≤◌, ◌++◌, take, IfErr, OnOk, codes, decimal};
+ghost use Rattle.std.specs.Io.KnownBytes.{Appends};
+ghost use Rattle.pv_outside.specs.Counts.{Rose, one_more};
 ghost use Rattle.pv_page.specs.Names.{name_text};
 ghost use Rattle.pv_script.specs.Evening.{summary_text};
 ghost use Rattle.pv_script.specs.Transcript.{answer_text, charge_text, charges_text, turn_text, turns_text, limits_text, ack_text, end_text, newline};
 
+use crate::ends::AnswerEnd;
 use crate::tally::Tally;
 use itoa::Buffer;
 use pv_cells::push_notation;
 use pv_network::{BillLine, Outcome, Turn, Why};
-use pv_outside::Limits;
+use pv_outside::{Limits, Sink};
 use pv_page::FrameName;
 use pv_screen::{BUFFER, Screen};
 use std::alloc::AllocError;
+
+/// Writes an answer, the whole of it by one write. The only error is that the write failed.
+pub fn write_answer<K: Sink>(answer: &[u8], out: &mut K) -> Result<(), AnswerEnd>
+    ensures ok { OnOk result (Appends (K.written out.old) (K.written out.new) answer.now) }
+    ensures writes { OnOk result (K.writes out.new ≡ one_more (K.writes out.old)) }
+
+    // After a fault a prefix of it was written. The count of faults never falls.
+    ensures err { IfErr result (λ end. (end ≡ AnswerEnd.Fault)
+        × Rose (K.write_faults out.old) (K.write_faults out.new)
+        × ((count : ℕ) × Appends (K.written out.old) (K.written out.new) (take count answer.now))) }
+    ensures counted { K.write_faults out.old ≤ K.write_faults out.new }
+{
+    match out.write_all(answer) {
+        Ok(()) => Ok(()),
+        Err(_) => Err(AnswerEnd::Fault),
+    }
+}
 
 /// Appends the line or lines of an outcome. A screen is painted into the buffer first.
 pub fn push_answer(

@@ -1,5 +1,6 @@
 ghost use Rattle.std.specs.Prelude.{◌≡◌, ℕ, ◌≤◌, ◌↔◌, ◌⊎◌, List, length, map, None, Some, IfOk, IfErr, IsSome, string_bytes};
 ghost use Rattle.pv_outside.specs.Counts.{Rose};
+ghost use Rattle.pv_outside.specs.declared.failed.TheConstants.{COUNT_END};
 ghost use Rattle.pv_gen.specs.Script.{script_of};
 ghost use Rattle.pv_gen.specs.declared.writing.TheConstants.{LAST_NUMBER};
 ghost use Rattle.pv_network.specs.Standing.{StandsFor};
@@ -65,6 +66,8 @@ fn play_evening<K: Sink>(alloc: Global, number: u32, out: &mut K) -> Result<Netw
         (K.written out.old) (K.written out.new) Status.Done) }
     ensures err { IfErr result (λ end. IsEveningOf number None
         (K.written out.old) (K.written out.new) (run_status end)) }
+
+    // A write fault is a fault of the sink, whose count never falls.
     ensures write_fault { IfErr result (λ end. run_status end ≡ Status.WriteFault
         → Rose (K.write_faults out.old) (K.write_faults out.new)) }
     ensures counted { K.write_faults out.old ≤ K.write_faults out.new }
@@ -130,6 +133,8 @@ impl Sink for Nowhere {
     ghost write_faults = { λ _. 0 };
 
     ghost written = { λ _. None };
+
+    ghost writes = { λ _. COUNT_END };
 
     fn write_all(&mut self, _bytes: &[u8]) -> Result<(), Failed> {
         Ok(())

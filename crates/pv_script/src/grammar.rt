@@ -1,6 +1,6 @@
 ghost use Rattle.std.specs.Prelude.{◌≡◌, ◌↔◌, Some, IfSome, IsTrue};
 ghost use Rattle.pv_words.specs.Parts.{Exactly};
-ghost use Rattle.pv_script.specs.Grammar.{Asks, AsksAs, CallAsksAs, CutAsksAs, MayStand, ReadsLine};
+ghost use Rattle.pv_script.specs.Grammar.{Asks, AsksAs, EventAsksAs, CallAsksAs, CutAsksAs, MayStand, ReadsLine};
 
 use crate::readers::{
     FrameText, ImageText, KeyText, KeysText, LimitsText, MomentText, NodeText, RowText,
@@ -10,7 +10,7 @@ use crate::word::{CallWord, Word, word_of};
 use pv_editor::AccountText;
 use pv_network::{EDITORS, Event, PORTS};
 use pv_outside::Limits;
-use pv_words::{AllOf, Below, Number, none_as, one_as, split_word, three, three_as, two_as};
+use pv_words::{AllOf, Below, Number, none_as, one, one_as, split_word, three, three_as, two_as};
 
 /// The byte that begins a comment.
 pub const COMMENT: u8 = b';';
@@ -72,63 +72,71 @@ fn command_of(line: &[u8], centres: u8) -> Option<Command<'_>>
 fn asked_command(word: Word, tail: &[u8], centres: u8) -> Option<Command<'_>>
     ensures { Exactly (AsksAs centres word tail.now) result }
 {
+    match word {
+        Word::Limits => match one(&LimitsText, tail) {
+            Some(limits) => Some(Command::Limits(limits)),
+            None => None,
+        },
+        _ => match asked_event(word, tail, centres) {
+            Some(event) => Some(Command::Do(event)),
+            None => None,
+        },
+    }
+}
+
+/// What a word and the tail after it let happen. `None` exactly when they ask for no event.
+fn asked_event(word: Word, tail: &[u8], centres: u8) -> Option<Event<'_>>
+    ensures { Exactly (EventAsksAs centres word tail.now) result }
+{
     let (centre, node) = (Below(centres), NodeText(centres));
     match word {
-        Word::Limits => one_as(&LimitsText, tail, |limits| Command::Limits(limits)),
+        Word::Limits => None,
         Word::Seed => two_as(
             &FrameText,
             &RowText,
             tail,
-            |(name, row)| Command::Do(Event::Seed { name, row }),
+            |(name, row)| Event::Seed { name, row },
         ),
         Word::Edit => two_as(
             &Below(EDITORS),
             &AllOf,
             tail,
-            |(port, line)| Command::Do(Event::Edit { port, line }),
+            |(port, line)| Event::Edit { port, line },
         ),
         Word::Call(word) => asked_call(word, tail, centres),
-        Word::Send => one_as(&centre, tail, |centre| Command::Do(Event::Send { centre })),
-        Word::Post => one_as(&centre, tail, |centre| Command::Do(Event::Post { centre })),
+        Word::Send => one_as(&centre, tail, |centre| Event::Send { centre }),
+        Word::Post => one_as(&centre, tail, |centre| Event::Post { centre }),
         Word::Deliver => two_as(
             &centre,
             &Number,
             tail,
-            |(centre, index)| Command::Do(Event::Deliver { centre, index }),
+            |(centre, index)| Event::Deliver { centre, index },
         ),
         Word::Back => two_as(
             &centre,
             &Number,
             tail,
-            |(centre, index)| Command::Do(Event::Back { centre, index }),
+            |(centre, index)| Event::Back { centre, index },
         ),
-        Word::Carry => one_as(&centre, tail, |centre| Command::Do(Event::Carry { centre })),
-        Word::Crash => one_as(&node, tail, |node| Command::Do(Event::Crash { node })),
+        Word::Carry => one_as(&centre, tail, |centre| Event::Carry { centre }),
+        Word::Crash => one_as(&node, tail, |node| Event::Crash { node }),
         Word::Cut => asked_cut(tail, centres),
-        Word::Clock => one_as(
-            &MomentText,
-            tail,
-            |moment| Command::Do(Event::Clock { moment }),
-        ),
+        Word::Clock => one_as(&MomentText, tail, |moment| Event::Clock { moment }),
         Word::View => two_as(
             &centre,
             &FrameText,
             tail,
-            |(centre, name)| Command::Do(Event::View { centre, name }),
+            |(centre, name)| Event::View { centre, name },
         ),
-        Word::At => one_as(&centre, tail, |centre| Command::Do(Event::At { centre })),
-        Word::List => none_as(tail, Command::Do(Event::List)),
-        Word::Bill => one_as(
-            &AccountText,
-            tail,
-            |account| Command::Do(Event::Bill { account }),
-        ),
-        Word::Lines => one_as(&centre, tail, |centre| Command::Do(Event::Lines { centre })),
+        Word::At => one_as(&centre, tail, |centre| Event::At { centre }),
+        Word::List => none_as(tail, Event::List),
+        Word::Bill => one_as(&AccountText, tail, |account| Event::Bill { account }),
+        Word::Lines => one_as(&centre, tail, |centre| Event::Lines { centre }),
     }
 }
 
 /// What a word of a caller's line and the tail after it ask for. `None` exactly when they ask for nothing.
-fn asked_call(word: CallWord, tail: &[u8], centres: u8) -> Option<Command<'_>>
+fn asked_call(word: CallWord, tail: &[u8], centres: u8) -> Option<Event<'_>>
     ensures { Exactly (CallAsksAs centres word tail.now) result }
 {
     let (centre, port) = (Below(centres), Below(PORTS));
@@ -137,45 +145,45 @@ fn asked_call(word: CallWord, tail: &[u8], centres: u8) -> Option<Command<'_>>
             &centre,
             &port,
             tail,
-            |(centre, port)| Command::Do(Event::Dial { centre, port }),
+            |(centre, port)| Event::Dial { centre, port },
         ),
         CallWord::Press => three_as(
             &centre,
             &port,
             &KeyText,
             tail,
-            |(centre, port, key)| Command::Do(Event::Press { centre, port, key }),
+            |(centre, port, key)| Event::Press { centre, port, key },
         ),
         CallWord::Store => two_as(
             &centre,
             &port,
             tail,
-            |(centre, port)| Command::Do(Event::Store { centre, port }),
+            |(centre, port)| Event::Store { centre, port },
         ),
         CallWord::Show => two_as(
             &centre,
             &port,
             tail,
-            |(centre, port)| Command::Do(Event::Show { centre, port }),
+            |(centre, port)| Event::Show { centre, port },
         ),
         CallWord::Keys => three_as(
             &centre,
             &port,
             &KeysText,
             tail,
-            |(centre, port, keys)| Command::Do(Event::Keys { centre, port, keys }),
+            |(centre, port, keys)| Event::Keys { centre, port, keys },
         ),
         CallWord::Hang => two_as(
             &centre,
             &port,
             tail,
-            |(centre, port)| Command::Do(Event::Hang { centre, port }),
+            |(centre, port)| Event::Hang { centre, port },
         ),
     }
 }
 
 /// What the tail of a cut asks for. `None` exactly when it asks for nothing.
-fn asked_cut(tail: &[u8], centres: u8) -> Option<Command<'_>>
+fn asked_cut(tail: &[u8], centres: u8) -> Option<Event<'_>>
     ensures { Exactly (CutAsksAs centres tail.now) result }
 {
     match three(
@@ -184,11 +192,11 @@ fn asked_cut(tail: &[u8], centres: u8) -> Option<Command<'_>>
         &StoringText(centres),
         tail,
     ) {
-        Some((calls, image, command)) => Some(Command::Do(Event::Cut {
+        Some((calls, image, command)) => Some(Event::Cut {
             calls,
             image,
             command,
-        })),
+        }),
         None => None,
     }
 }

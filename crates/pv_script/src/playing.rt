@@ -1,20 +1,22 @@
 ghost use Rattle.std.specs.Prelude.{◌≡◌, ◌⊎◌, ℕ, ◌+◌, ◌^◌, ◌<◌, ◌≤◌, ◌==◌, ◌↔◌, List, [], ◌∷◌, map, length, Some, None, IfOk, IfErr, IfSome, OnOk, IsSome, string_bytes};
-ghost use Rattle.pv_outside.specs.Counts.{Rose};
-ghost use Rattle.pv_network.specs.declared.event.TheConstants.{MAX_CENTRES};
+ghost use Rattle.pv_outside.specs.Counts.{Rose, one_more};
+ghost use Rattle.pv_words.specs.Lines.{lines_of};
+ghost use Rattle.pv_account.specs.declared.account.TheConstants.{MAX_CENTRES};
 ghost use Rattle.pv_network.specs.Standing.{StandsFor, IsPossible};
 ghost use Rattle.pv_script.specs.declared.grammar.Command.TheVariants.{Do};
 ghost use Rattle.pv_script.specs.declared.grammar.Command.TheVariants as commands;
 ghost use Rattle.pv_script.specs.Ends.{GivesAnswer, HasRun, IsAnswerEnd, IsTallied, IsLineEnd, IsRunEnd};
-ghost use Rattle.pv_script.specs.Play.{AskToPlay, AskNoPlay, HasRead, IsPlayOf, IsScript, IsNotRun, first_world};
+ghost use Rattle.pv_script.specs.Play.{AskToPlay, AskNoPlay, HasRead, IsPlayOf, IsScript, IsNotRun, WritesEach, first_world};
 ghost use Rattle.pv_script.specs.Tally.{tally_of, IsTallyWithin};
 
-use crate::answer::{push_answer, push_limits};
+use crate::answer::{push_answer, push_limits, write_answer};
 use crate::asking::number_asked;
 use crate::ends::{AnswerEnd, RunEnd};
 use crate::grammar::{Command, parse};
 use crate::script::{LONGEST_SCRIPT, read_script};
 use crate::tally::Tally;
-use pv_network::{Event, MAX_CENTRES, Network};
+use pv_account::MAX_CENTRES;
+use pv_network::{Event, Network};
 use pv_outside::{Limits, Sink, Source, Status};
 use pv_screen::BUFFER;
 use pv_words::first_line;
@@ -43,10 +45,12 @@ pub fn play<S: Source, K: Sink>(
     script: &mut S,
     out: &mut K,
 ) -> Played
-    // If the words ask for a play, what was read is a text, and what was made of it is the play of that text.
+    // If the words ask for a play, what was read is a text, and what was made of it is the play of that text. If all was
+    // done, each answer was one write.
     ensures plays { (centres : ℕ) → AskToPlay (map string_bytes words.now) centres → (text : List ℕ)
         × HasRead (S.taken script.old) (S.taken script.new) (S.left script.old) (S.left script.new) text
-        × IsPlayOf centres (first_world centres) text result.network (S.left script.old) (S.ended script.new) (K.written out.old) (K.written out.new) result.status }
+        × IsPlayOf centres (first_world centres) text result.network (S.left script.old) (S.ended script.new) (K.written out.old) (K.written out.new) result.status
+        × (result.status ≡ Status.Done → WritesEach (lines_of text) (K.writes out.old) (K.writes out.new)) }
 
     // The words are refused exactly when they ask for no play, and then nothing is read.
     ensures usage { (result.status ≡ Status.Usage) ↔ AskNoPlay (map string_bytes words.now) }
@@ -126,6 +130,7 @@ pub(crate) fn run<K: Sink>(
     // The whole text was played; or the play ended before, for the reason that is returned.
     ensures ok { IfOk result (λ played. IsTallied centres (first_world centres) text.now played.0
         (K.written out.old) (K.written out.new) played.1) }
+    ensures writes { OnOk result (WritesEach (lines_of text.now) (K.writes out.old) (K.writes out.new)) }
     ensures err { IfErr result (IsRunEnd centres (first_world centres) text.now
         (K.written out.old) (K.written out.new) (K.write_faults out.old) (K.write_faults out.new)) }
     ensures counted { K.write_faults out.old ≤ K.write_faults out.new }
@@ -169,6 +174,7 @@ fn run_lines<K: Sink>(
     // Every line was played; or the play ended at one, for the reason that is returned.
     ensures ok { IfOk result (λ tally. IsTallied centres (first_world centres) text.now network.new
         (K.written out.old) (K.written out.new) tally) }
+    ensures writes { OnOk result (WritesEach (lines_of text.now) (K.writes out.old) (K.writes out.new)) }
     ensures err { IfErr result (IsRunEnd centres (first_world centres) text.now
         (K.written out.old) (K.written out.new) (K.write_faults out.old) (K.write_faults out.new)) }
     ensures counted { K.write_faults out.old ≤ K.write_faults out.new }
@@ -207,9 +213,12 @@ fn run_line<K: Sink>(
     // The line was played; or the play ends at it, for the reason that is returned.
     ensures ok { OnOk result (HasRun centres (number == 1) line.now network.old network.new
         (K.written out.old) (K.written out.new) answers.old.tally answers.new.tally) }
+    ensures writes { OnOk result (WritesEach (line.now ∷ []) (K.writes out.old) (K.writes out.new)) }
     ensures err { IfErr result (IsLineEnd centres line.now number network.old
         (K.written out.old) (K.written out.new) (K.write_faults out.old) (K.write_faults out.new)) }
     ensures counted { K.write_faults out.old ≤ K.write_faults out.new }
+
+    // There are as many centres as before, and the tally counts the line.
     ensures centres { length network.new.centres ≡ length network.old.centres }
     ensures within { (count : ℕ) → IsTallyWithin answers.old.tally count
         → IsTallyWithin answers.new.tally (count + 1) }
@@ -246,9 +255,12 @@ fn begin_again<K: Sink>(
     // The answer is written; or memory ran out, or the write failed.
     ensures ok { OnOk result (GivesAnswer (commands.Limits limits) network.old network.new (K.written out.old)
         (K.written out.new) answers.old.tally answers.new.tally) }
+    ensures writes { OnOk result (K.writes out.new ≡ one_more (K.writes out.old)) }
     ensures err { IfErr result (IsAnswerEnd (commands.Limits limits) network.old
         (K.written out.old) (K.written out.new) (K.write_faults out.old) (K.write_faults out.new)) }
     ensures counted { K.write_faults out.old ≤ K.write_faults out.new }
+
+    // There are as many centres as before, and nothing is counted.
     ensures centres { length network.new.centres ≡ length network.old.centres }
     ensures tally { answers.new.tally ≡ answers.old.tally }
 {
@@ -260,10 +272,7 @@ fn begin_again<K: Sink>(
     if push_limits(&mut answers.text, limits).is_err() {
         return Err(AnswerEnd::Memory);
     }
-    if out.write_all(&answers.text).is_err() {
-        return Err(AnswerEnd::Fault);
-    }
-    Ok(())
+    write_answer(&answers.text, out)
 }
 
 /// Lets an event happen, counts what came of it, and writes the answer by one write.
@@ -277,6 +286,7 @@ fn run_event<K: Sink>(
     requires room { IsTallyWithin answers.old.tally (2 ^ 32) }
     ensures ok { OnOk result (GivesAnswer (Do event.now) network.old network.new (K.written out.old)
         (K.written out.new) answers.old.tally answers.new.tally) }
+    ensures writes { OnOk result (K.writes out.new ≡ one_more (K.writes out.old)) }
     ensures err { IfErr result (IsAnswerEnd (Do event.now) network.old
         (K.written out.old) (K.written out.new) (K.write_faults out.old) (K.write_faults out.new)) }
 
@@ -295,8 +305,5 @@ fn run_event<K: Sink>(
     if push_answer(&mut answers.text, &mut answers.buffer, outcome).is_err() {
         return Err(AnswerEnd::Memory);
     }
-    if out.write_all(&answers.text).is_err() {
-        return Err(AnswerEnd::Fault);
-    }
-    Ok(())
+    write_answer(&answers.text, out)
 }

@@ -1,5 +1,5 @@
 ghost use Rattle.std.specs.Prelude.{◌≡◌};
-ghost use Rattle.pv_script.specs.Words.{word_of_text, call_word_of_text, storing_word_of_text};
+ghost use Rattle.pv_script.specs.Words.{word_of_text, moving_word_of_text, asking_word_of_text, call_word_of_text, storing_word_of_text};
 
 /// The first word of a line.
 #[derive(Clone, Copy, Debug, PartialEq, Eq)]
@@ -86,7 +86,16 @@ pub fn word_of(text: &[u8]) -> Option<Word>
         Some(Word::Send)
     } else if text == b"post".as_slice() {
         Some(Word::Post)
-    } else if text == b"deliver".as_slice() {
+    } else {
+        moving_word_of(text)
+    }
+}
+
+/// The word of a packet, a crash or the clock that a text is, or one of those after them.
+fn moving_word_of(text: &[u8]) -> Option<Word>
+    ensures { result ≡ moving_word_of_text text.now }
+{
+    if text == b"deliver".as_slice() {
         Some(Word::Deliver)
     } else if text == b"back".as_slice() {
         Some(Word::Back)
@@ -98,7 +107,16 @@ pub fn word_of(text: &[u8]) -> Option<Word>
         Some(Word::Cut)
     } else if text == b"clock".as_slice() {
         Some(Word::Clock)
-    } else if text == b"view".as_slice() {
+    } else {
+        asking_word_of(text)
+    }
+}
+
+/// The word that asks for what is known that a text is, or a word of a caller's line.
+fn asking_word_of(text: &[u8]) -> Option<Word>
+    ensures { result ≡ asking_word_of_text text.now }
+{
+    if text == b"view".as_slice() {
         Some(Word::View)
     } else if text == b"at".as_slice() {
         Some(Word::At)

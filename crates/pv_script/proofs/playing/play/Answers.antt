@@ -1,8 +1,9 @@
 use Rattle.std.proofs.Common.{◌≡◌, ◌⊎◌, ℕ, List, subst, sym, ◌∙◌}
 use Rattle.pv_outside.specs.declared.status.Status.{Status}
 use Rattle.pv_outside.specs.declared.status.Status.TheVariants.{Done, Memory}
+use Rattle.pv_words.specs.Lines.{lines_of}
 use Rattle.pv_script.specs.Ends.{IsRunEnd}
-use Rattle.pv_script.specs.Play.{IsPlayed, IsScript, first_world}
+use Rattle.pv_script.specs.Play.{IsPlayed, IsScript, WritesEach, first_world}
 use Rattle.pv_script.proofs.Ending.{run_completes}
 use Rattle.pv_script.proofs.playing.play.Goals as goal
 
@@ -15,7 +16,9 @@ returns-in-Ok-run-clause-plays g c = λ centres asks.
     let asked : c.in-Some.centres ≡ centres = let is = c.in-Some.ensures.only centres asks in cc in
     let played = subst (λ (t : List ℕ). IsPlayed c.in-Some.centres (first_world c.in-Some.centres) t c.in-Ok-run.network before now)
     (c.deref.ensures.value ∙ read.2.0) c.in-Ok-run.ensures.ok.played in
-    (read.0, read.1, (read.2.1, subst (λ (n : ℕ). IsPlayed n (first_world n) read.0 c.in-Ok-run.network before now) asked played))
+    let each = subst (λ (t : List ℕ). WritesEach (lines_of t) (g.K.Sink.writes c.args.out.now) (g.K.Sink.writes c.run.new.out))
+    (c.deref.ensures.value ∙ read.2.0) c.in-Ok-run.ensures.writes in
+    (read.0, read.1, (read.2.1, subst (λ (n : ℕ). IsPlayed n (first_world n) read.0 c.in-Ok-run.network before now) asked played), λ done. each)
 
 -- all lines of a valid script are run, unless a write failed or memory ran out
 pub returns-clause-succeeds : goal.returns-clause-succeeds

@@ -3,6 +3,7 @@ use Rattle.pv_network.specs.declared.event.Event.{Event}
 use Rattle.pv_script.specs.declared.grammar.Command.TheVariants.{Nothing, Do}
 use Rattle.pv_script.proofs.CallerLemmas.{Appends-none}
 use Rattle.pv_script.proofs.Counting.{adds_none, within_more}
+use Rattle.pv_script.proofs.EachWrite.{none_written, one_written}
 use Rattle.pv_script.specs.Grammar.{Asks, AsksAs, ReadsLine}
 use Rattle.pv_script.proofs.Happening.{can_happen}
 use Rattle.pv_script.proofs.Fates.{no_fates}
@@ -41,3 +42,20 @@ returns-in-Some-Nothing-clause-ok g c = (
 -- nothing is counted
 pub returns-in-Some-Nothing-clause-within : goal.returns-in-Some-Nothing-clause-within
 returns-in-Some-Nothing-clause-within g c = λ count is. within_more c.args.answers.now.tally count (count + 1) (omega arith) is
+
+-- nothing is written
+pub returns-in-Some-Nothing-clause-writes : goal.returns-in-Some-Nothing-clause-writes
+returns-in-Some-Nothing-clause-writes g c =
+    none_written c.args.centres (c.args.number == 1) c.args.line.now _ (rw c.in-Some-Nothing.field-0-is at c.in-Some-Nothing.ensures.found)
+
+-- the answer to limits is one write
+pub returns-in-Ok-clause-writes : goal.returns-in-Ok-clause-writes
+returns-in-Ok-clause-writes g c =
+    one_written c.args.centres (c.args.number == 1) c.args.line.now _ _ _
+    (rw c.in-Some-Limits.field-0-is at c.in-Some-Limits.ensures.found) (λ none. absurd cc) c.in-Ok.ensures.writes
+
+-- and so is the answer to an event
+pub returns-in-Ok-run_event-clause-writes : goal.returns-in-Ok-run_event-clause-writes
+returns-in-Ok-run_event-clause-writes g c =
+    one_written c.args.centres (c.args.number == 1) c.args.line.now _ _ _
+    (rw c.in-Some-Do.field-0-is at c.in-Some-Do.ensures.found) (λ none. absurd cc) c.in-Ok-run_event.ensures.writes
