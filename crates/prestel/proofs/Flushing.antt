@@ -12,7 +12,7 @@ use Rattle.pv_network.specs.Standing.{State}
 use Rattle.pv_network.specs.World.{World}
 use Rattle.pv_files.specs.declared.standard.StandardOutput.{StandardOutput}
 use Rattle.pv_files.specs.Output.{written_bytes, buffered_bytes}
-use Rattle.pv_script.specs.Play.{IsTranscript, StopsAtBadLine, StopsInAnswers, StopsAfterLine, IsPlayOf}
+use Rattle.pv_script.specs.Play.{IsTranscript, IsPlayed, StopsAtBadLine, StopsInAnswers, StopsAfterLine, IsPlayOf}
 use Rattle.pv_script.specs.Evening.{IsEveningOf}
 use Rattle.prestel.specs.Program.{WritesSummary, IsRunOf}
 use Rattle.pv_script.specs.Transcript.{answers}
@@ -40,6 +40,17 @@ module _ (centres : ℕ) (first : World) (a b c : Option (List ℕ)) (kept : Kee
   -- a transcript that was written stays so
   transcript_kept : (lines : List (List ℕ)) → IsTranscript centres first lines a b → IsTranscript centres first lines a c
   transcript_kept lines t = record { runs = t.runs; read = t.read; written = Appends-kept a b c _ t.written kept }
+
+  -- what was written of a text that was played whole stays so
+  played_kept : (text : List ℕ) (network : State) → IsPlayed centres first text network a b → IsPlayed centres first text network a c
+  unfolding transcript_kept
+  played_kept text network p = record {
+    transcript = transcript_kept (lines_of text) p.transcript;
+    fates = p.fates;
+    stands = p.stands;
+    one_list = p.one_list;
+    owed = p.owed;
+  }
 
   -- the answers before a bad line stay written
   bad_line_kept : (text : List ℕ) (number : ℕ) → StopsAtBadLine centres first text number a b
@@ -98,7 +109,7 @@ module _ {W : Type 0} (contents : W → Option (List ℕ)) (centres : ℕ) (firs
       → IsRunOf contents centres first text left ended before now status
   flushed Done p none =
       let n = some_network network _ p.1 in
-      (p.0, transcript_kept centres first _ _ _ (all_flushed _ _ (buffered_bytes now) kept none) (lines_of text) n.1.transcript, none)
+      (p.0, (n.0, played_kept centres first _ _ _ (all_flushed _ _ (buffered_bytes now) kept none) text n.0 n.1), none)
   flushed Usage p none = p
   flushed (BadLine number) p none = (p.0, bad_line_kept centres first _ _ _ (all_flushed _ _ (buffered_bytes now) kept none) text number p.1, none)
   flushed ReadFault p none = p

@@ -13,7 +13,7 @@ use Rattle.prestel.specs.declared.words_error.WordsError.{WordsError}
 use Rattle.prestel.specs.declared.words_error.WordsError.TheVariants.{NoCommand, UnknownCommand, NoNumber, NotNumber, AfterNumber, AfterAbout, NotText}
 use Rattle.prestel.specs.About.{about_words}
 use Rattle.prestel.specs.Task.{task_word, last_number}
-use Rattle.prestel.specs.Wrong.{AreTaken, IsFirstWrong}
+use Rattle.prestel.specs.Wrong.{AskForOne, IsFirstWrong}
 
 module _ {X : Type 0} (text : X → List ℕ) where
   -- words with a first one are its text, and more
@@ -71,7 +71,7 @@ second_same : (a b : List (List ℕ)) → a ≡ b → get_or a 1 [] ≡ get_or b
 second_same a b is = ap (λ (l : List (List ℕ)). get_or l 1 []) is
 
 -- words with an error are not taken
-wrong_is_not_taken : (words : List (List ℕ)) (error : WordsError) → IsFirstWrong words error → AreTaken words → ⊥
+wrong_is_not_taken : (words : List (List ℕ)) (error : WordsError) → IsFirstWrong words error → AskForOne words → ⊥
 wrong_is_not_taken words NoCommand is (inl (task, number, asks)) = let both = sym is ∙ asks.asked in absurd cc
 wrong_is_not_taken words NoCommand is (inr ((Help None), asks)) = let both = sym is ∙ asks in absurd cc
 wrong_is_not_taken words NoCommand is (inr ((Version None), asks)) = let both = sym is ∙ asks in absurd cc
@@ -127,6 +127,6 @@ wrong_is_not_taken words (AfterAbout (Version (Some task)) word) (later, is) (in
 wrong_is_not_taken words NotText is taken = absurd is
 
 -- so words that are taken have none
-pub none_if_taken : (words : List (List ℕ)) (error : Option WordsError) → IfSome error (IsFirstWrong words) → AreTaken words → IsNone error
+pub none_if_taken : (words : List (List ℕ)) (error : Option WordsError) → IfSome error (IsFirstWrong words) → AskForOne words → IsNone error
 none_if_taken words None found taken = refl
 none_if_taken words (Some error) found taken = absurd (wrong_is_not_taken words error found taken)

@@ -4,14 +4,14 @@ use Rattle.std.specs.Io.KnownBytes.{Appends}
 use Rattle.pv_outside.specs.Counts.{Rose}
 use Rattle.pv_outside.specs.declared.status.Status.{Status}
 use Rattle.pv_outside.specs.declared.status.Status.TheVariants.{Done, Usage, BadLine, ReadFault, WriteFault, Memory, TooLong}
-use Rattle.pv_words.specs.Lines.{lines_of}
+use Rattle.pv_network.specs.Standing.{State}
 use Rattle.pv_network.specs.World.{World}
 use Rattle.pv_files.specs.declared.standard.StandardOutput.{StandardOutput}
 use Rattle.pv_files.specs.Output.{written_bytes, flushed_bytes, buffered_bytes}
 use Rattle.pv_network.specs.Step.{Choice}
 use Rattle.pv_script.specs.declared.grammar.Command.{Command}
 use Rattle.pv_script.specs.Evening.{IsEvening, summary_of}
-use Rattle.pv_script.specs.Play.{longest_script, IsReadWhole, IsTranscript, StopsAtBadLine, StopsInAnswers, StopsAfterLine}
+use Rattle.pv_script.specs.Play.{longest_script, IsReadWhole, IsPlayed, StopsAtBadLine, StopsInAnswers, StopsAfterLine}
 
 -- How it may end that a text of the program is written: the writer itself has the whole of it, and nothing is in the buffer, or
 -- the output failed after a prefix of it.
@@ -28,12 +28,14 @@ WritesSummary contents number before now status =
     (runs : List (Command × Choice)) × IsEvening number runs × WritesText contents (summary_of runs) before now status
 
 -- What a run made of the text that it read, by the status that it ended with. Done says that the writer itself has the whole
--- transcript, and a bad line that it has all answers of the lines before; nothing is in the buffer then. A fault of the output
--- leaves a prefix of the answers, perhaps in part in the buffer. If memory ran out, the first lines were run, and their answers
--- have gone to the writer unless it failed.
+-- transcript. Its lines `kept` and `lost` are the fates of the cuts' records. In the world after all lines the law of the one
+-- list and the law of charging hold. A bad line says that it has all answers of the lines before. Nothing is in the buffer then,
+-- as at Done. A fault of the output leaves a prefix of the answers, perhaps in part in the buffer. If memory ran out, the first
+-- lines were run, and their answers have gone to the writer unless it failed.
 abbrev pub IsRunOf : {W : Type 0} → (W → Option (List ℕ)) → ℕ → World → List ℕ → Option (List ℕ) → Bool → StandardOutput W → StandardOutput W → Status → Type 0
 IsRunOf contents centres first text left ended before now Done = IsReadWhole text left ended
-    × IsTranscript centres first (lines_of text) (written_bytes contents before) (flushed_bytes contents now) × (buffered_bytes now ≡ [])
+    × ((network : State) × IsPlayed centres first text network (written_bytes contents before) (flushed_bytes contents now))
+    × (buffered_bytes now ≡ [])
 IsRunOf contents centres first text left ended before now Usage = ⊥
 IsRunOf contents centres first text left ended before now (BadLine number) = IsReadWhole text left ended
     × StopsAtBadLine centres first text number (written_bytes contents before) (flushed_bytes contents now) × (buffered_bytes now ≡ [])

@@ -1,7 +1,7 @@
 -- What the program does with a number.
 use Rattle.std.specs.Prelude.{ℕ, List, codes}
 use Rattle.pv_gen.specs.declared.writing.TheConstants.{LAST_NUMBER}
-use Rattle.pv_network.specs.declared.event.TheConstants.{MAX_CENTRES}
+use Rattle.pv_account.specs.declared.account.TheConstants.{MAX_CENTRES}
 use Rattle.prestel.specs.declared.task.Task.{Task}
 use Rattle.prestel.specs.declared.task.Task.TheVariants.{Play, Generate, Evening}
 

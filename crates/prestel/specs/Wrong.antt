@@ -19,8 +19,8 @@ abbrev pub AskForAbout : List (List ℕ) → Type 0
 AskForAbout words = (about : About) × (words ≡ about_words about)
 
 -- they ask for one of these
-abbrev pub AreTaken : List (List ℕ) → Type 0
-AreTaken words = AskForTask words ⊎ AskForAbout words
+abbrev pub AskForOne : List (List ℕ) → Type 0
+AskForOne words = AskForTask words ⊎ AskForAbout words
 
 -- ---- words that are not
 
@@ -33,18 +33,18 @@ abbrev pub IsNoAbout : List (List ℕ) → List ℕ → Type 0
 IsNoAbout before word = (about : About) → before ++ word ∷ [] ≢ about_words about
 
 -- this word follows these
-abbrev pub Follows : List (List ℕ) → List (List ℕ) → List ℕ → Type 0
-Follows words before word = (later : List (List ℕ)) × (words ≡ before ++ word ∷ later)
+abbrev pub WordFollows : List (List ℕ) → List (List ℕ) → List ℕ → Type 0
+WordFollows words before word = (later : List (List ℕ)) × (words ≡ before ++ word ∷ later)
 
 -- What is wrong with words, from the first: there is none; it is no task's, and asks for neither help nor the version; a task
 -- has no number; the word after it is none of its numbers, and asks for neither; or words are taken, and one more follows.
 abbrev pub IsFirstWrong : List (List ℕ) → WordsError → Type 0
 IsFirstWrong words NoCommand = words ≡ []
-IsFirstWrong words (UnknownCommand word) = Follows words [] word × IsNoAbout [] word × ((task : Task) → word ≢ task_word task)
+IsFirstWrong words (UnknownCommand word) = WordFollows words [] word × IsNoAbout [] word × ((task : Task) → word ≢ task_word task)
 IsFirstWrong words (NoNumber task) = words ≡ task_word task ∷ []
-IsFirstWrong words (NotNumber task word) = Follows words (task_word task ∷ []) word
+IsFirstWrong words (NotNumber task word) = WordFollows words (task_word task ∷ []) word
     × IsNoAbout (task_word task ∷ []) word × (IsTakenNumber task word → ⊥)
 IsFirstWrong words (AfterNumber task word) =
-    (number : ℕ) × (1 ≤ number) × (number ≤ last_number task) × Follows words (task_word task ∷ decimal number ∷ []) word
-IsFirstWrong words (AfterAbout about word) = Follows words (about_words about) word
+    (number : ℕ) × (1 ≤ number) × (number ≤ last_number task) × WordFollows words (task_word task ∷ decimal number ∷ []) word
+IsFirstWrong words (AfterAbout about word) = WordFollows words (about_words about) word
 IsFirstWrong words NotText = ⊥

@@ -82,7 +82,8 @@ impl About {
 
     /// What a word asks for, alone or after the word of a task. `None` if it asks for neither.
     pub fn of_word(topic: Option<Task>, word: &str) -> Option<About>
-        ensures { (about : About) → (result ≡ Some about) ↔ (topic_words topic ++ word.now ∷ [] ≡ about_words about) }
+        ensures { (about : About) → (result ≡ Some about)
+            ↔ (topic_words topic ++ word.now ∷ [] ≡ about_words about) }
     {
         if word == "--help" {
             Some(About::Help(topic))

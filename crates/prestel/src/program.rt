@@ -44,7 +44,8 @@ pub fn run_program<S: Source, W: Write + Drop>(
     // The words are refused exactly when they are none of those, and then nothing is read.
     ensures usage { (result ≡ Status.Usage)
         ↔ (AskNoPlay (map string_bytes words.now) × AskNoScript (map string_bytes words.now)
-        × AskNoEvening (map string_bytes words.now) × ((about : About) → map string_bytes words.now ≢ about_words about)) }
+        × AskNoEvening (map string_bytes words.now)
+        × ((about : About) → map string_bytes words.now ≢ about_words about)) }
     ensures unread { result ≡ Status.Usage → script.new ≡ script.old }
 
     // Nothing is run, and nothing written, if the words, the reading or the length is at fault.

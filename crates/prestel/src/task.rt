@@ -1,8 +1,8 @@
 ghost use Rattle.std.specs.Prelude.{◌≡◌, ◌↔◌, Some};
 ghost use Rattle.prestel.specs.Task.{task_word, last_number};
 
+use pv_account::MAX_CENTRES;
 use pv_gen::LAST_NUMBER;
-use pv_network::MAX_CENTRES;
 use std::fmt;
 
 /// What the program does with a number: the first word of its command line.

@@ -1,7 +1,7 @@
 ghost use Rattle.std.specs.Prelude.{◌∷◌, ◌++◌, ◌↔◌, map, IsTrue, IfSome, IsNone, string_bytes};
 ghost use Rattle.prestel.specs.About.{about_words};
 ghost use Rattle.prestel.specs.Task.{task_word};
-ghost use Rattle.prestel.specs.Wrong.{AreTaken, IsFirstWrong, IsTakenNumber};
+ghost use Rattle.prestel.specs.Wrong.{AskForOne, IsFirstWrong, IsTakenNumber};
 
 use crate::about::About;
 use crate::quoted::Quoted;
@@ -53,7 +53,7 @@ pub enum WordsError<'a> {
 /// What is wrong with the words. `None` exactly when the program takes them.
 #[tactic(auto, using(crate::proofs::Words::none_if_taken))]
 pub fn error_of(words: &[String]) -> Option<WordsError<'_>>
-    ensures taken { IsNone result ↔ AreTaken (map string_bytes words.now) }
+    ensures taken { IsNone result ↔ AskForOne (map string_bytes words.now) }
     ensures found { IfSome result (IsFirstWrong (map string_bytes words.now)) }
 {
     match words {
@@ -70,7 +70,7 @@ pub fn error_of(words: &[String]) -> Option<WordsError<'_>>
 
 /// What is wrong with the words after a task's.
 fn error_after_task(task: Task, words: &[String]) -> Option<WordsError<'_>>
-    ensures taken { IsNone result → AreTaken (task_word task ∷ map string_bytes words.now) }
+    ensures taken { IsNone result → AskForOne (task_word task ∷ map string_bytes words.now) }
     ensures found { IfSome result (IsFirstWrong (task_word task ∷ map string_bytes words.now)) }
 {
     match words {
@@ -81,7 +81,7 @@ fn error_after_task(task: Task, words: &[String]) -> Option<WordsError<'_>>
 
 /// What is wrong with the word after a task's, or with those after it.
 fn error_from<'a>(task: Task, word: &'a str, later: &'a [String]) -> Option<WordsError<'a>>
-    ensures taken { IsNone result → AreTaken (task_word task ∷ word.now ∷ map string_bytes later.now) }
+    ensures taken { IsNone result → AskForOne (task_word task ∷ word.now ∷ map string_bytes later.now) }
     ensures found { IfSome result (IsFirstWrong (task_word task ∷ word.now ∷ map string_bytes later.now)) }
 {
     match About::of_word(Some(task), word) {
@@ -97,7 +97,7 @@ fn error_from<'a>(task: Task, word: &'a str, later: &'a [String]) -> Option<Word
 /// What is wrong with the words after a task's number.
 fn error_after_number<'a>(task: Task, number: &str, words: &'a [String]) -> Option<WordsError<'a>>
     requires { IsTakenNumber task number.now }
-    ensures taken { IsNone result → AreTaken (task_word task ∷ number.now ∷ map string_bytes words.now) }
+    ensures taken { IsNone result → AskForOne (task_word task ∷ number.now ∷ map string_bytes words.now) }
     ensures found { IfSome result (IsFirstWrong (task_word task ∷ number.now ∷ map string_bytes words.now)) }
 {
     match words {
@@ -111,7 +111,7 @@ fn error_after_number<'a>(task: Task, number: &str, words: &'a [String]) -> Opti
 
 /// What is wrong with the words after those that ask for help or the version.
 fn error_after_about(about: About, words: &[String]) -> Option<WordsError<'_>>
-    ensures taken { IsNone result → AreTaken (about_words about ++ map string_bytes words.now) }
+    ensures taken { IsNone result → AskForOne (about_words about ++ map string_bytes words.now) }
     ensures found { IfSome result (IsFirstWrong (about_words about ++ map string_bytes words.now)) }
 {
     match words {

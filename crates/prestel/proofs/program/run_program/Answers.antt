@@ -2,7 +2,7 @@ use Rattle.std.proofs.Common.{◌≡◌, ℕ, List, Option, subst, lit<, codes}
 use Rattle.pv_outside.specs.declared.status.Status.{Status}
 use Rattle.pv_outside.specs.declared.status.Status.TheVariants.{Usage}
 use Rattle.pv_gen.specs.declared.writing.TheConstants.{LAST_NUMBER}
-use Rattle.pv_network.specs.declared.event.TheConstants.{MAX_CENTRES}
+use Rattle.pv_account.specs.declared.account.TheConstants.{MAX_CENTRES}
 use Rattle.pv_files.specs.declared.standard.StandardOutput.{StandardOutput}
 use Rattle.prestel.specs.Program.{WritesText}
 use Rattle.prestel.proofs.Words.{about_is_no_task}
