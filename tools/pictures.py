@@ -46,7 +46,9 @@ def layers():
             found.append((title[1], {}))
         elif text.strip() and not text.startswith("#"):
             name, _, below = text.partition(":")
-            found[-1][1][name.strip()] = below.split()
+            # (a layer's crate of tests is no part of what stands on it)
+            if not name.strip().endswith("_tests"):
+                found[-1][1][name.strip()] = below.split()
     return found
 
 
