@@ -148,6 +148,11 @@ def built():
         yield "command: what takes too long is proved first, and answered", (written, status) == ("proved evening 999\n", 3) and "it took over 60 seconds; the program is proved first" in said
         yield "command: then it is proved", at.run("gen", "7") == ("proved gen 7\n", "", 3)
     with place() as at:
+        at.builds(f"import pathlib, sys\np = pathlib.Path(sys.argv[1]) / 'out/prestel'\np.write_text({PROGRAM!r})\np.chmod(0o755)\n")
+        yield "command: the help of a word that works on files is answered at once", NOT_PROVED in at.run("format", "--help")[1]
+        written, said, status = at.run("format", "d", "1")
+        yield "command: what works on files is proved first", (written, status) == ("proved format d 1\n", 3) and "format works on files; the program is proved first" in said
+    with place() as at:
         at.builds("import sys\nprint('pv_low: not proved, 3 left', file=sys.stderr)\nprint('/a/log')\nsys.exit(1)\n")
         _, said, status = at.run("--prove")
         yield "command: a build that fails says so, and where its log is", (said.splitlines()[-1], status) == ("prestel: the program could not be built; /a/log has what rt said", 70)

@@ -20,12 +20,13 @@ class Line(NamedTuple):
     account: int
     name: str
     price: int
+    moment: int = 0
 
     def spelling(self):
-        return struct.pack(">QIQ", self.serial, self.number, self.account) + name_bytes(self.name) + struct.pack(">HI", self.price, 0)
+        return struct.pack(">QIQ", self.serial, self.number, self.account) + name_bytes(self.name) + struct.pack(">HI", self.price, self.moment)
 
     def text(self):
-        return f"line 0 {self.serial} {self.number} {self.name} {self.price} 0"
+        return f"line 0 {self.serial} {self.number} {self.name} {self.price} {self.moment}"
 
 
 class Put(NamedTuple):

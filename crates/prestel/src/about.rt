@@ -11,6 +11,8 @@ const VERSION: &str = "prestel 0.1.0\n";
 const HELP: &str = "usage: prestel play N < SCRIPT
        prestel gen N > SCRIPT
        prestel evening N
+       prestel format DIR N
+       prestel statement DIR ACCOUNT YYYY-MM
        prestel --help
        prestel --version
 
@@ -20,7 +22,9 @@ gen writes the script that is made by rule for the number N, 1 to 999.
 evening plays that script on one centre, and writes what came of it in one
 line: the records of the Update Centre, the screens, the charge lines, and
 the pence of the bill.
-Each of the three has a --help of its own.
+format makes the disks of a network of N centres in the folder DIR.
+statement writes what an account was charged in a month, from that folder.
+Each of the five has a --help of its own.
 
 Exit status:
   0  everything was done
@@ -30,6 +34,9 @@ Exit status:
   5  standard output could not be written
   6  out of memory
   7  the script is longer than 1048576 bytes
+  8  a file could not be made or opened, is in use, or failed
+  9  the records of a file could not be read
+  15 there is no such account
 ";
 
 /// How `play` is used.

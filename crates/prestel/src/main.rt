@@ -1,10 +1,11 @@
 //! The program: `prestel play N` runs a script on a viewdata network of N retrieval centres, 1 to 4. `prestel gen N`
-//! writes the script that is made by rule for the number N, and `prestel evening N` plays it and sums it up.
+//! writes the script that is made by rule for the number N, and `prestel evening N` plays it and sums it up. `prestel format`
+//! makes the disks of a network in a folder, and `prestel statement` writes a month's statement of an account from there.
 //!
 //! A script comes in by standard input, and what is written goes out by standard output; a fault is one
-//! line on standard error, and the exit status says which. All that the program does is
+//! line on standard error, and the exit status says which. All that the first three words do is
 //! [`program::run_program`], over the source and the writer that it is handed; `main` makes the real ones,
-//! and ends with the status.
+//! and ends with the status. The other two are `pv_serve::run_format` and `pv_office::run_office`.
 #![tactic(auto)]
 
 ghost use Rattle.std.specs.Prelude.{◌≡◌, drop};
@@ -24,8 +25,11 @@ use crate::program::run_program;
 use crate::progress::Progress;
 use crate::words_error::{WordsError, error_of};
 use pv_files::{StandardInput, StandardOutput};
+use pv_office::run_office;
 use pv_outside::Status;
+use pv_serve::run_format;
 use std::env;
+use std::fs::{File, Files};
 use std::io::{self, ErrorKind, IsTerminal};
 use std::process::ExitCode;
 use std::rt::Env;
@@ -36,6 +40,9 @@ fn main(rt: HostRuntime) -> ExitCode {
         Err(status) => return end(&rt, status, Some(WordsError::NotText)),
     };
     let words = words_of(&args);
+    if let Some(number) = run_on_files(&rt, words) {
+        return ExitCode::from(number);
+    }
     let status = run(&rt, words, rt.stderr().is_terminal());
     end(&rt, status, error_of(words))
 }
@@ -51,6 +58,17 @@ fn end<R: Eprint>(rt: &R, status: Status, wrong: Option<WordsError<'_>>) -> Exit
         _ => eprintln!(rt; "prestel: {status}"),
     };
     ExitCode::from(status.number())
+}
+
+/// Runs a word that works on files, and returns the number to end with. `None` if the first word is no such word.
+fn run_on_files<R: AllocGlobal + Files<File = File> + Print + Eprint>(
+    rt: &R,
+    words: &[String],
+) -> Option<u8> {
+    match run_format(rt, words) {
+        Some(number) => Some(number),
+        None => run_office(rt, words),
+    }
 }
 
 /// Runs the program with the words of the command line, standard input and standard output. Long work says on standard error

@@ -175,15 +175,6 @@ fn open_locked<R: Files<File = File>>(
     }
 }
 
-/// Puts the names in the folder of a file on the disk of the machine.
-fn sync_folder_of<R: Files<File = File>>(rt: &R, path: &str) -> io::Result<()> {
-    let folder = match Path::new(path).parent() {
-        Some(folder) if !folder.as_str().is_empty() => folder,
-        _ => Path::new("."),
-    };
-    File::open(rt, folder)?.sync_all()
-}
-
 /// What a read came to, with a fault of its own for a file that is too short.
 fn read_fault(error: io::Error) -> FileFault {
     match error.kind() {

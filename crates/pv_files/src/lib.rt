@@ -1,6 +1,6 @@
 //! The outside as it is: files, sockets, standard input and output, the machine's clock and threads.
 //!
-//! [`FileDisk`] keeps its bytes in a file, and [`TcpDoor`] lets in a [`TcpLine`] for each connection.
+//! [`FileDisk`] keeps its bytes in a file, one of [`NODE_FILES`] in a network's folder, and [`TcpDoor`] lets in a [`TcpLine`] for each connection.
 //! [`StandardInput`] and [`StandardOutput`] are a source and a sink over a reader and a writer of the
 //! process. [`MachineClock`] shows the time of the machine, and [`ThreadSpawner`] runs jobs on threads. Each
 //! counts its errors. Those of a file are handed on with the system's words; a line and a door keep the
@@ -23,6 +23,7 @@ mod counts;
 mod disk;
 mod door;
 mod fault;
+mod folder;
 mod line;
 mod listener;
 mod retry;
@@ -33,6 +34,7 @@ pub use clock::MachineClock;
 pub use disk::FileDisk;
 pub use door::TcpDoor;
 pub use fault::{FileFault, OpenFault};
+pub use folder::{NODE_FILES, make_folder, set_aside};
 pub use line::TcpLine;
 pub use listener::Listener;
 pub use standard::{OUTPUT_BUFFER, StandardInput, StandardOutput};

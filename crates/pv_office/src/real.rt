@@ -3,13 +3,10 @@
 use crate::options::statement_options;
 use crate::statements::statement_of;
 use crate::status::OfficeStatus;
-use pv_files::{FileDisk, OpenFault, StandardOutput};
+use pv_files::{FileDisk, NODE_FILES, OpenFault, StandardOutput};
 use std::alloc::AllocGlobal;
 use std::fs::{File, Files};
 use std::io::{self, Eprint, Print};
-
-/// The file of the Update Centre's disk in its folder.
-const UPDATE_CENTRE: &str = "udc.pv";
 
 /// How `statement` is used.
 const STATEMENT_HELP: &str = "usage: prestel statement DIR ACCOUNT YYYY-MM
@@ -64,7 +61,7 @@ fn run_statement<R: AllocGlobal + Files<File = File> + Print + Eprint>(
         return 2;
     };
     let alloc = rt.alloc();
-    let Ok(path) = format!(in alloc; "{}/{UPDATE_CENTRE}", options.folder) else {
+    let Ok(path) = format!(in alloc; "{}/{}", options.folder, NODE_FILES[0]) else {
         return out_of_memory(rt);
     };
     match FileDisk::open(rt, alloc, &path) {

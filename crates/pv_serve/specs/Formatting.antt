@@ -1,8 +1,9 @@
 -- What the words `format DIR N` ask for, and how that may end.
-use Rattle.std.specs.Prelude.{◌≡◌, ◌⊎◌, ℕ, ◌≤◌, List, [], ◌∷◌, codes, decimal}
+use Rattle.std.specs.Prelude.{◌≡◌, ◌⊎◌, ℕ, ◌≤◌, List, [], ◌∷◌, ◌++◌, length, take, codes, decimal}
 use Rattle.std.specs.List.{AllZip}
 use Rattle.pv_outside.specs.Counts.{Rose}
 use Rattle.pv_outside.specs.declared.reports.Reports as reports
+use Rattle.pv_journal.specs.declared.block.TheConstants.{MARK}
 use Rattle.pv_journal.specs.Text.{Spells}
 use Rattle.pv_journal.specs.Journal.{EachImage}
 use Rattle.pv_account.specs.declared.account.TheConstants.{MAX_CENTRES}
@@ -20,6 +21,12 @@ pub record AskToFormat (words : List (List ℕ)) (folder : List ℕ) (centres : 
 -- the words are not these of any folder and number
 abbrev pub AskNoFormat : List (List ℕ) → Type 0
 AskNoFormat words = (folder : List ℕ) (centres : ℕ) → AskToFormat words folder centres → ⊥
+
+-- ---- what is there before
+
+-- the text is the beginning of an empty journal, or the whole of it
+abbrev pub IsBlank : List ℕ → Type 0
+IsBlank text = text ≡ take (length text) (MARK ++ 0 ∷ [])
 
 -- ---- ends
 

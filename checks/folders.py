@@ -1,0 +1,105 @@
+"""What the words that work on a folder of real files make of it: `format` and `statement`.
+
+The bytes of the files are those that checks/model.py spells apart from the program.
+"""
+import fcntl
+import subprocess
+import tempfile
+from datetime import datetime, timezone
+from pathlib import Path
+
+from model import Account, Line, Taken
+
+MARK = b"PVJOURN1"
+EMPTY = MARK + b"\0"
+CALLER = 1_000_000_001
+NAMES = ["udc.pv", "irc0.pv", "irc1.pv", "irc2.pv", "irc3.pv"]
+
+
+def journal(records):
+    """The bytes of a journal with these records."""
+    blocks = (b"\1" + len(text).to_bytes(2, "big") + text for text in (record.spelling() for record in records))
+    return MARK + b"".join(blocks) + b"\0"
+
+
+class Place:
+    """A folder, and the program."""
+
+    def __init__(self, program, folder):
+        self.program, self.folder = program, Path(folder)
+
+    def run(self, *words, stdout=subprocess.PIPE):
+        """What the program writes for these words, what it says, and its status."""
+        run = subprocess.run([self.program, *words], stdin=subprocess.DEVNULL, stdout=stdout, stderr=subprocess.PIPE, cwd=self.folder, timeout=60)
+        return (run.stdout or b"").decode(), run.stderr.decode(), run.returncode
+
+    def files(self):
+        """The names of the files in its folder net, and what they hold."""
+        return {file.name: file.read_bytes() for file in (self.folder / "net").iterdir()}
+
+
+def formatted(program):
+    """A line for each thing that `format` does to a folder."""
+    with tempfile.TemporaryDirectory() as folder:
+        at = Place(program, folder)
+        net = at.folder / "net"
+        yield "format: a folder is made, and an empty disk for each node", at.run("format", "net", "2") == ("", "", 0) and at.files() == dict.fromkeys(NAMES[:3], EMPTY)
+        yield "format: empty disks are made anew without a word", at.run("format", "net", "2") == ("", "", 0) and at.files() == dict.fromkeys(NAMES[:3], EMPTY)
+        held = journal([Account(0, 1, CALLER, "ABCD")])
+        (net / "udc.pv").write_bytes(held)
+        (net / "irc0.pv").write_bytes(MARK[:5])
+        yield "format: what holds a record is kept", at.run("format", "net", "2") == ("", "prestel: net/udc.pv is kept as net/udc.pv.1\n", 0) and at.files() == {**dict.fromkeys(NAMES[:3], EMPTY), "udc.pv.1": held}
+        (net / "udc.pv").write_bytes(b"letters")
+        written, said, status = at.run("format", "net", "1")
+        kept = "".join(f"prestel: net/{name} is kept as net/{name}.{number}\n" for name, number in (("udc.pv", 2), ("irc1.pv", 1)))
+        files = at.files()
+        yield "format: so are strange files, and those of a centre that is no more", (written, said, status) == ("", kept, 0) and (files["udc.pv.1"], files["udc.pv.2"]) == (held, b"letters")
+        yield "format: and the new network has its own files alone", {name for name in files if name.endswith(".pv")} == {"udc.pv", "irc0.pv"}
+        (net / "udc.pv").write_bytes(held)
+        before = at.files()
+        with open(net / "irc0.pv", "rb") as file:
+            fcntl.flock(file, fcntl.LOCK_EX)
+            used = at.run("format", "net", "1")
+        yield "format: a file in use is named, and all stay as they are", used == ("", "prestel: net/irc0.pv: the file is in use\n", 8) and at.files() == before
+        yield "format: a folder whose parent is missing", at.run("format", "no/net", "1")[::2] == ("", 8)
+        yield "format: a file in the folder's place", at.run("format", "net/udc.pv", "1")[::2] == ("", 8) and at.files() == before
+        usage = "prestel: usage: prestel format DIR N; try prestel format --help\n"
+        wrong = ([], ["net"], ["net", "0"], ["net", "5"], ["net", "01"], ["net", "1", "x"], ["net", "--help"])
+        yield "format: words that are refused", all(at.run("format", *words) == ("", usage, 2) for words in wrong) and at.files() == before
+
+
+def stated(program):
+    """A line for each thing that `statement` writes from a folder, or says of it."""
+    bought = [(2, "1980-01-01 00:00:00"), (3, "1980-02-01 00:00:00"), (5, "1980-01-31 23:59:59"), (99, "2099-12-31 23:59:59")]
+    lines = [Line(0, number, CALLER, "20a", price, int(datetime.fromisoformat(date).replace(tzinfo=timezone.utc).timestamp())) for number, (price, date) in enumerate(bought)]
+    with tempfile.TemporaryDirectory() as folder:
+        at = Place(program, folder)
+        at.run("format", "net", "1")
+        file = at.folder / "net/udc.pv"
+        file.write_bytes(journal([Account(0, 1, CALLER, "ABCD"), *(Taken(place, line) for place, line in enumerate(lines))]))
+        before = at.files()
+        january = f"STATEMENT {CALLER} 1980-01\n1980-01-01 00:00:00 20a 2\n1980-01-31 23:59:59 20a 5\nSUM 7\n"
+        yield "statement: the lines of a month, and their sum", at.run("statement", "net", str(CALLER), "1980-01") == (january, "", 0)
+        yield "statement: a month without a line", at.run("statement", "net", str(CALLER), "1980-03") == (f"STATEMENT {CALLER} 1980-03\nSUM 0\n", "", 0)
+        yield "statement: nobody's account", at.run("statement", "net", "1000000009", "1980-01") == ("", "prestel: no such account\n", 15)
+        usage = "prestel: usage: prestel statement DIR ACCOUNT YYYY-MM; try prestel statement --help\n"
+        wrong = ([], ["net", str(CALLER)], ["net", "1", "1980-01"], ["net", str(CALLER), "1980-13"], ["net", str(CALLER), "1969-12"], ["net", str(CALLER), "1980-1"])
+        yield "statement: words that are refused", all(at.run("statement", *words) == ("", usage, 2) for words in wrong)
+        with open("/dev/full", "wb") as full:
+            yield "statement: a full device", at.run("statement", "net", str(CALLER), "1980-01", stdout=full) == ("", "prestel: the output could not be written\n", 5)
+        with open(file, "rb") as other:
+            fcntl.flock(other, fcntl.LOCK_EX)
+            yield "statement: a file in use", at.run("statement", "net", str(CALLER), "1980-01") == ("", "prestel: net/udc.pv: the file is in use\n", 8)
+        yield "statement: it changes nothing", at.files() == before
+        file.write_bytes(b"letters")
+        yield "statement: a file that is no disk", at.run("statement", "net", str(CALLER), "1980-01") == ("", "prestel: the disk of the Update Centre is not formatted\n", 9)
+        file.unlink()
+        yield "statement: no file", at.run("statement", "net", str(CALLER), "1980-01")[::2] == ("", 8)
+
+
+def folders(program):
+    """A line for each of these, and for the help of both words."""
+    yield from (*formatted(program), *stated(program))
+    for word in ("format", "statement"):
+        run = subprocess.run([program, word, "--help"], capture_output=True, timeout=60)
+        yield f"{word}: its help", run.stdout.startswith(f"usage: prestel {word} ".encode()) and (run.stderr, run.returncode) == (b"", 0)
