@@ -45,7 +45,7 @@ use Rattle.pv_link.specs.Sending.{SendingEnd, number_to_give}
 use Rattle.pv_network.specs.Traffic.{carry_rounds, step_of_carry, step_of_send}
 use Rattle.pv_network.specs.Verdict.{verdict_by}
 use Rattle.pv_network.specs.World.{World, start, centre_at, link_at}
-use Rattle.pv_network.specs.declared.verdict.TheConstants.{FULL}
+use Rattle.pv_verdicts.specs.declared.view.TheConstants.{FULL}
 
 -- The next record is taken, one that was taken is old, one after the next is early. At the limit, of which the log-ons are a part,
 -- the next one finds the centre full, and an old one is old there too.

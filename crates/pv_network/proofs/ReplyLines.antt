@@ -30,7 +30,8 @@ use Rattle.pv_editor.specs.declared.step.EditStep.{EditStep}
 use Rattle.pv_editor.specs.declared.step.EditStep.TheVariants as steps
 use Rattle.pv_network.specs.Editing.{step_of_line, step_of_said, step_of_edit}
 use Rattle.pv_udc.specs.declared.request.UdcRequest.TheVariants.{Edit}
-use Rattle.pv_network.specs.Verdict.{verdict_of, reply_found, item_in}
+use Rattle.pv_verdicts.specs.Search.{first_reply, taken_item}
+use Rattle.pv_network.specs.Verdict.{verdict_of}
 use Rattle.pv_network.specs.World.{World}
 use Rattle.pv_network.specs.Replies.{is_not_line_end, HasNoLineEnd, IsReplyLine, RepliesByLine}
 use Rattle.pv_network.proofs.CallerLemmas.{unbroken-append, unbroken-decimal, either}
@@ -185,7 +186,7 @@ turn_is_line seat edits places (Some line) =
 -- ---- what is found in a valid list
 
 item_valid : (place : ℕ) (edit : Record) → IsRecord edit → (p : ℕ) (item : Item)
-    → option_map {U = ℕ × Item} (λ (i : Item). (place, i)) (item_in edit) ≡ Some (p, item) → IsItem item
+    → option_map {U = ℕ × Item} (λ (i : Item). (place, i)) (taken_item edit) ≡ Some (p, item) → IsItem item
 item_valid place (records.Put editor q name frame) valid p item there = absurd cc
 item_valid place (records.Drop editor q name) valid p item there = absurd cc
 item_valid place (records.Account editor q profile) valid p item there = absurd cc
@@ -196,10 +197,10 @@ item_valid place (records.Taken taken) valid p item there =
 -- the item of the record at a place, with the place
 abbrev found_at : List Record → Option ℕ → Option (ℕ × Item)
 found_at edits place =
-    place >>= λ place. slice_get edits place >>= λ edit. option_map (λ (item : Item). (place, item)) (item_in edit)
+    place >>= λ place. slice_get edits place >>= λ edit. option_map (λ (item : Item). (place, item)) (taken_item edit)
 
 there_valid : (edits : List Record) → All IsRecord edits → (place p : ℕ) (item : Item) (edit : Option Record) → slice_get edits place ≡ edit
-    → ◌>>=◌ {B = ℕ × Item} edit (λ edit. option_map {U = ℕ × Item} (λ (i : Item). (place, i)) (item_in edit)) ≡ Some (p, item) → IsItem item
+    → ◌>>=◌ {B = ℕ × Item} edit (λ edit. option_map {U = ℕ × Item} (λ (i : Item). (place, i)) (taken_item edit)) ≡ Some (p, item) → IsItem item
 there_valid edits all place p item None there is = absurd cc
 there_valid edits all place p item (Some edit) there is = item_valid place edit (all_get IsRecord edits place edit all there) p item is
 
@@ -210,8 +211,8 @@ found_valid edits all (Some place) p item is = there_valid edits all place p ite
 
 -- a search for responses in a valid list
 pub responses_line : (edits : List Record) → All IsRecord edits → (editor from : ℕ)
-    → IsReplyLine (responses_reply (reply_found edits editor from))
-responses_line edits all editor from = item_line (reply_found edits editor from) (found_valid edits all (reply_place edits editor from))
+    → IsReplyLine (responses_reply (first_reply edits editor from))
+responses_line edits all editor from = item_line (first_reply edits editor from) (found_valid edits all (reply_place edits editor from))
 
 -- ---- an event
 

@@ -54,7 +54,7 @@ use Rattle.pv_packet.specs.declared.packet.Packet.TheVariants.{Down, Up, DownHea
 use Rattle.pv_link.specs.Sending.{SendingEnd, new_end, number_due, end_after, end_that_heard}
 use Rattle.pv_network.specs.declared.round.Round.{Round}
 use Rattle.pv_network.specs.declared.round.Round.TheVariants as rounds
-use Rattle.pv_network.specs.declared.verdict.TheConstants.{FULL}
+use Rattle.pv_verdicts.specs.declared.view.TheConstants.{FULL}
 use Rattle.pv_network.specs.declared.event.TheConstants.{PORTS}
 use Rattle.pv_network.specs.Call.{Call, serial_of}
 use Rattle.pv_session.specs.declared.entry.Entry.{Entry}
@@ -72,7 +72,8 @@ use Rattle.pv_network.specs.Sound.{IsGenuine, GoesAlong, serial_in, IsSoundLink,
 use Rattle.pv_network.specs.Editing.{with_verdict, step_of_request, seeded_frame, step_of_line, step_of_said, step_of_edit}
 use Rattle.pv_network.specs.Step.{Choice, happens, after}
 use Rattle.pv_network.specs.Traffic.{front_of, received_count, receiver_count, record_packet, packet_for, next_number_on, step_of_packing, step_of_number, step_of_sending, step_of_acknowledging, arrival_on, world_after, step_of_answer, with_next_at, with_item_of, step_of_hearing, step_of_packet, step_of_found, step_of_arriving, with_ack_back, round_of_send, step_of_round, no_load, with_one, way_on, after_round, rounds_on, carry_rounds, packet_room}
-use Rattle.pv_network.specs.Verdict.{Verdict, editor_reply, verdict_by, verdict_of}
+use Rattle.pv_verdicts.specs.Views.{editor_view}
+use Rattle.pv_network.specs.Verdict.{Verdict, verdict_by, verdict_of}
 use Rattle.pv_network.specs.World.{World, Receipt, StoppedCall, start, with_seat, centre_at, link_at, with_centre, with_link, with_edit, with_receipt}
 use Rattle.pv_network.proofs.Counts.{count_by-grows, frame_count-none, frames_within}
 use Rattle.pv_network.proofs.Items.{KeepsItems, same_items, dial_items, hang_items, press_items, store_items, show_items}
@@ -281,7 +282,7 @@ sound_recorded w request sound next = by (judge w.update.limits w.update.records
     full : (edit : Record) (reply : UdcReply) → judge w.update.limits w.update.records request ≡ Store edit reply
         → (is_full : Bool) → leb w.update.limits.records (length w.update.records) ≡ is_full
         → IsSound (with_edit w (cond {A = Verdict} is_full (record { stored = None; reply = Refused FULL (length w.update.records) })
-        (record { stored = Some edit; reply = editor_reply reply })).stored)
+        (record { stored = Some edit; reply = editor_view reply })).stored)
     full edit reply is true how = sound
     full edit reply is false how =
         sound_stored w edit sound
@@ -317,7 +318,7 @@ sound_receipt w editor q place sound stands = record {
 module _ (w : World) (editor q : ℕ) (wish : EditWish) (sound : IsSound w) where
   -- an edit that is answered at once is refused, or it is the last one again
   sound_answered : (reply : UdcReply) → IsAnswered w.update.limits w.update.records editor q wish reply
-      → IsSound (with_receipt w editor q (editor_reply reply))
+      → IsSound (with_receipt w editor q (editor_view reply))
   sound_answered (replies.Stored place) answered = absurd answered
   sound_answered (replies.Again place) answered =
       let last = last_edit-there w.update.records editor q place answered in
@@ -339,7 +340,7 @@ module _ (w : World) (editor q : ℕ) (wish : EditWish) (sound : IsSound w) wher
       full : (edit : Record) (reply : UdcReply) → judge w.update.limits w.update.records (Edit editor q wish) ≡ Store edit reply
           → (is_full : Bool) → leb w.update.limits.records (length w.update.records) ≡ is_full
           → IsSound (with_verdict w editor q (cond is_full (record { stored = None; reply = Refused FULL (length w.update.records) })
-          (record { stored = Some edit; reply = editor_reply reply })))
+          (record { stored = Some edit; reply = editor_view reply })))
       full edit reply is true how = sound
       full edit reply is false how =
           let edits = w.update.records in
@@ -348,7 +349,7 @@ module _ (w : World) (editor q : ℕ) (wish : EditWish) (sound : IsSound w) wher
           record { judged = (Edit editor q wish, reply, is); record_room = leb-false w.update.limits.records (length edits) how } in
           let stands : StandsAt (edits ++ edit ∷ []) editor q (length edits) =
           record { edit = edit; there = get_last edits edit; by = his.his; numbered = his.numbered } in
-          subst (λ (r : UdcReply). IsSound (with_receipt (with_edit w (Some edit)) editor q (editor_reply r))) (sym his.reply_is)
+          subst (λ (r : UdcReply). IsSound (with_receipt (with_edit w (Some edit)) editor q (editor_view r))) (sym his.reply_is)
           (sound_receipt (with_edit w (Some edit)) editor q (length edits) (sound_stored w edit sound follows
           (λ c. edit_takes_none edits c (calls_at w c).items editor edit his.his)) stands)
 

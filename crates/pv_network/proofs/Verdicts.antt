@@ -9,12 +9,13 @@ use Rattle.pv_udc.specs.EditList.{EditList}
 use Rattle.pv_udc.specs.declared.reply.UdcReply.{UdcReply}
 use Rattle.pv_editor.specs.declared.replies.UdcReplyView.{UdcReplyView}
 use Rattle.pv_editor.specs.declared.replies.UdcReplyView.TheVariants as replies
-use Rattle.pv_network.specs.declared.verdict.TheConstants.{FULL}
-use Rattle.pv_network.specs.Verdict.{editor_reply, verdict_by}
+use Rattle.pv_verdicts.specs.declared.view.TheConstants.{FULL}
+use Rattle.pv_verdicts.specs.Views.{editor_view}
+use Rattle.pv_network.specs.Verdict.{verdict_by}
 
 -- the editor's reply to what the node answers
 abbrev pub reply_to : Result (Told UdcReply) ℕ → UdcReplyView
-reply_to (Ok told) = editor_reply told.reply
+reply_to (Ok told) = editor_view told.reply
 reply_to (Err count) = replies.Refused FULL count
 
 module _ (u : EditList) where

@@ -16,7 +16,8 @@ use Rattle.pv_editor.specs.declared.step.EditStep.{EditStep}
 use Rattle.pv_editor.specs.declared.step.EditStep.TheVariants as steps
 use Rattle.pv_network.specs.declared.outcome.Outcome.{Outcome}
 use Rattle.pv_network.specs.declared.outcome.Outcome.TheVariants as outcomes
-use Rattle.pv_network.specs.Verdict.{Verdict, verdict_of, reply_found}
+use Rattle.pv_verdicts.specs.Search.{first_reply}
+use Rattle.pv_network.specs.Verdict.{Verdict, verdict_of}
 use Rattle.pv_network.specs.World.{World, seat_at, with_seat, with_edit, with_receipt}
 
 -- ---- seed
@@ -53,7 +54,7 @@ step_of_line w port said =
 abbrev pub step_of_said : World → ℕ → EditStep → World × Outcome
 step_of_said w port (steps.Say text) = (w, outcomes.Reply text)
 step_of_said w port (steps.Ask editor q wish) = step_of_request w editor q wish
-step_of_said w port (steps.Responses editor from) = (w, outcomes.Reply (responses_reply (reply_found w.update.records editor from)))
+step_of_said w port (steps.Responses editor from) = (w, outcomes.Reply (responses_reply (first_reply w.update.records editor from)))
 step_of_said w port steps.Close = (with_seat w port new_seat, outcomes.Reply closing_reply)
 
 -- an editor's line arrives at a port

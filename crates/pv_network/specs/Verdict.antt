@@ -1,9 +1,5 @@
 -- What the Update Centre makes of an editor's request: the record that it stores, and its reply.
-use Rattle.std.specs.Prelude.{ℕ, nat_le, if◌then◌else◌, Option, Some, None, option_map, List, length, slice_get}
-use Rattle.pv_fields.specs.Reading.{◌>>=◌}
-use Rattle.pv_post.specs.declared.item.Item.{Item}
-use Rattle.pv_edits.specs.declared.record.Record.TheVariants.{Put, Drop, Account, Lease, Taken}
-use Rattle.pv_udc.specs.Replies.{reply_place}
+use Rattle.std.specs.Prelude.{nat_le, if◌then◌else◌, Option, Some, None, length}
 use Rattle.pv_edits.specs.declared.record.Record.{Record}
 use Rattle.pv_node.specs.declared.decision.Decision.{Decision}
 use Rattle.pv_node.specs.declared.decision.Decision.TheVariants.{Answer, Store}
@@ -16,27 +12,20 @@ use Rattle.pv_editor.specs.declared.replies.UdcReplyView.{UdcReplyView}
 use Rattle.pv_editor.specs.declared.replies.UdcReplyView.TheVariants as told
 use Rattle.pv_network.specs.declared.arrival.Arrival.{Arrival}
 use Rattle.pv_network.specs.declared.arrival.Arrival.TheVariants as arrivals
-use Rattle.pv_network.specs.declared.verdict.TheConstants.{FULL}
+use Rattle.pv_verdicts.specs.Views.{editor_view}
+use Rattle.pv_verdicts.specs.declared.view.TheConstants.{FULL}
 
 -- the record that is stored, if one is, and the editor's reply
 pub record Verdict : Type 0 where
   pub stored : Option Record
   pub reply : UdcReplyView
 
--- the reply as an editor gets it, the same to a repeated request as to a new one; the replies to items go to no editor
-abbrev pub editor_reply : UdcReply → UdcReplyView
-editor_reply (Stored place) = told.Stored place
-editor_reply (Again place) = told.Stored place
-editor_reply (Refused code) = told.Refused code.code code.shown
-editor_reply (Old count) = told.Stored count
-editor_reply (Early count) = told.Stored count
-
 -- the verdict of a decision: a record that is one too many is refused after all
 abbrev pub verdict_by : EditList → Decision Record UdcReply → Verdict
-verdict_by u (Answer reply) = record { stored = None; reply = editor_reply reply }
+verdict_by u (Answer reply) = record { stored = None; reply = editor_view reply }
 verdict_by u (Store edit reply) =
     if nat_le u.limits.records (length u.records) then record { stored = None; reply = told.Refused FULL (length u.records) }
-    else record { stored = Some edit; reply = editor_reply reply }
+    else record { stored = Some edit; reply = editor_view reply }
 
 -- the verdict on a request
 abbrev pub verdict_of : EditList → UdcRequest → Verdict
@@ -56,19 +45,3 @@ item_arrival (Refused code) = arrivals.Early
 abbrev pub stored_on : Arrival → Record → Option Record
 stored_on arrivals.Taken edit = Some edit
 stored_on _ edit = None
-
--- ---- what callers keyed into an editor's frames
-
--- the item that a record took up
-abbrev pub item_in : Record → Option Item
-item_in (Put editor q name frame) = None
-item_in (Drop editor q name) = None
-item_in (Account editor q account) = None
-item_in (Lease editor q root account) = None
-item_in (Taken taken) = Some taken.item
-
--- the first reply to a page that is the editor's now, of those at this place and after it, with its place
-abbrev pub reply_found : List Record → ℕ → ℕ → Option (ℕ × Item)
-reply_found records editor from =
-    reply_place records editor from >>= λ place. slice_get records place >>= λ edit. option_map (λ (item : Item). (place, item))
-    (item_in edit)

@@ -25,7 +25,7 @@ use crate::event::{EDITORS, Event};
 use crate::links::Links;
 use crate::moment::Moment;
 use crate::outcome::{Outcome, Turn};
-use crate::verdict::{responses, store, within};
+use crate::verdict::store;
 use crate::way::Way;
 use pv_editor::{EditStep, EditorSeat, closing_text, reply_text};
 use pv_edits::{EditWish, OPERATOR};
@@ -35,6 +35,7 @@ use pv_outside::Limits;
 use pv_page::{AccountNo, FrameName};
 use pv_screen::{Screen, compose};
 use pv_udc::UdcRequest;
+use pv_verdicts::{responses, within};
 use std::alloc::{AllocError, Global};
 use std::marker::Model;
 

@@ -3,25 +3,20 @@ ghost use Rattle.pv_edits.specs.Edits.{taken_of};
 ghost use Rattle.pv_edits.specs.Taken.{IsCentre};
 ghost use Rattle.pv_udc.specs.Requests.{IsRequest};
 ghost use Rattle.pv_udc.specs.Requests.{record_of};
-ghost use Rattle.pv_udc.specs.declared.request.UdcRequest.TheVariants.{Edit, TakeUp};
+ghost use Rattle.pv_udc.specs.declared.request.UdcRequest.TheVariants.{TakeUp};
 ghost use Rattle.pv_nodes.specs.Cutting.{MayBecome, kept_record};
 ghost use Rattle.pv_nodes.specs.OnDisk.{UpdateIsOnDisk, list_with};
 ghost use Rattle.pv_network.specs.Centre.{arrival_of};
 ghost use Rattle.pv_network.specs.Cutting.{stored_for};
-ghost use Rattle.pv_network.specs.Verdict.{editor_reply, verdict_of, item_arrival, stored_on, reply_found};
-ghost use Rattle.pv_editor.specs.Replies.{responses_reply};
+ghost use Rattle.pv_network.specs.Verdict.{verdict_of, item_arrival, stored_on};
 
 use crate::arrival::Arrival;
-use pv_editor::{Text, UdcReplyView, responses_text};
-use pv_edits::{EditWish, Record};
+use pv_editor::UdcReplyView;
 use pv_nodes::{Cut, UpdateNode};
-use pv_page::AccountNo;
 use pv_post::Item;
-use pv_udc::{UdcReply, UdcRequest, UdcState};
+use pv_udc::{UdcReply, UdcRequest};
+use pv_verdicts::{full, view_of};
 use std::alloc::{AllocError, Global};
-
-/// The code of a request whose record would be one too many: it prints how many there are.
-pub(crate) const FULL: u8 = 14;
 
 /// Judges a request, stores its record unless it is refused, and returns the editor's reply. Each image of the
 /// disk then spells the records of the list.
@@ -33,8 +28,8 @@ pub(crate) fn store(update: &mut UpdateNode, request: &UdcRequest) -> UdcReplyVi
     ensures on_disk { UpdateIsOnDisk update.new }
 {
     match update.ask(request) {
-        Ok(told) => editor_reply(told.reply),
-        Err(count) => UdcReplyView::Refused(FULL, count),
+        Ok(told) => view_of(told.reply),
+        Err(count) => full(count),
     }
 }
 
@@ -96,47 +91,5 @@ fn arrival_of(reply: UdcReply) -> Arrival
         UdcReply::Early(_) => Arrival::Early,
         UdcReply::Again(_) => Arrival::Old,
         UdcReply::Refused(_) => Arrival::Early,
-    }
-}
-
-/// An editor's request is within its ranges, by the types of its parts. A call states this and has no effect.
-pub(crate) fn within(editor: AccountNo, _q: u32, wish: &EditWish)
-    ensures { IsRequest (Edit editor _q wish.now) }
-{
-    let _number = editor.number();
-    match wish {
-        EditWish::Put { name, frame } => {
-            name.within();
-            frame.within();
-        }
-        EditWish::Drop { name } => name.within(),
-        EditWish::Account { account } => account.within(),
-        EditWish::Lease { root, account } => {
-            let _numbers = (root.number(), account.number());
-        }
-    }
-}
-
-/// What a search for replies to an editor's pages finds, from a place on.
-pub(crate) fn responses(update: &UdcState, editor: AccountNo, from: u64) -> Text
-    ensures { result ≡ responses_reply (reply_found update.now.records editor from) }
-{
-    let Some(place) = update.reply_for(editor, from) else {
-        return responses_text(None);
-    };
-    match update.rec_at(place) {
-        Some(Record::Taken(taken)) => responses_text(Some((place, &taken.item))),
-        _ => responses_text(None),
-    }
-}
-
-/// The reply as an editor gets it.
-fn editor_reply(reply: UdcReply) -> UdcReplyView
-    ensures { result ≡ editor_reply reply }
-{
-    match reply {
-        UdcReply::Stored(place) | UdcReply::Again(place) => UdcReplyView::Stored(place),
-        UdcReply::Refused(code) => UdcReplyView::Refused(code.code, code.shown),
-        UdcReply::Old(count) | UdcReply::Early(count) => UdcReplyView::Stored(count),
     }
 }

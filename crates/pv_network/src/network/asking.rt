@@ -13,13 +13,13 @@ ghost use Rattle.pv_network.specs.World.{World};
 
 use crate::network::Network;
 use crate::storing::Storing;
-use crate::verdict::within;
 use crate::way::Way;
 use pv_editor::EditStep;
 use pv_irc::IrcRequest;
 use pv_packet::Packet;
 use pv_page::FrameName;
 use pv_udc::UdcRequest;
+use pv_verdicts::within;
 
 impl Network {
     /// What a command asks of the Update Centre. `None` if it asks nothing.

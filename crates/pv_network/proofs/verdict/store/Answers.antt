@@ -8,12 +8,12 @@ use Rattle.pv_network.proofs.verdict.store.Goals as goal
 pub returns-in-Ok-clause-reply : goal.returns-in-Ok-clause-reply
 returns-in-Ok-clause-reply c =
     let u = c.args.update.now.state in
-    c.editor_reply.ensures ∙ ap reply_to c.in-Ok.ensures.told ∙ told_reply u (judge u.limits u.records c.args.request.now)
+    c.view_of.ensures ∙ ap reply_to c.in-Ok.ensures.told ∙ told_reply u (judge u.limits u.records c.args.request.now)
 
 pub returns-in-Err-clause-reply : goal.returns-in-Err-clause-reply
 returns-in-Err-clause-reply c =
     let u = c.args.update.now.state in
-    ap reply_to c.in-Err.ensures.told ∙ told_reply u (judge u.limits u.records c.args.request.now)
+    c.full.ensures ∙ ap reply_to c.in-Err.ensures.told ∙ told_reply u (judge u.limits u.records c.args.request.now)
 
 -- the record is that of the verdict
 pub returns-in-Ok-clause-stored : goal.returns-in-Ok-clause-stored
