@@ -7,12 +7,12 @@ ghost use Rattle.pv_outside.specs.declared.failed.TheConstants.{COUNT_END};
 
 use crate::ahead::{AHEAD, Ahead};
 use crate::fault::{FileFault, OpenFault};
+use crate::folder::sync_folder_of;
 use pv_outside::{Disk, Reports};
 use std::alloc::Global;
 use std::fs::{File, Files, OpenFile, OpenOptions, TryLockError};
 use std::io::{self, ErrorKind};
 use std::os::unix::fs::FileExt;
-use std::path::Path;
 
 /// A disk whose bytes are in a file. It reports none of them.
 ///
