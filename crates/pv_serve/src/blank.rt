@@ -1,4 +1,4 @@
-ghost use Rattle.std.specs.Prelude.{IfOk, IfSome, IsTrue, ◌↔◌};
+ghost use Rattle.std.specs.Prelude.{◌↔◌, ◌≤◌, length, IfOk, IfSome, IsTrue};
 ghost use Rattle.pv_serve.specs.Formatting.{IsBlank};
 
 use pv_journal::MARK;
@@ -18,7 +18,15 @@ pub fn is_blank<D: Disk>(disk: &mut D) -> Result<bool, D::Failure>
     let held = length as usize;
     let mut first = [0; EMPTY];
     disk.read(0, &mut first[..held])?;
+    Ok(begin_empty(&first[..held]))
+}
+
+/// Whether the bytes are the first of an empty journal.
+fn begin_empty(bytes: &[u8]) -> bool
+    requires { length bytes.now ≤ 9 }
+    ensures { IsTrue result ↔ IsBlank bytes.now }
+{
     let mut empty = [0; EMPTY];
     empty[..MARK.len()].copy_from_slice(&MARK);
-    Ok(first[..held] == empty[..held])
+    bytes == &empty[..bytes.len()]
 }

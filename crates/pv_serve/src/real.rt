@@ -111,19 +111,26 @@ fn clear_folder<R: AllocGlobal + Files<File = File> + Eprint>(
 ) -> Result<(), u8> {
     let mut found = find_files(rt, options.folder)?;
     for file in found.iter_mut() {
-        let is_wanted = file.node <= options.centres as usize;
-        match is_blank(&mut file.disk) {
-            Ok(true) if is_wanted => {}
-            Ok(_) => match set_aside(rt, rt.alloc(), &file.path) {
-                Ok(aside) => {
-                    let _ = eprintln!(rt; "prestel: {} is kept as {aside}", file.path);
-                }
-                Err(fault) => return Err(refused(rt, &file.path, fault)),
-            },
+        let blank = match is_blank(&mut file.disk) {
+            Ok(blank) => blank,
             Err(failure) => return Err(failed(rt, &file.path, failure)),
+        };
+        if !blank || file.node > options.centres as usize {
+            keep(rt, &file.path)?;
         }
     }
     Ok(())
+}
+
+/// Sets a file aside, and says under which name.
+fn keep<R: AllocGlobal + Files<File = File> + Eprint>(rt: &R, path: &str) -> Result<(), u8> {
+    match set_aside(rt, rt.alloc(), path) {
+        Ok(aside) => {
+            let _ = eprintln!(rt; "prestel: {path} is kept as {aside}");
+            Ok(())
+        }
+        Err(fault) => Err(refused(rt, path, fault)),
+    }
 }
 
 /// Opens and locks each file of a node's name that is in the folder.
