@@ -39,6 +39,3 @@ pub use line::TcpLine;
 pub use listener::Listener;
 pub use standard::{OUTPUT_BUFFER, StandardInput, StandardOutput};
 pub use threads::ThreadSpawner;
-
-#[cfg(test)]
-mod tests;

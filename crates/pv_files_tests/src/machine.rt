@@ -1,7 +1,9 @@
+//! The machine's clock, an input that is interrupted, and threads.
 ghost use Rattle.std.specs.Prelude.{◌≡◌, ◌+◌};
 
-use crate::{MachineClock, StandardInput, ThreadSpawner};
+use pv_files::{MachineClock, StandardInput, ThreadSpawner};
 use pv_outside::{CLOCK_END, Clock, Job, Source, Spawner};
+use std::alloc::{AllocError, Global};
 use std::io::{self, ErrorKind, Read};
 use std::sync::Wait;
 use std::test::Fail;
@@ -62,8 +64,9 @@ fn an_interrupted_read_is_no_end(rt: HostRuntime) {
         is_calm: false,
     });
     let mut bytes = [0; 4];
-    assert_eq!(rt; input.read(&mut bytes), Ok(2));
-    assert_eq!(rt; input.read(&mut bytes), Ok(0));
+    for count in [2, 0] {
+        assert_eq!(rt; input.read(&mut bytes), Ok(count));
+    }
 }
 
 /// A job that adds.
@@ -80,17 +83,23 @@ impl Job for Sum {
     }
 }
 
-#[test]
-fn threads_return_in_the_order_of_their_jobs(rt: HostRuntime) -> Result<(), Fail> {
-    let mut jobs = Vec::new(rt.alloc());
+/// Twenty jobs, whose sums begin at 100 and go on by one.
+fn twenty_sums(alloc: Global) -> Result<Vec<Sum>, AllocError> {
+    let mut jobs = Vec::new(alloc);
     for number in 0..20 {
         jobs.push(Sum(number, 100))?;
     }
+    Ok(jobs)
+}
+
+#[test]
+fn threads_return_in_the_order_of_their_jobs(rt: HostRuntime) -> Result<(), Fail> {
+    let jobs = twenty_sums(rt.alloc())?;
     let sums = ThreadSpawner::new().run_all(&rt, rt.alloc(), jobs);
     let sums = sums.ok().ok_or("all run")?;
     assert_eq!(rt; sums.len(), 20);
-    for number in 0..20 {
-        assert_eq!(rt; sums[number], number as u64 + 100);
+    for (number, sum) in sums.iter().enumerate() {
+        assert_eq!(rt; *sum, number as u64 + 100);
     }
     Ok(())
 }

@@ -1,7 +1,8 @@
-ghost use Rattle.std.specs.Prelude.{◌≡◌, [], Some};
+//! Lines and doors over a writer and a listener that report what they hold.
+ghost use Rattle.std.specs.Prelude.{◌≡◌, [], Some, IfSome};
 
-use crate::{Listener, TcpDoor, TcpLine};
-use pv_outside::{Door, Failed, Sink, Source};
+use pv_files::{Listener, TcpDoor, TcpLine};
+use pv_outside::{Door, Sink, Source};
 use std::alloc::Global;
 use std::io::{self, ErrorKind, Read, Write};
 use std::net::OpenStream;
@@ -42,26 +43,28 @@ impl Write for ByThrees {
 impl OpenStream for ByThrees {}
 
 #[test]
-fn a_line_sends_all_of_a_screen(rt: HostRuntime) {
+fn a_line_sends_all_of_a_screen(rt: HostRuntime) -> Result<(), Fail> {
     let keys: &[u8] = b"*1#";
     let mut line = TcpLine::new(keys, ByThrees::new(rt.alloc()));
-    assert_eq!(rt; line.write_all(b"WELCOME"), Ok(()));
-    assert_eq!(rt; line.write_all(b""), Ok(()));
-    assert_eq!(rt; line.write_all(b" TO"), Ok(()));
+    let parts: [&[u8]; 3] = [b"WELCOME", b"", b" TO"];
+    for part in parts {
+        line.write_all(part)?;
+    }
     assert_eq!(rt; line.writer().bytes.as_slice(), b"WELCOME TO".as_slice());
     let mut key = [0; 2];
-    assert_eq!(rt; line.read(&mut key), Ok(2));
-    assert_eq!(rt; &key, b"*1");
+    let read = line.read(&mut key);
+    assert_eq!(rt; (read, key), (Ok(2), *b"*1"));
+    Ok(())
 }
 
-/// A listener whose accepts end as it was told: with a connection, or with an error of this kind.
+/// A listener whose accepts end in a given order: with a connection, or with an error of this kind.
 #[derive(Drop)]
-struct Told<'a> {
+struct Listed<'a> {
     ends: &'a [Option<ErrorKind>],
     alloc: Global,
 }
 
-impl<'a> Listener for Told<'a> {
+impl<'a> Listener for Listed<'a> {
     type Reader = io::Empty;
 
     type Writer = ByThrees;
@@ -80,25 +83,37 @@ impl<'a> Listener for Told<'a> {
     }
 }
 
+/// A peer that gave up, an interruption and a connection; an interruption and a refusal; and a connection.
+const ENDS: [Option<ErrorKind>; 6] = [
+    Some(ErrorKind::ConnectionAborted),
+    Some(ErrorKind::Interrupted),
+    None,
+    Some(ErrorKind::Interrupted),
+    Some(ErrorKind::PermissionDenied),
+    None,
+];
+
+/// The kind of the error of an accept that fails.
+fn refused(door: &mut TcpDoor<Listed>) -> Option<ErrorKind>
+    ensures accepted { IfSome result (λ _. door.new.counts.accepted ≡ door.old.counts.accepted) }
+    ensures finished { IfSome result (λ _. door.new.counts.finished ≡ door.old.counts.finished) }
+{
+    if door.accept().is_ok() {
+        return None;
+    }
+    door.error().map(|error| error.kind())
+}
+
 #[test]
 fn a_peer_that_gave_up_is_no_fault_and_other_errors_are(rt: HostRuntime) -> Result<(), Fail> {
-    let mut door = TcpDoor::of(Told {
-        ends: &[
-            Some(ErrorKind::ConnectionAborted),
-            Some(ErrorKind::Interrupted),
-            None,
-            Some(ErrorKind::Interrupted),
-            Some(ErrorKind::PermissionDenied),
-            None,
-        ],
+    let mut door = TcpDoor::of(Listed {
+        ends: &ENDS,
         alloc: rt.alloc(),
     });
     let line = door.accept()?;
     assert_eq!(rt; door.listener().ends.len(), 3);
     door.finish(line);
-    assert_eq!(rt; door.accept().err(), Some(Failed));
-    let error = door.error().ok_or("it was refused")?;
-    assert_eq!(rt; error.kind(), ErrorKind::PermissionDenied);
+    assert_eq!(rt; refused(&mut door), Some(ErrorKind::PermissionDenied));
     let line = door.accept()?;
     door.finish(line);
     Ok(())

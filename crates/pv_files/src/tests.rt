@@ -1,4 +1,0 @@
-mod files;
-mod lines;
-mod machine;
-mod sockets;
