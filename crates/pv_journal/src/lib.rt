@@ -35,6 +35,3 @@ pub use formatting::format;
 pub use journal::Journal;
 pub use law::{bytes_spell_one_list, settle_then_append};
 pub use storing::{APPEND_CALLS, GATE_CALLS};
-
-#[cfg(test)]
-mod tests;

@@ -35,6 +35,3 @@ pub use line::MemLine;
 pub use pipe::{PIPE_PACKETS, Pipe};
 pub use sink::MemSink;
 pub use source::MemSource;
-
-#[cfg(test)]
-mod tests;

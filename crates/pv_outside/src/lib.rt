@@ -50,6 +50,3 @@ pub use sink::Sink;
 pub use source::Source;
 pub use spawner::{NotRun, Spawner};
 pub use status::Status;
-
-#[cfg(test)]
-mod tests;

@@ -3,7 +3,7 @@ ghost use Rattle.std.proofs.Common.{inl, arith};
 ghost use Rattle.pv_outside.specs.Counts.{Rose};
 ghost use Rattle.pv_outside.specs.declared.failed.TheConstants.{COUNT_END};
 
-use crate::{Disk, Failed, Job, Link, MAX_PACKET, Reports, Spawner};
+use pv_outside::{Disk, Failed, Job, Link, MAX_PACKET, Reports, Spawner};
 use std::alloc::{AllocError, Global};
 use std::sync::Wait;
 use std::test::Fail;
@@ -72,11 +72,9 @@ impl Disk for Silent {
 #[test]
 fn a_disk_need_not_report_anything(rt: HostRuntime) {
     let mut disk = Silent { faults: 0 };
-    assert_eq!(rt; disk.len(), Ok(7));
-    assert_eq!(rt; disk.read(9, &mut [0]), Err(Failed));
-    assert_eq!(rt; disk.write(9, b"a"), Err(Failed));
-    assert_eq!(rt; disk.sync(), Ok(()));
-    assert_eq!(rt; disk.faults, 2);
+    assert_eq!(rt; (disk.len(), disk.sync()), (Ok(7), Ok(())));
+    let (read, written) = (disk.read(9, &mut [0]), disk.write(9, b"a"));
+    assert_eq!(rt; (read, written, disk.faults), (Err(Failed), Err(Failed), 2));
 }
 
 /// A link that reports nothing and loses each packet.
@@ -111,9 +109,8 @@ impl Link for Hole {
 #[test]
 fn a_link_may_lose_each_packet(rt: HostRuntime) {
     let mut hole = Hole { given: 0 };
-    assert_eq!(rt; hole.give(b"a"), Ok(()));
-    assert_eq!(rt; hole.take(&mut [0; MAX_PACKET]), Ok(None));
-    assert_eq!(rt; hole.given, 1);
+    let (given, taken) = (hole.give(b"a"), hole.take(&mut [0; MAX_PACKET]));
+    assert_eq!(rt; (given, taken, hole.given), (Ok(()), Ok(None), 1));
 }
 
 /// A job that returns its number, twice.
@@ -180,7 +177,6 @@ fn jobs_that_are_refused_come_back(rt: HostRuntime) -> Result<(), Fail> {
         (part.done.len(), part.rest.len(), part.memory),
         (0, 3, false)
     );
-    assert_eq!(rt; part.rest[2].0, 3);
-    assert_eq!(rt; spawner.refused, 1);
+    assert_eq!(rt; (part.rest[2].0, spawner.refused), (3, 1));
     Ok(())
 }
