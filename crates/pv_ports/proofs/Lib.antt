@@ -3,6 +3,7 @@ mod Facts
 mod Laws
 mod Numbering
 mod Phases
+mod Sending
 mod Sessions
 mod Settling
 mod Talking

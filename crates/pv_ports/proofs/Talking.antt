@@ -1,8 +1,8 @@
 -- A call in progress, with one thing more that happens.
-use Rattle.std.proofs.Common.{◌≡◌, ℕ, zero, suc, ◌+◌, ◌≤◌, List, [], ◌∷◌, ◌++◌, length, take, Option, Some, None, MatchOption, true, refl, ap, sym, ◌∙◌, subst, arith, append_assoc}
+use Rattle.std.proofs.Common.{◌≡◌, ℕ, ◌+◌, ◌≤◌, List, [], ◌∷◌, ◌++◌, length, take, Option, Some, None, MatchOption, true, refl, ap, sym, ◌∙◌, subst, arith, append_assoc}
 use Rattle.std.specs.Prelude.{◌≢◌}
 use Rattle.std.specs.Io.KnownBytes.{Appends}
-use Rattle.std.proofs.KnownBytes.{Appends-nil, Appends-trans}
+use Rattle.std.proofs.KnownBytes.{Appends-nil}
 use Rattle.pv_outside.specs.declared.limits.Limits.{Limits}
 use Rattle.pv_outside.specs.Counts.{Rose}
 use Rattle.pv_node.specs.declared.rules.Rules as rules
@@ -30,7 +30,9 @@ use Rattle.pv_session.specs.declared.step.Step.TheVariants.{Quiet}
 use Rattle.pv_session.specs.declared.step.Why.{Why}
 use Rattle.pv_session.specs.declared.step.Why.TheVariants as whys
 use Rattle.pv_ports.specs.Talk.{Happening, TurnedAway, Talked, first_talked, Talks, ComesAbout, StoresWish, IsTurnedAway, keys_in, step_bytes, marks_with, marks_after, talked_after}
-use Rattle.pv_ports.specs.Ends.{LineState, InCall, AwaitsKey, IsServedCall, EndsAs, StepGoesOn, EndsFor, EndsAtStep, EndedFor, IsWritten}
+use Rattle.pv_ports.specs.Ends.{LineState, InCall, AwaitsKey, IsServedCall, EndsAs, StepGoesOn, EndsFor, EndsAtStep, EndedFor, EmptiesAtEnd, IsWritten}
+use Rattle.pv_ports.specs.Sending.{IsSent}
+use Rattle.pv_ports.proofs.Sending.{none_written, all_written, written_all, queues_more, sends_on, cut_short}
 use Rattle.pv_ports.proofs.Phases.{Tells, lasts_on, never_full}
 use Rattle.pv_ports.specs.declared.end.CallEnd.{CallEnd}
 use Rattle.pv_ports.specs.declared.end.CallEnd.TheVariants.{WriteFault, ReadFault, Hung}
@@ -38,12 +40,6 @@ use Rattle.pv_ports.specs.declared.end.CallEnd.TheVariants.{WriteFault, ReadFaul
 -- a count that rose since later rose since earlier
 pub rose_since : (first old new : ℕ) → first ≤ old → Rose old new → Rose first new
 rose_since first old new le rose = omega (arith, le, rose)
-
--- a part of the second of two lists, after the first
-take_after : (xs ys : List ℕ) (n k : ℕ) → k ≡ length xs + n → xs ++ take n ys ≡ take k (xs ++ ys)
-take_after [] ys n k is = ap (λ (m : ℕ). take m ys) (omega (arith, is))
-take_after (x ∷ xs) ys n zero is = absurd (omega (arith, is))
-take_after (x ∷ xs) ys n (suc k) is = ap (λ (l : List ℕ). x ∷ l) (take_after xs ys n k (omega (arith, is)))
 
 module _ {S : Type 0} (r : rules.Ghosts S CentreState IrcRequest CentreRecord IrcReply) (limits : Limits) (opening : List CentreRecord) where
   -- what was owed is stored
@@ -97,8 +93,8 @@ noted_by before before' after after' mark mark' old new b a m is = is ∙ (λ i.
 
 module _ {S : Type 0} (r : rules.Ghosts S CentreState IrcRequest CentreRecord IrcReply) (limits : Limits) (opening : List CentreRecord)
     (shown : Option ℕ) (start : Standing CentreRecord) (first : LineState) (h : Happening) (old pass : Standing CentreRecord)
-    (call after : CallState) (marks marks2 rest : List ℕ) (line line2 : LineState) (step : Step)
-    (here : InCall r limits opening shown start first old call marks (keys_in h ++ rest) line)
+    (call after : CallState) (marks marks2 rest queued queued2 : List ℕ) (line line2 : LineState) (step : Step)
+    (here : InCall r limits opening shown start first old call marks (keys_in h ++ rest) queued line)
     (happens : ComesAbout r limits opening shown old call h pass after step)
     (noted : marks2 ≡ marks_after h call.entries after.entries (length opening + length pass.seen) marks)
     (taken : line2.taken ≡ line.taken) (reads : line.read_faults ≤ line2.read_faults)
@@ -121,10 +117,18 @@ module _ {S : Type 0} (r : rules.Ghosts S CentreState IrcRequest CentreRecord Ir
       subst (λ (l : List ℕ). Appends first.taken line2.taken l) (sym (append_assoc here.talked.keys (keys_in h) rest))
       (subst (λ (t : Option (List ℕ)). Appends first.taken t (here.talked.keys ++ (keys_in h ++ rest))) (sym taken) here.keys)
 
-  -- all of its screen was written
-  pub goes_on : after.phase ≢ phases.Over → Appends line.written line2.written (step_bytes step)
-      → InCall r limits opening shown start first pass after marks2 rest line2
-  goes_on lasts written = record {
+  -- its screen is queued after those before it
+  queued_on : IsSent first.written line.written now.sent (queued ++ step_bytes step)
+  queued_on = queues_more first.written line.written here.talked.sent queued (step_bytes step) here.sent
+
+  -- of them a prefix is written
+  sent_on : IsSent line.written line2.written (queued ++ step_bytes step) queued2 → IsSent first.written line2.written now.sent queued2
+  sent_on sent = sends_on first.written line.written line2.written now.sent (queued ++ step_bytes step) queued_on queued2 sent
+
+  -- its screen was queued or written
+  pub goes_on : after.phase ≢ phases.Over → IsSent line.written line2.written (queued ++ step_bytes step) queued2
+      → InCall r limits opening shown start first pass after marks2 rest queued2 line2
+  goes_on lasts sent = record {
     last = step;
     talked = now;
     talks = talks_on;
@@ -132,18 +136,19 @@ module _ {S : Type 0} (r : rules.Ghosts S CentreState IrcRequest CentreRecord Ir
     lasts = lasts;
     marked = marked_on;
     keys = keys_on;
-    sent = Appends-trans first.written line.written line2.written here.talked.sent (step_bytes step) here.sent written;
+    sent = sent_on sent;
     reads = omega (arith, here.reads, reads);
     writes = omega (arith, here.writes, writes);
   }
 
   -- and nothing is owed
-  pub goes_on_at_rest : after.phase ≡ phases.Listening → Appends line.written line2.written (step_bytes step)
-      → AwaitsKey r limits opening shown start first pass after marks2 rest line2
-  goes_on_at_rest listens written = record { in_call = goes_on (λ over. absurd cc) written; listens = listens }
+  pub goes_on_at_rest : after.phase ≡ phases.Listening → IsSent line.written line2.written (queued ++ step_bytes step) queued2
+      → AwaitsKey r limits opening shown start first pass after marks2 rest queued2 line2
+  goes_on_at_rest listens sent = record { in_call = goes_on (λ over. absurd cc) sent; listens = listens }
 
-  -- the write of its screen failed
-  pub cut_off : {D F : Type 0} → (n : ℕ) → Appends line.written line2.written (take n (step_bytes step)) → Rose line.write_faults line2.write_faults
+  -- a write failed
+  pub cut_off : {D F : Type 0} → (n : ℕ) → Appends line.written line2.written (take n (queued ++ step_bytes step))
+      → Rose line.write_faults line2.write_faults
       → IsServedCall r limits opening shown {D = D} {F = F} start first pass marks2 line2 WriteFault
   cut_off n written rose = record {
     pass = pass;
@@ -154,19 +159,15 @@ module _ {S : Type 0} (r : rules.Ghosts S CentreState IrcRequest CentreRecord Ir
     talks = talks_on;
     marked = marked_on;
     keys = keys_on;
-    written = (
-      length here.talked.sent + n,
-      subst (λ (l : List ℕ). Appends first.written line2.written l) (take_after here.talked.sent (step_bytes step) n (length here.talked.sent + n) refl)
-          (Appends-trans first.written line.written line2.written here.talked.sent (take n (step_bytes step)) here.sent written),
-    );
+    written = cut_short first.written line.written line2.written now.sent (queued ++ step_bytes step) queued_on n written;
     ends = (refl, rose_since first.write_faults line.write_faults line2.write_faults here.writes rose);
   }
 
   -- its step ended the call, as at a full centre only if the ask returned that
   pub ends_at : {D F : Type 0} → (count : ℕ) (why : Why) (end : CallEnd D F) → EndsFor why count end → EndedFor why step
-      → (EndedFor whys.Full step → h ≡ TurnedAway count) → Appends line.written line2.written (step_bytes step)
-      → IsServedCall r limits opening shown start first pass marks2 line2 end
-  ends_at {D = D} {F = F} count why end is ended told written = record {
+      → (EndedFor whys.Full step → h ≡ TurnedAway count) → IsSent line.written line2.written (queued ++ step_bytes step) queued2
+      → queued2 ≡ [] → IsServedCall r limits opening shown start first pass marks2 line2 end
+  ends_at {D = D} {F = F} count why end is ended told sent none = record {
     pass = pass;
     call = after;
     last = step;
@@ -175,7 +176,7 @@ module _ {S : Type 0} (r : rules.Ghosts S CentreState IrcRequest CentreRecord Ir
     talks = talks_on;
     marked = marked_on;
     keys = keys_on;
-    written = written_for why end is (Appends-trans first.written line.written line2.written here.talked.sent (step_bytes step) here.sent written);
+    written = written_for why end is (written_all first.written line2.written now.sent queued2 (sent_on sent) none);
     ends = ends_for why end is ended;
   }
     where
@@ -200,35 +201,39 @@ module _ {S : Type 0} (r : rules.Ghosts S CentreState IrcRequest CentreRecord Ir
 
   -- its step may have ended the call, and says whether it did
   pub comes_to : {D F : Type 0} → (count : ℕ) (result : Option (CallEnd D F)) → MatchOption result (StepGoesOn step) (EndsAtStep step count)
-      → Tells step after.phase → Appends line.written line2.written (step_bytes step)
-      → MatchOption result (InCall r limits opening shown start first pass after marks2 rest line2)
+      → Tells step after.phase → IsSent line.written line2.written (queued ++ step_bytes step) queued2 → EmptiesAtEnd step queued2
+      → MatchOption result (InCall r limits opening shown start first pass after marks2 rest queued2 line2)
       (λ end. IsServedCall r limits opening shown start first pass marks2 line2 end)
-  comes_to count None ends tells written = goes_on (lasts_on step after.phase tells ends) written
-  comes_to count (Some end) ends tells written =
-      ends_at count ends.why end ends.ends ends.ended (λ full. absurd (never_full step after.phase tells full)) written
+  comes_to count None ends tells sent none = goes_on (lasts_on step after.phase tells ends) sent
+  comes_to count (Some end) ends tells sent none =
+      ends_at count ends.why end ends.ends ends.ended (λ full. absurd (never_full step after.phase tells full)) sent
+      (none ends.why ends.ended)
 
   -- its step ended the call, since the centre is full
   pub turns_away : {D F : Type 0} → (count : ℕ) (result : Option (CallEnd D F)) → MatchOption result (StepGoesOn step) (EndsAtStep step count)
-      → EndedFor whys.Full step → h ≡ TurnedAway count → Appends line.written line2.written (step_bytes step)
-      → MatchOption result (AwaitsKey r limits opening shown start first pass after marks2 rest line2)
+      → EndedFor whys.Full step → h ≡ TurnedAway count → IsSent line.written line2.written (queued ++ step_bytes step) queued2
+      → EmptiesAtEnd step queued2
+      → MatchOption result (AwaitsKey r limits opening shown start first pass after marks2 rest queued2 line2)
       (λ end. IsServedCall r limits opening shown start first pass marks2 line2 end)
-  turns_away count None ends full told written = absurd (subst StepGoesOn full.1 ends)
-  turns_away count (Some end) ends full told written = ends_at count ends.why end ends.ends ends.ended (λ _. told) written
+  turns_away count None ends full told sent none = absurd (subst StepGoesOn full.1 ends)
+  turns_away count (Some end) ends full told sent none =
+      ends_at count ends.why end ends.ends ends.ended (λ _. told) sent (none ends.why ends.ended)
 
 module _ {S : Type 0} (r : rules.Ghosts S CentreState IrcRequest CentreRecord IrcReply) (limits : Limits) (opening : List CentreRecord)
     (shown : Option ℕ) (start : Standing CentreRecord) (first : LineState) (pass : Standing CentreRecord) (call : CallState)
     (marks : List ℕ) where
   -- nothing is owed
-  pub rests : (rest : List ℕ) (line : LineState) → InCall r limits opening shown start first pass call marks rest line
-      → wish_in call.phase ≡ None → AwaitsKey r limits opening shown start first pass call marks rest line
-  rests rest line here none = record { in_call = here; listens = listening call.phase none here.lasts }
+  pub rests : (rest queued : List ℕ) (line : LineState) → InCall r limits opening shown start first pass call marks rest queued line
+      → wish_in call.phase ≡ None → AwaitsKey r limits opening shown start first pass call marks rest queued line
+  rests rest queued line here none = record { in_call = here; listens = listening call.phase none here.lasts }
 
   -- keys are read
-  pub reads_on : (old keyed new : List ℕ) (line line2 : LineState) → InCall r limits opening shown start first pass call marks old line
+  pub reads_on : (old keyed new queued : List ℕ) (line line2 : LineState)
+      → InCall r limits opening shown start first pass call marks old queued line
       → ((f : Option (List ℕ)) (keys : List ℕ) → Appends f line.taken (keys ++ old) → Appends f line2.taken ((keys ++ keyed) ++ new))
       → line2.written ≡ line.written → line.read_faults ≤ line2.read_faults → line.write_faults ≤ line2.write_faults
-      → InCall r limits opening shown start first pass call marks (keyed ++ new) line2
-  reads_on old keyed new line line2 here keys written reads writes = record {
+      → InCall r limits opening shown start first pass call marks (keyed ++ new) queued line2
+  reads_on old keyed new queued line line2 here keys written reads writes = record {
     last = here.last;
     talked = here.talked;
     talks = here.talks;
@@ -237,15 +242,52 @@ module _ {S : Type 0} (r : rules.Ghosts S CentreState IrcRequest CentreRecord Ir
     marked = here.marked;
     keys = subst (λ (l : List ℕ). Appends first.taken line2.taken l) (append_assoc here.talked.keys keyed new)
         (keys first.taken here.talked.keys here.keys);
-    sent = subst (λ (t : Option (List ℕ)). Appends first.written t here.talked.sent) (sym written) here.sent;
+    sent = subst (λ (t : Option (List ℕ)). IsSent first.written t here.talked.sent queued) (sym written) here.sent;
     reads = omega (arith, here.reads, reads);
     writes = omega (arith, here.writes, writes);
   }
 
+  -- all that was queued is written
+  pub flushes : (rest queued queued2 : List ℕ) (line line2 : LineState) → InCall r limits opening shown start first pass call marks rest queued line
+      → Appends line.written line2.written queued → queued2 ≡ [] → line2.taken ≡ line.taken → line.read_faults ≤ line2.read_faults
+      → line.write_faults ≤ line2.write_faults → InCall r limits opening shown start first pass call marks rest queued2 line2
+  flushes rest queued queued2 line line2 here wrote none taken reads writes = record {
+    last = here.last;
+    talked = here.talked;
+    talks = here.talks;
+    own = here.own;
+    lasts = here.lasts;
+    marked = here.marked;
+    keys = subst (λ (t : Option (List ℕ)). Appends first.taken t (here.talked.keys ++ rest)) (sym taken) here.keys;
+    sent = sends_on first.written line.written line2.written here.talked.sent queued here.sent queued2
+        (all_written line.written line2.written queued queued2 wrote none);
+    reads = omega (arith, here.reads, reads);
+    writes = omega (arith, here.writes, writes);
+  }
+
+  -- or that write failed
+  pub unwritten : {D F : Type 0} → (rest queued : List ℕ) (line line2 : LineState)
+      → InCall r limits opening shown start first pass call marks rest queued line
+      → (n : ℕ) → Appends line.written line2.written (take n queued) → line2.taken ≡ line.taken → Rose line.write_faults line2.write_faults
+      → IsServedCall r limits opening shown {D = D} {F = F} start first pass marks line2 WriteFault
+  unwritten rest queued line line2 here n wrote taken rose = record {
+    pass = pass;
+    call = call;
+    last = here.last;
+    talked = here.talked;
+    rest = rest;
+    talks = here.talks;
+    marked = here.marked;
+    keys = subst (λ (t : Option (List ℕ)). Appends first.taken t (here.talked.keys ++ rest)) (sym taken) here.keys;
+    written = cut_short first.written line.written line2.written here.talked.sent queued here.sent n wrote;
+    ends = (refl, rose_since first.write_faults line.write_faults line2.write_faults here.writes rose);
+  }
+
   -- the caller hangs up
-  pub hangs : {D F : Type 0} → (rest : List ℕ) (line : LineState) → InCall r limits opening shown start first pass call marks rest line
-      → call.phase ≡ phases.Listening → rest ≡ [] → line.ended ≡ true → IsServedCall r limits opening shown {D = D} {F = F} start first pass marks line Hung
-  hangs rest line here listens none ended = record {
+  pub hangs : {D F : Type 0} → (rest queued : List ℕ) (line : LineState) → InCall r limits opening shown start first pass call marks rest queued line
+      → queued ≡ [] → call.phase ≡ phases.Listening → rest ≡ [] → line.ended ≡ true
+      → IsServedCall r limits opening shown {D = D} {F = F} start first pass marks line Hung
+  hangs rest queued line here all listens none ended = record {
     pass = pass;
     call = call;
     last = here.last;
@@ -254,16 +296,17 @@ module _ {S : Type 0} (r : rules.Ghosts S CentreState IrcRequest CentreRecord Ir
     talks = here.talks;
     marked = here.marked;
     keys = here.keys;
-    written = here.sent;
+    written = written_all first.written line.written here.talked.sent queued here.sent all;
     ends = (refl, listens, none, ended);
   }
 
   -- the read of a key fails
-  pub unread : {D F : Type 0} → (old rest : List ℕ) (line line2 : LineState)
-      → InCall r limits opening shown start first pass call marks old line
-      → InCall r limits opening shown start first pass call marks rest line2 → call.phase ≡ phases.Listening → rest ≡ [] → Rose line.read_faults line2.read_faults
+  pub unread : {D F : Type 0} → (old rest queued : List ℕ) (line line2 : LineState)
+      → InCall r limits opening shown start first pass call marks old queued line
+      → InCall r limits opening shown start first pass call marks rest queued line2 → queued ≡ [] → call.phase ≡ phases.Listening → rest ≡ []
+      → Rose line.read_faults line2.read_faults
       → IsServedCall r limits opening shown {D = D} {F = F} start first pass marks line2 ReadFault
-  unread old rest line line2 before here listens none rose = record {
+  unread old rest queued line line2 before here all listens none rose = record {
     pass = pass;
     call = call;
     last = here.last;
@@ -272,55 +315,28 @@ module _ {S : Type 0} (r : rules.Ghosts S CentreState IrcRequest CentreRecord Ir
     talks = here.talks;
     marked = here.marked;
     keys = here.keys;
-    written = here.sent;
+    written = written_all first.written line2.written here.talked.sent queued here.sent all;
     ends = (refl, listens, none, rose_since first.read_faults line.read_faults line2.read_faults before.reads rose);
   }
 
 module _ {S : Type 0} (r : rules.Ghosts S CentreState IrcRequest CentreRecord IrcReply) (limits : Limits) (opening : List CentreRecord)
-    (shown : Option ℕ) (start : Standing CentreRecord) (first : LineState) (call : CallState) (marks keys : List ℕ) (line : LineState)
-    (new : call ≡ new_call) (none : marks ≡ []) (no_keys : keys ≡ []) (taken : line.taken ≡ first.taken)
-    (reads : first.read_faults ≤ line.read_faults) (writes : first.write_faults ≤ line.write_faults) where
-  begun : Talks r limits opening shown start start call Quiet first_talked
-  begun = record { happened = []; talk = (refl, new, refl, refl) }
-
-  unread_yet : Appends first.taken line.taken ([] ++ keys)
-  unread_yet =
-      subst (λ (l : List ℕ). Appends first.taken line.taken l) (sym no_keys)
-      (subst (λ (t : Option (List ℕ)). Appends first.taken t []) (sym taken) (Appends-nil first.taken))
-
-  -- a call was dialled
-  pub dialled : IsCallState new_call → Appends first.written line.written first_talked.sent
-      → AwaitsKey r limits opening shown start first start call marks keys line
-  dialled own written =
-      let listens = ap (λ (c : CallState). c.phase) new in record {
-        in_call = record {
-          last = Quiet;
-          talked = first_talked;
-          talks = begun;
-          own = subst IsCallState (sym new) own;
-          lasts = λ over. absurd cc;
-          marked = none;
-          keys = unread_yet;
-          sent = written;
-          reads = reads;
-          writes = writes;
-        };
-        listens = listens;
-      }
-
-  -- its first screen was not written
-  pub undialled : {D F : Type 0} → (n : ℕ) → Appends first.written line.written (take n first_talked.sent)
-      → Rose first.write_faults line.write_faults
-      → IsServedCall r limits opening shown {D = D} {F = F} start first start marks line WriteFault
-  undialled n written rose = record {
-    pass = start;
-    call = call;
-    last = Quiet;
-    talked = first_talked;
-    rest = keys;
-    talks = begun;
-    marked = none;
-    keys = unread_yet;
-    written = (n, written);
-    ends = (refl, rose);
+    (shown : Option ℕ) (start : Standing CentreRecord) (line : LineState) (call : CallState) (marks keys queued : List ℕ)
+    (new : call ≡ new_call) where
+  -- a call was dialled, and its first screen is queued
+  pub dialled : IsCallState new_call → marks ≡ [] → keys ≡ [] → queued ≡ first_talked.sent
+      → AwaitsKey r limits opening shown start line start call marks keys queued line
+  dialled own none no_keys all = record {
+    in_call = record {
+      last = Quiet;
+      talked = first_talked;
+      talks = record { happened = []; talk = (refl, new, refl, refl) };
+      own = subst IsCallState (sym new) own;
+      lasts = λ over. absurd cc;
+      marked = none;
+      keys = subst (λ (l : List ℕ). Appends line.taken line.taken l) (sym no_keys) (Appends-nil line.taken);
+      sent = none_written line.written line.written first_talked.sent queued refl all;
+      reads = omega arith;
+      writes = omega arith;
+    };
+    listens = ap (λ (c : CallState). c.phase) new;
   }

@@ -1,5 +1,5 @@
 -- A call in progress, and how it ends.
-use Rattle.std.specs.Prelude.{◌≡◌, ◌≢◌, ℕ, Bool, true, List, [], ◌∷◌, ◌++◌, ◌≤◌, take, Option, Some}
+use Rattle.std.specs.Prelude.{◌≡◌, ◌≢◌, ℕ, Bool, true, List, [], ◌∷◌, ◌++◌, ◌≤◌, take, Option, Some, Result, IsErr}
 use Rattle.std.specs.Io.KnownBytes.{Appends}
 use Rattle.pv_outside.specs.declared.limits.Limits.{Limits}
 use Rattle.pv_outside.specs.Counts.{Rose}
@@ -24,6 +24,7 @@ use Rattle.pv_session.specs.declared.step.Step.{Step}
 use Rattle.pv_session.specs.declared.step.Step.TheVariants as steps
 use Rattle.pv_session.specs.declared.step.Wish.{Wish}
 use Rattle.pv_wishes.specs.Wishes.{request_for}
+use Rattle.pv_ports.specs.Sending.{IsSent}
 use Rattle.pv_ports.specs.Talk.{Happening, TurnedAway, Talked, Talks, PassAsks}
 use Rattle.pv_ports.specs.declared.end.CallEnd.{CallEnd}
 use Rattle.pv_ports.specs.declared.end.CallEnd.TheVariants.{Finished, Hung, Refused, Spent, ReadFault, WriteFault, DiskFault, Full, Memory}
@@ -46,9 +47,21 @@ line_of s k line = record {
   write_faults = k.write_faults line;
 }
 
+-- a call that only writes: nothing is read from the line, and a fault is counted
+pub record OnlyWrites {T E : Type 0} (old new : LineState) (result : Result T E) : Type 0 where
+  pub taken : new.taken ≡ old.taken
+  pub ended : new.ended ≡ old.ended
+  pub reads : old.read_faults ≤ new.read_faults
+  pub writes : old.write_faults ≤ new.write_faults
+  pub failed : IsErr result → Rose old.write_faults new.write_faults
+
 -- the last step ended the call for this reason
 abbrev pub EndedFor : Why → Step → Type 0
 EndedFor why step = (screen : Screen) × (step ≡ steps.Ended why screen)
+
+-- at a step that ends its call nothing is queued any more
+abbrev pub EmptiesAtEnd : Step → List ℕ → Type 0
+EmptiesAtEnd step queued = (why : Why) → EndedFor why step → queued ≡ []
 
 -- a step that does not end its call
 abbrev pub StepGoesOn : Step → Type 0
@@ -80,9 +93,10 @@ IsWritten _ old new bytes = Appends old new bytes
 
 module _ {S : Type 0} (r : rules.Ghosts S CentreState IrcRequest CentreRecord IrcReply) (limits : Limits) (opening : List CentreRecord)
     (shown : Option ℕ) where
-  -- A call in progress, since its pass was `start` and its line `first`. These keys were read and are still to be taken.
+  -- A call in progress, since its pass was `start` and its line `first`. These keys were read and are still to be taken, and these bytes were
+  -- made and are still to be written.
   pub record InCall (start : Standing CentreRecord) (first : LineState) (pass : Standing CentreRecord) (call : CallState) (marks : List ℕ)
-      (rest : List ℕ) (line : LineState) : Type 0 where
+      (rest queued : List ℕ) (line : LineState) : Type 0 where
     pub last : Step
     pub talked : Talked
     pub talks : Talks r limits opening shown start pass call last talked
@@ -91,14 +105,14 @@ module _ {S : Type 0} (r : rules.Ghosts S CentreState IrcRequest CentreRecord Ir
     pub lasts : call.phase ≢ Over
     pub marked : marks ≡ talked.marks
     pub keys : Appends first.taken line.taken (talked.keys ++ rest)
-    pub sent : Appends first.written line.written talked.sent
+    pub sent : IsSent first.written line.written talked.sent queued
     pub reads : first.read_faults ≤ line.read_faults
     pub writes : first.write_faults ≤ line.write_faults
 
   -- a call in progress that owes nothing
   pub record AwaitsKey (start : Standing CentreRecord) (first : LineState) (pass : Standing CentreRecord) (call : CallState)
-      (marks : List ℕ) (rest : List ℕ) (line : LineState) : Type 0 where
-    pub in_call : InCall start first pass call marks rest line
+      (marks rest queued : List ℕ) (line : LineState) : Type 0 where
+    pub in_call : InCall start first pass call marks rest queued line
     pub listens : call.phase ≡ Listening
 
   -- what is owed could not be stored, and this is the fault

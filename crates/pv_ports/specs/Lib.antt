@@ -2,6 +2,7 @@ pub mod Ends
 pub mod Lines
 pub mod Port
 pub mod ReadAhead
+pub mod Sending
 pub mod Session
 pub mod SessionEnds
 pub mod Talk

@@ -1,20 +1,20 @@
-ghost use Rattle.std.specs.Prelude.{◌≡◌, ◌≤◌, ℕ, [], ◌∷◌, List, Option, IfSome, IsErr, MatchOption, vec_capacity, false};
+ghost use Rattle.std.specs.Prelude.{◌≡◌, ◌≤◌, ℕ, [], ◌∷◌, ◌++◌, List, Some, Option, IfOk, IfSome, MatchOption, MatchResult, OnOk, vec_capacity, false};
 ghost use Rattle.pv_charge.specs.declared.line.TheConstants.{LAST_MOMENT};
-ghost use Rattle.pv_outside.specs.Counts.{Rose};
-ghost use Rattle.pv_outside.specs.Sink.{Writes};
 ghost use Rattle.pv_live.specs.Pass.{Standing};
 ghost use Rattle.pv_irc.specs.declared.record.CentreRecord.{CentreRecord};
 ghost use Rattle.pv_session.specs.Seat.{state_of};
-ghost use Rattle.pv_session.specs.State.{new_call};
+ghost use Rattle.pv_session.specs.State.{new_call, wish_in};
 ghost use Rattle.pv_ports.specs.declared.port.TheConstants.{MAX_MARKS};
 ghost use Rattle.pv_ports.specs.Talk.{AnswersKey, step_bytes, marks_with};
 ghost use Rattle.pv_session.specs.Callers.{IsCallState};
-ghost use Rattle.pv_ports.specs.Ends.{LineState, line_of, InCall, AwaitsKey, IsServedCall, StepGoesOn, EndsFor, EndsAtStep};
+ghost use Rattle.pv_ports.specs.Ends.{LineState, line_of, OnlyWrites, EmptiesAtEnd, InCall, AwaitsKey, IsServedCall, StepGoesOn, EndsFor, EndsAtStep};
+ghost use Rattle.pv_ports.specs.Sending.{Sends};
 ghost use Rattle.pv_screen.specs.Painting.{screen_bytes};
 ghost use Rattle.pv_session.specs.Messages.{screen_of_blank};
 ghost use Rattle.pv_session.specs.declared.message.Message.TheVariants.{KeyAccount};
 
 use crate::end::CallEnd;
+use crate::outbox::Outbox;
 use crate::port::MAX_MARKS;
 use crate::pressing::{Pressing, press};
 use crate::read_ahead::ReadAhead;
@@ -22,18 +22,17 @@ use pv_irc::{CentreRecord, IrcRules};
 use pv_live::{Live, LiveFault, Pass, Run};
 use pv_node::Rules;
 use pv_outside::{Clock, Disk, Failed, Line};
-use pv_screen::BUFFER;
-use pv_session::{Seat, Step, Why, a_call_owes_what_is_its_own};
+use pv_session::{Seat, Step, Why, Wish, a_call_owes_what_is_its_own};
 use pv_wishes::{paid_by, request_of};
 use std::sync::Wait;
 
-/// What a port keeps of a call: its seat, its marks, the keys that were read ahead, and a buffer for a screen.
+/// What a port keeps of a call: its seat, its marks, the keys that were read ahead, and the screens that are queued.
 #[derive(Drop)]
 pub(crate) struct Hand {
     pub(crate) at: Pressing,
     pub(crate) marks: Vec<u64>,
     pub(crate) keys: ReadAhead,
-    pub(crate) bytes: [u8; BUFFER],
+    pub(crate) outbox: Outbox,
     ghost room: { MAX_MARKS ≤ vec_capacity marks },
 }
 
@@ -79,21 +78,18 @@ fn note(marks: &mut Vec<u64>, before: u16, after: u16, mark: u64)
     }
 }
 
-/// Sends the screen of a step, if it has one.
-fn send<L: Line>(line: &mut L, bytes: &mut [u8; BUFFER], step: &Step) -> Result<(), Failed>
-    ensures written { Writes (L.written line.old) (L.written line.new) result (step_bytes step.now) }
-    ensures failed { IsErr result → Rose (L.write_faults line.old) (L.write_faults line.new) }
-    ensures counted { L.write_faults line.old ≤ L.write_faults line.new }
-
-    // Nothing is read.
-    ensures taken { L.taken line.new ≡ L.taken line.old }
-    ensures ended { L.ended line.new ≡ L.ended line.old }
-    ensures read_faults { L.read_faults line.old ≤ L.read_faults line.new }
+/// Queues the screen of a step, if it has one. The one that ends a call is written at once.
+fn send<L: Line>(line: &mut L, outbox: &mut Outbox, step: &Step) -> Result<(), Failed>
+    ensures sent { Sends result (L.written line.old) (L.written line.new)
+        (outbox.old ++ step_bytes step.now) outbox.new }
+    ensures last { OnOk result (EmptiesAtEnd step.now outbox.new) }
+    ensures only { OnlyWrites (line_of L.Source L.Sink line.old) (line_of L.Source L.Sink line.new) result }
 {
     match step {
-        Step::Show(screen) | Step::Ended(_, screen) => {
-            let count = screen.bytes(bytes);
-            line.say(&bytes[..count])
+        Step::Show(screen) => outbox.queue(line, screen),
+        Step::Ended(_, screen) => {
+            outbox.queue(line, screen)?;
+            outbox.flush(line)
         }
         Step::Quiet | Step::Owe(_) => Ok(()),
     }
@@ -134,10 +130,10 @@ fn take<const C: u8, N: Run<CentreRecord>, D: Disk, L: Line, W: Wait>(
     ensures goes { (shown : Option ℕ) (start : Standing CentreRecord) (first : LineState) (rest : List ℕ)
         → IfSome shown (λ m. moment ≡ m)
         → AwaitsKey ⟦<IrcRules<C> as Rules>⟧ N.limits N.opening shown start first
-        pass.old (state_of hand.old.at.seat) hand.old.marks.items (byte ∷ rest) (line_of L.Source L.Sink line.old)
+        pass.old (state_of hand.old.at.seat) hand.old.marks.items (byte ∷ rest) hand.old.outbox (line_of L.Source L.Sink line.old)
         → MatchOption result
         (InCall ⟦<IrcRules<C> as Rules>⟧ N.limits N.opening shown start first
-        pass.new (state_of hand.new.at.seat) hand.new.marks.items rest (line_of L.Source L.Sink line.new))
+        pass.new (state_of hand.new.at.seat) hand.new.marks.items rest hand.new.outbox (line_of L.Source L.Sink line.new))
         (λ end. IsServedCall ⟦<IrcRules<C> as Rules>⟧ N.limits N.opening shown start first pass.new
         hand.new.marks.items (line_of L.Source L.Sink line.new) end) }
     ensures keys { hand.new.keys ≡ hand.old.keys }
@@ -152,13 +148,57 @@ fn take<const C: u8, N: Run<CentreRecord>, D: Disk, L: Line, W: Wait>(
         hand.at.seat.entries(),
         pass.length(),
     );
-    match send(line, &mut hand.bytes, &hand.at.step) {
+    match send(line, &mut hand.outbox, &hand.at.step) {
         Ok(()) => ending(&hand.at.step, pass.length()),
         Err(Failed) => Some(CallEnd::WriteFault),
     }
 }
 
-/// Has stored what the call owes, and sends the screen of the step that comes of it.
+/// Has stored what the call owes, and queues the screen of the step that comes of it. Nothing is queued before, so that
+/// a stop while the centre is asked leaves this wish alone without its screen.
+fn store<const C: u8, N: Run<CentreRecord>, D: Disk, H: Wait + Drop, L: Line, W: Wait>(
+    rt: &W,
+    centre: &Live<IrcRules<C>, D, N, H>,
+    pass: &mut Pass<IrcRules<C>, N>,
+    hand: &mut Hand,
+    line: &mut L,
+    wish: Wish,
+) -> Option<CallEnd<D>>
+    requires written { hand.old.outbox ≡ [] }
+    requires owed { Some wish ≡ wish_in (state_of hand.old.at.seat).phase }
+    ensures goes { (shown : Option ℕ) (start : Standing CentreRecord) (first : LineState) (rest : List ℕ)
+        → InCall ⟦<IrcRules<C> as Rules>⟧ N.limits N.opening shown start first
+        pass.old (state_of hand.old.at.seat) hand.old.marks.items rest hand.old.outbox (line_of L.Source L.Sink line.old)
+        → MatchOption result
+        (AwaitsKey ⟦<IrcRules<C> as Rules>⟧ N.limits N.opening shown start first
+        pass.new (state_of hand.new.at.seat) hand.new.marks.items rest hand.new.outbox (line_of L.Source L.Sink line.new))
+        (λ end. IsServedCall ⟦<IrcRules<C> as Rules>⟧ N.limits N.opening shown start first pass.new
+        hand.new.marks.items (line_of L.Source L.Sink line.new) end) }
+    ensures keys { hand.new.keys ≡ hand.old.keys }
+    ensures ended { L.ended line.new ≡ L.ended line.old }
+{
+    a_call_owes_what_is_its_own();
+    match centre.ask(rt, pass, &request_of(wish)) {
+        Ok(told) => {
+            let step = hand.at.seat.paid(paid_by(&told.reply));
+            match send(line, &mut hand.outbox, &step) {
+                Ok(()) => None,
+                Err(Failed) => Some(CallEnd::WriteFault),
+            }
+        }
+        Err(LiveFault::Full { count }) => {
+            let step = hand.at.seat.turned_away();
+            match send(line, &mut hand.outbox, &step) {
+                Ok(()) => ending(&step, count),
+                Err(Failed) => Some(CallEnd::WriteFault),
+            }
+        }
+        Err(LiveFault::Disk(failure)) => Some(CallEnd::DiskFault(failure)),
+        Err(LiveFault::Memory { stored }) => Some(CallEnd::Memory { stored }),
+    }
+}
+
+/// Has stored what the call owes, if it owes anything. What is queued is written first.
 fn owe<const C: u8, N: Run<CentreRecord>, D: Disk, H: Wait + Drop, L: Line, W: Wait>(
     rt: &W,
     centre: &Live<IrcRules<C>, D, N, H>,
@@ -168,37 +208,22 @@ fn owe<const C: u8, N: Run<CentreRecord>, D: Disk, H: Wait + Drop, L: Line, W: W
 ) -> Option<CallEnd<D>>
     ensures goes { (shown : Option ℕ) (start : Standing CentreRecord) (first : LineState) (rest : List ℕ)
         → InCall ⟦<IrcRules<C> as Rules>⟧ N.limits N.opening shown start first
-        pass.old (state_of hand.old.at.seat) hand.old.marks.items rest (line_of L.Source L.Sink line.old)
+        pass.old (state_of hand.old.at.seat) hand.old.marks.items rest hand.old.outbox (line_of L.Source L.Sink line.old)
         → MatchOption result
         (AwaitsKey ⟦<IrcRules<C> as Rules>⟧ N.limits N.opening shown start first
-        pass.new (state_of hand.new.at.seat) hand.new.marks.items rest (line_of L.Source L.Sink line.new))
+        pass.new (state_of hand.new.at.seat) hand.new.marks.items rest hand.new.outbox (line_of L.Source L.Sink line.new))
         (λ end. IsServedCall ⟦<IrcRules<C> as Rules>⟧ N.limits N.opening shown start first pass.new
         hand.new.marks.items (line_of L.Source L.Sink line.new) end) }
     ensures keys { hand.new.keys ≡ hand.old.keys }
     ensures ended { L.ended line.new ≡ L.ended line.old }
 {
-    a_call_owes_what_is_its_own();
     let Some(wish) = hand.at.seat.wish() else {
         return None;
     };
-    match centre.ask(rt, pass, &request_of(wish)) {
-        Ok(told) => {
-            let step = hand.at.seat.paid(paid_by(&told.reply));
-            match send(line, &mut hand.bytes, &step) {
-                Ok(()) => None,
-                Err(Failed) => Some(CallEnd::WriteFault),
-            }
-        }
-        Err(LiveFault::Full { count }) => {
-            let step = hand.at.seat.turned_away();
-            match send(line, &mut hand.bytes, &step) {
-                Ok(()) => ending(&step, count),
-                Err(Failed) => Some(CallEnd::WriteFault),
-            }
-        }
-        Err(LiveFault::Disk(failure)) => Some(CallEnd::DiskFault(failure)),
-        Err(LiveFault::Memory { stored }) => Some(CallEnd::Memory { stored }),
+    if let Err(Failed) = hand.outbox.flush(line) {
+        return Some(CallEnd::WriteFault);
     }
+    store(rt, centre, pass, hand, line, wish)
 }
 
 /// Takes a key, and has stored what the call owes then.
@@ -215,10 +240,10 @@ fn turn<const C: u8, N: Run<CentreRecord>, D: Disk, H: Wait + Drop, L: Line, W: 
     ensures goes { (shown : Option ℕ) (start : Standing CentreRecord) (first : LineState) (rest : List ℕ)
         → IfSome shown (λ m. moment ≡ m)
         → AwaitsKey ⟦<IrcRules<C> as Rules>⟧ N.limits N.opening shown start first
-        pass.old (state_of hand.old.at.seat) hand.old.marks.items (byte ∷ rest) (line_of L.Source L.Sink line.old)
+        pass.old (state_of hand.old.at.seat) hand.old.marks.items (byte ∷ rest) hand.old.outbox (line_of L.Source L.Sink line.old)
         → MatchOption result
         (AwaitsKey ⟦<IrcRules<C> as Rules>⟧ N.limits N.opening shown start first
-        pass.new (state_of hand.new.at.seat) hand.new.marks.items rest (line_of L.Source L.Sink line.new))
+        pass.new (state_of hand.new.at.seat) hand.new.marks.items rest hand.new.outbox (line_of L.Source L.Sink line.new))
         (λ end. IsServedCall ⟦<IrcRules<C> as Rules>⟧ N.limits N.opening shown start first pass.new
         hand.new.marks.items (line_of L.Source L.Sink line.new) end) }
     ensures keys { hand.new.keys ≡ hand.old.keys }
@@ -228,6 +253,56 @@ fn turn<const C: u8, N: Run<CentreRecord>, D: Disk, H: Wait + Drop, L: Line, W: 
         return Some(end);
     }
     owe(rt, centre, pass, hand, line)
+}
+
+/// Reads the next key, or ends the call. The read may wait, so nothing is queued.
+fn read_key<const C: u8, N: Run<CentreRecord>, D: Disk, L: Line>(
+    hand: &mut Hand,
+    line: &mut L,
+) -> Result<u8, CallEnd<D>>
+    requires goes_on { L.ended line.old ≡ false }
+    requires written { hand.old.outbox ≡ [] }
+    ensures goes { (shown : Option ℕ) (start pass : Standing CentreRecord) (first : LineState)
+        → AwaitsKey ⟦<IrcRules<C> as Rules>⟧ N.limits N.opening shown start first pass
+        (state_of hand.old.at.seat) hand.old.marks.items hand.old.keys hand.old.outbox (line_of L.Source L.Sink line.old)
+        → MatchResult result
+        (λ byte. AwaitsKey ⟦<IrcRules<C> as Rules>⟧ N.limits N.opening shown start first pass
+        (state_of hand.new.at.seat) hand.new.marks.items (byte ∷ hand.new.keys) hand.new.outbox (line_of L.Source L.Sink line.new))
+        (λ end. IsServedCall ⟦<IrcRules<C> as Rules>⟧ N.limits N.opening shown start first pass
+        hand.new.marks.items (line_of L.Source L.Sink line.new) end) }
+    ensures ended { IfOk result (λ byte. L.ended line.new ≡ false) }
+{
+    match hand.keys.next(line) {
+        Ok(Some(byte)) => Ok(byte),
+        Ok(None) => Err(CallEnd::Hung),
+        Err(Failed) => Err(CallEnd::ReadFault),
+    }
+}
+
+/// The next key, of those that were read ahead or else read now, or the end of the call. What is queued is written
+/// before a read.
+fn next_key<const C: u8, N: Run<CentreRecord>, D: Disk, L: Line>(
+    hand: &mut Hand,
+    line: &mut L,
+) -> Result<u8, CallEnd<D>>
+    requires goes_on { L.ended line.old ≡ false }
+    ensures goes { (shown : Option ℕ) (start pass : Standing CentreRecord) (first : LineState)
+        → AwaitsKey ⟦<IrcRules<C> as Rules>⟧ N.limits N.opening shown start first pass
+        (state_of hand.old.at.seat) hand.old.marks.items hand.old.keys hand.old.outbox (line_of L.Source L.Sink line.old)
+        → MatchResult result
+        (λ byte. AwaitsKey ⟦<IrcRules<C> as Rules>⟧ N.limits N.opening shown start first pass
+        (state_of hand.new.at.seat) hand.new.marks.items (byte ∷ hand.new.keys) hand.new.outbox (line_of L.Source L.Sink line.new))
+        (λ end. IsServedCall ⟦<IrcRules<C> as Rules>⟧ N.limits N.opening shown start first pass
+        hand.new.marks.items (line_of L.Source L.Sink line.new) end) }
+    ensures ended { IfOk result (λ byte. L.ended line.new ≡ false) }
+{
+    if let Some(byte) = hand.keys.take() {
+        return Ok(byte);
+    }
+    if let Err(Failed) = hand.outbox.flush(line) {
+        return Err(CallEnd::WriteFault);
+    }
+    read_key::<C, N, D, L>(hand, line)
 }
 
 /// Takes keys until the call ends.
@@ -250,47 +325,36 @@ pub(crate) fn talk<
     requires goes_on { L.ended line.old ≡ false }
     ensures { (start : Standing CentreRecord) (first : LineState)
         → AwaitsKey ⟦<IrcRules<C> as Rules>⟧ N.limits N.opening (K.moment clock.now) start first pass.old
-        (state_of hand.old.at.seat) hand.old.marks.items hand.old.keys (line_of L.Source L.Sink line.old)
+        (state_of hand.old.at.seat) hand.old.marks.items hand.old.keys hand.old.outbox (line_of L.Source L.Sink line.old)
         → IsServedCall ⟦<IrcRules<C> as Rules>⟧ N.limits N.opening (K.moment clock.now) start first pass.new
         hand.new.marks.items (line_of L.Source L.Sink line.new) result }
 {
     for _ in rt.forever() {
-        match hand.keys.next(line) {
-            Ok(Some(byte)) => {
+        match next_key::<C, N, D, L>(hand, line) {
+            Ok(byte) => {
                 if let Some(end) = turn(rt, centre, pass, hand, line, byte, clock.now()) {
                     return end;
                 }
             }
-            Ok(None) => return CallEnd::Hung,
-            Err(Failed) => return CallEnd::ReadFault,
+            Err(end) => return end,
         }
     }
     unreachable!()
 }
 
-/// Begins a call: a new seat, and the screen that asks for the account.
-pub(crate) fn dial<L: Line>(hand: &mut Hand, line: &mut L) -> Result<(), Failed>
+/// Begins a call: a new seat, and the screen that asks for the account is queued.
+pub(crate) fn dial(hand: &mut Hand)
     ensures seat { state_of hand.new.at.seat ≡ new_call }
     ensures own { IsCallState new_call }
     ensures marks { hand.new.marks.items ≡ [] }
     ensures keys { hand.new.keys ≡ [] }
-
-    // The screen is sent.
-    ensures written { Writes (L.written line.old) (L.written line.new) result
-        (screen_bytes (screen_of_blank KeyAccount)) }
-    ensures failed { IsErr result → Rose (L.write_faults line.old) (L.write_faults line.new) }
-    ensures counted { L.write_faults line.old ≤ L.write_faults line.new }
-
-    // Nothing is read.
-    ensures taken { L.taken line.new ≡ L.taken line.old }
-    ensures ended { L.ended line.new ≡ L.ended line.old }
-    ensures read_faults { L.read_faults line.old ≤ L.read_faults line.new }
+    ensures outbox { hand.new.outbox ≡ screen_bytes (screen_of_blank KeyAccount) }
 {
     a_call_owes_what_is_its_own();
     let (seat, screen) = Seat::dial();
     hand.at.seat = seat;
     hand.marks.clear();
     hand.keys.clear();
-    let count = screen.bytes(&mut hand.bytes);
-    line.say(&hand.bytes[..count])
+    hand.outbox.clear();
+    hand.outbox.add(&screen);
 }

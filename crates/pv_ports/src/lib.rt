@@ -30,6 +30,7 @@ mod edit_end;
 mod editor_port;
 mod end;
 mod law;
+mod outbox;
 mod port;
 mod pressing;
 mod read_ahead;

@@ -3,13 +3,13 @@ ghost use Rattle.pv_ports.specs.Ends.{line_of, IsServedCall};
 
 use crate::call::{Hand, dial, talk};
 use crate::end::CallEnd;
+use crate::outbox::Outbox;
 use crate::pressing::Pressing;
 use crate::read_ahead::ReadAhead;
 use pv_irc::{CentreRecord, IrcRules};
 use pv_live::{Live, Pass, Run};
 use pv_node::Rules;
-use pv_outside::{Clock, Disk, Failed, Line};
-use pv_screen::BUFFER;
+use pv_outside::{Clock, Disk, Line};
 use pv_session::{Seat, Step};
 use std::alloc::{AllocError, Global};
 use std::marker::Model;
@@ -35,7 +35,7 @@ impl<const C: u8, N: Run<CentreRecord>> Model for CallerPort<C, N> {
 }
 
 impl<const C: u8, N: Run<CentreRecord>> CallerPort<C, N> {
-    /// A port of a pass. Room for all marks is taken here.
+    /// A port of a pass. Room for all marks and for what is queued is taken here.
     pub fn new(alloc: Global, pass: Pass<IrcRules<C>, N>) -> Result<CallerPort<C, N>, AllocError>
         ensures { IfOk result (λ port. port ≡ record { pass = pass; marks = [] }) }
     {
@@ -51,7 +51,7 @@ impl<const C: u8, N: Run<CentreRecord>> CallerPort<C, N> {
                 },
                 marks: Vec::with_capacity(alloc, MAX_MARKS)?,
                 keys: ReadAhead::new(),
-                bytes: [0; BUFFER],
+                outbox: Outbox::new(alloc)?,
             },
         })
     }
@@ -83,9 +83,7 @@ impl<const C: u8, N: Run<CentreRecord>> CallerPort<C, N> {
         ensures { IsServedCall ⟦<IrcRules<C> as Rules>⟧ N.limits N.opening (K.moment clock.now) self.old.pass
             (line_of L.Source L.Sink line.old) self.new.pass self.new.marks (line_of L.Source L.Sink line.new) result }
     {
-        match dial(&mut self.hand, line) {
-            Ok(()) => talk(rt, centre, &mut self.pass, &mut self.hand, line, clock),
-            Err(Failed) => CallEnd::WriteFault,
-        }
+        dial(&mut self.hand);
+        talk(rt, centre, &mut self.pass, &mut self.hand, line, clock)
     }
 }

@@ -14,6 +14,6 @@ invariant-loop g l =
     × (g.L.Source.ended l.line ≡ false)
     × ((start : Standing CentreRecord) (first : LineState)
     → AwaitsKey (irc.ghosts (number g.row.C)) g.N.Run.limits g.N.Run.opening (g.K.Clock.moment l.fn.clock) start first l.fn.pass
-    (state_of l.fn.hand.at.seat) l.fn.hand.marks.items l.fn.hand.keys (line_of g.L.Source g.L.Sink l.fn.line)
+    (state_of l.fn.hand.at.seat) l.fn.hand.marks.items l.fn.hand.keys l.fn.hand.outbox (line_of g.L.Source g.L.Sink l.fn.line)
     → AwaitsKey (irc.ghosts (number g.row.C)) g.N.Run.limits g.N.Run.opening (g.K.Clock.moment l.fn.clock) start first l.pass
-    (state_of l.hand.at.seat) l.hand.marks.items l.hand.keys (line_of g.L.Source g.L.Sink l.line))
+    (state_of l.hand.at.seat) l.hand.marks.items l.hand.keys l.hand.outbox (line_of g.L.Source g.L.Sink l.line))
