@@ -1,0 +1,6 @@
+pub mod Input
+pub mod Laws
+pub mod Lines
+pub mod Loading
+pub mod Running
+pub mod Tape
