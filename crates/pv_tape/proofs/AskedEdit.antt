@@ -1,5 +1,6 @@
 -- What is known after an edit of a tape was asked for, from what was decided on it.
-use Rattle.std.proofs.Common.{◌≡◌, ◌⊎◌, inl, inr, ℕ, ◌<◌, List, [], ◌∷◌, ◌++◌, length, take, Option, Some, None, Result, Ok, Err, refl, sym, ap, subst, ◌∙◌, arith}
+use Rattle.std.proofs.Common.{◌≡◌, ◌⊎◌, inl, inr, ℕ, ◌<◌, List, [], ◌∷◌, ◌++◌, length, take, Option, Some, None, Result, Ok, Err, refl}
+use Rattle.std.proofs.Common.{sym, ap, subst, ◌∙◌, arith}
 use Rattle.std.proofs.lemmas.List.{append-nil}
 use Rattle.pv_outside.specs.declared.limits.Limits.{Limits}
 use Rattle.pv_outside.specs.declared.reports.Reports as reports
@@ -29,7 +30,7 @@ use Rattle.pv_journal.proofs.Moments.{only_weaker}
 use Rattle.pv_editor.specs.Say.{number_of_last}
 use Rattle.pv_tape.specs.Loading.{LeavesPrefix}
 
--- what was told, or this
+-- the reply that was returned, or this
 abbrev told_or : {F : Type 0} → Told UdcReply → Result (Told UdcReply) F → Told UdcReply
 told_or other (Ok told) = told
 told_or other (Err fault) = other
@@ -73,8 +74,9 @@ module _ {S D : Type 0} (r : rules.Ghosts S EditList UdcRequest Record UdcReply)
   -- ---- it was refused
 
   -- a reply that is not `Stored` was given at once
-  pub was_answered : (F : Type 0) (d : Decision Record UdcReply) (told : Told UdcReply) → decided ≡ d → CarriesOut r g {F = F} d old new (Ok told)
-      → (told.reply ≡ replies.Stored (length old.state.records) → ⊥) → (new ≡ old) × (decided ≡ Answer told.reply)
+  pub was_answered : (F : Type 0) (d : Decision Record UdcReply) (told : Told UdcReply) → decided ≡ d
+      → CarriesOut r g {F = F} d old new (Ok told) → (told.reply ≡ replies.Stored (length old.state.records) → ⊥)
+      → (new ≡ old) × (decided ≡ Answer told.reply)
   was_answered F (Answer reply) told is carried other =
       (carried.1, is ∙ ap Answer (sym (ap (λ (t : Told UdcReply). t.reply) (ap (told_or told) carried.0))))
   was_answered F (Store edit reply) told is carried other =
@@ -106,7 +108,8 @@ module _ {S D : Type 0} (r : rules.Ghosts S EditList UdcRequest Record UdcReply)
       let same : settled ≡ old = is.same none in
       let state : r.judgement settled.state (Edit editor q wish) ≡ decided =
       ap (λ (p : Parts D EditList Record). r.judgement p.state (Edit editor q wish)) same ∙ judged old.state in
-      leaves_decided decided refl records image (subst (λ (d : Decision Record UdcReply). StandsEither r records (to_store d) image) state stands)
+      leaves_decided decided refl records image
+      (subst (λ (d : Decision Record UdcReply). StandsEither r records (to_store d) image) state stands)
   leaves_asked none records image (inr (settled, Some rec, is, stands)) = absurd (let no : None ≡ Some rec = sym none ∙ is.was in cc)
 
   -- and so a prefix of what was asked for
@@ -117,8 +120,8 @@ module _ {S D : Type 0} (r : rules.Ghosts S EditList UdcRequest Record UdcReply)
 
   -- ---- there was no room
 
-  pub was_full : (F : Type 0) → ((state : EditList) → r.limits_of state ≡ state.limits) → (d : Decision Record UdcReply) (count : ℕ) → decided ≡ d
-      → CarriesOut r g {F = F} d old new (Err (Full count)) → (new ≡ old) × (count ≡ old.state.limits.records)
+  pub was_full : (F : Type 0) → ((state : EditList) → r.limits_of state ≡ state.limits) → (d : Decision Record UdcReply) (count : ℕ)
+      → decided ≡ d → CarriesOut r g {F = F} d old new (Err (Full count)) → (new ≡ old) × (count ≡ old.state.limits.records)
   was_full F limits (Answer reply) count is carried = absurd (let no = carried.0 in cc)
   was_full F limits (Store edit reply) count is carried =
       (carried.same, carried.limit ∙ ap (λ (l : Limits). l.records) (limits old.state))
@@ -137,7 +140,8 @@ module _ {S D : Type 0} (r : rules.Ghosts S EditList UdcRequest Record UdcReply)
       → ((code : Code) → reply ≡ replies.Refused code → ⊥) → ⊥
   only_refused above (replies.Refused code) is other = other code refl
   only_refused above (replies.Again place) is other = not_again above place is
-  only_refused above (replies.Stored place) is other = is_answered old.state.limits old.state.records editor q wish (replies.Stored place) is
+  only_refused above (replies.Stored place) is other =
+      is_answered old.state.limits old.state.records editor q wish (replies.Stored place) is
   only_refused above (replies.Old count) is other = is_answered old.state.limits old.state.records editor q wish (replies.Old count) is
   only_refused above (replies.Early count) is other = is_answered old.state.limits old.state.records editor q wish (replies.Early count) is
 

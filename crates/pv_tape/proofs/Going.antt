@@ -1,10 +1,12 @@
 -- The lines of a tape one by one: what is known of those that are left is known of all.
-use Rattle.std.proofs.Common.{◌≡◌, ℕ, ◌+◌, true, false, List, [], ◌∷◌, length, Option, Some, None, inl, inr, refl, sym, ap, subst, ◌∙◌, arith}
+use Rattle.std.proofs.Common.{◌≡◌, ℕ, ◌+◌, true, false, List, [], ◌∷◌, length, Option, Some, None, inl, inr, refl, sym, ap, subst, ◌∙◌}
+use Rattle.std.proofs.Common.{arith}
 use Rattle.pv_words.specs.Lines.{lines_of}
 use Rattle.pv_words.specs.Parts.{Exactly}
 use Rattle.pv_editor.specs.declared.seat.Working.{Working}
 use Rattle.pv_tape.specs.Lines.{IsTapeLine, IsHead}
-use Rattle.pv_tape.specs.Tape.{TapeEdit, AreGood, AreTape, AreBadAt, IsFirstBad, IsBad, IsTape, IsBadAt, first_line, second_line, can_do, working_after, wish_of, edits_with}
+use Rattle.pv_tape.specs.Tape.{TapeEdit, AreGood, AreTape, AreBadAt, IsFirstBad, IsBad, IsTape, IsBadAt, first_line, second_line, can_do}
+use Rattle.pv_tape.specs.Tape.{working_after, wish_on_line, edits_with}
 use Rattle.pv_tape.specs.declared.head.Head.{Head}
 use Rattle.pv_tape.specs.declared.line.TapeLine.{TapeLine}
 
@@ -19,7 +21,7 @@ module _ (before after : Option Working) (number : ℕ) (text : List ℕ) (texts
   good_before was edits are =
       let line = was.0 in
       let later = subst (λ (w : Option Working). AreGood w (number + 1) texts edits) was.3 are in
-      (edits_with number (wish_of before line) edits, (line, edits, was.1, was.2, later, refl))
+      (edits_with number (wish_on_line before line) edits, (line, edits, was.1, was.2, later, refl))
 
   -- and the first bad one after it is the first from it on
   pub bad_before : WasGood before text after → (bad : ℕ) → IsFirstBad after (number + 1) texts bad

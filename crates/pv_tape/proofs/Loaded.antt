@@ -1,5 +1,6 @@
 -- A run begins, ends after its last line, or stops at one.
-use Rattle.std.proofs.Common.{◌≡◌, ◌⊎◌, inl, inr, ℕ, ◌+◌, ◌-◌, ◌≤◌, List, [], ◌∷◌, ◌++◌, length, take, Option, Some, None, refl, sym, ap, subst, ◌∙◌, arith}
+use Rattle.std.proofs.Common.{◌≡◌, ◌⊎◌, inl, inr, ℕ, ◌+◌, ◌-◌, ◌≤◌, List, [], ◌∷◌, ◌++◌, length, take, Option, Some, None, refl, sym, ap}
+use Rattle.std.proofs.Common.{subst, ◌∙◌, arith}
 use Rattle.std.proofs.lemmas.List.{append-nil}
 use Rattle.std.proofs.Math.Seq.{drop-nil}
 use Rattle.pv_outside.specs.Counts.{Rose}
@@ -18,8 +19,9 @@ use Rattle.pv_udc.specs.EditList.{EditList}
 use Rattle.pv_udc.specs.Requests.{edit_of}
 use Rattle.pv_udc.specs.declared.reply.UdcReply.{UdcReply}
 use Rattle.pv_udc.specs.declared.request.UdcRequest.{UdcRequest}
-use Rattle.pv_tape.specs.Loading.{last_number, wanted_records, progress_after, asked_by_line, asked_records, GainsAll, LeavesPrefix, IsLineStop, IsLoaded, IsStoppedAt, IsLoadEnd}
-use Rattle.pv_tape.specs.Tape.{TapeEdit, AreGood, wish_of, edits_with, second_line}
+use Rattle.pv_tape.specs.Loading.{last_number_of, wanted_records, progress_after, asked_by_line, asked_records, GainsAll, LeavesPrefix}
+use Rattle.pv_tape.specs.Loading.{IsLineStop, IsLoaded, IsStoppedAt, IsLoadEnd}
+use Rattle.pv_tape.specs.Tape.{TapeEdit, AreGood, wish_on_line, edits_with, second_line}
 use Rattle.pv_tape.specs.declared.end.TapeEnd.{TapeEnd}
 use Rattle.pv_tape.specs.declared.end.TapeEnd.TheVariants.{Done, ReadFault, TooLong, BadTape, NotKnown, Refused, Full, DiskFault, Memory}
 use Rattle.pv_tape.specs.declared.head.Head.{Head}
@@ -45,10 +47,10 @@ skipped_gained r g node account n wish below = λ records stands.
     subst (λ (l : List Record). StandsFor r g node l)
     (sym (ap (λ (l : List Record). records ++ l) (edit_skipped account n wish below) ∙ append-nil records)) stands
 
-module _ {S D : Type 0} (r : rules.Ghosts S EditList UdcRequest Record UdcReply) (g : reports.Ghosts D) (head : Head) (edits : List TapeEdit)
-    (old : Parts D EditList Record) where
+module _ {S D : Type 0} (r : rules.Ghosts S EditList UdcRequest Record UdcReply) (g : reports.Ghosts D) (head : Head)
+    (edits : List TapeEdit) (old : Parts D EditList Record) where
   abbrev last : ℕ
-  last = last_number old.state.records head.account
+  last = last_number_of old.state.records head.account
 
   abbrev Going : Parts D EditList Record → Progress → List (List ℕ) → Type 0
   Going new p lines = IsGoing r g head.account head.first last old edits new p lines
@@ -56,10 +58,18 @@ module _ {S D : Type 0} (r : rules.Ghosts S EditList UdcRequest Record UdcReply)
   abbrev LoadEnd : {F : Type 0} → Parts D EditList Record → TapeEnd D F → Type 0
   LoadEnd new end = IsLoadEnd g old.journal.disk new (GainsAll r g old new) old.state.records head edits end
 
-  -- nothing was asked yet
-  pub going_first : (lines : List (List ℕ)) → AreGood None second_line lines edits → LeavesPrefix r g old old (wanted_records old.state.records head edits)
-      → Going old (record { working = None; line = second_line; numbers = record { next = head.first; last = last; stored = 0 } }) lines
-  going_first lines good moments = record {
+  -- the same lines
+  pub going_at : (new : Parts D EditList Record) (p : Progress) (lines others : List (List ℕ)) → lines ≡ others → Going new p lines
+      → Going new p others
+  going_at new p lines others same going = subst (Going new p) same going
+
+  -- how far a run is that has asked nothing yet
+  abbrev first_progress : Progress
+  first_progress = record { working = None; line = second_line; numbers = record { next = head.first; last = last; stored = 0 } }
+
+  pub going_first : (p : Progress) (lines : List (List ℕ)) → p ≡ first_progress → AreGood None second_line lines edits
+      → LeavesPrefix r g old old (wanted_records old.state.records head edits) → Going old p lines
+  going_first p lines is good moments = subst (λ (q : Progress). Going old q lines) (sym is) (record {
     before = [];
     later = edits;
     edits_are = refl;
@@ -68,7 +78,7 @@ module _ {S D : Type 0} (r : rules.Ghosts S EditList UdcRequest Record UdcReply)
     gained = λ records stands. subst (λ (l : List Record). StandsFor r g old l)
         (sym (ap (λ (l : List Record). records ++ l) (drop-nil (last + 1 - head.first)) ∙ append-nil records)) stands;
     moments = moments;
-  }
+  })
 
   -- if no call was made, a crash leaves what there was
   pub none_leaves : ((d : D) (image : List ℕ) → g.left_since d (g.clock d) image → g.may_leave d image ⊎ g.has_forgotten d (g.clock d))
@@ -83,7 +93,7 @@ module _ {S D : Type 0} (r : rules.Ghosts S EditList UdcRequest Record UdcReply)
 
   -- no line is left
   pub going_last : (new : Parts D EditList Record) (p : Progress) → Going new p [] → new.hand ≡ None
-      → p.numbers.last ≡ last_number new.state.records head.account
+      → p.numbers.last ≡ last_number_of new.state.records head.account
       → IsLoaded g old.journal.disk new (GainsAll r g old new) old.state.records head edits p.numbers.stored
       (p.numbers.next - head.first - p.numbers.stored)
   going_last new p going hand last_is =
@@ -102,7 +112,7 @@ module _ {S D : Type 0} (r : rules.Ghosts S EditList UdcRequest Record UdcReply)
       }
     where
       reached : (length going.before ≡ 0) ⊎ (p.numbers.next ≤ p.numbers.last + 1)
-          → (length edits ≡ 0) ⊎ (head.first + length edits ≤ last_number new.state.records head.account + 1)
+          → (length edits ≡ 0) ⊎ (head.first + length edits ≤ last_number_of new.state.records head.account + 1)
       reached (inl none) = inl (ap length
           (going.edits_are ∙ ap (λ (l : List TapeEdit). going.before ++ l) going.good ∙ append-nil going.before) ∙ none)
       reached (inr far) =
@@ -122,7 +132,8 @@ module _ {S D : Type 0} (r : rules.Ghosts S EditList UdcRequest Record UdcReply)
   -- while it was done, a crash left a prefix of what is wanted
   pub line_leaves : (node new : Parts D EditList Record) (p : Progress) (text : List ℕ) (texts : List (List ℕ))
       (going : Going node p (text ∷ texts)) (line : TapeLine) → line ≡ going.good.0
-      → LeavesPrefix r g node new (asked_by_line head.account p line) → LeavesPrefix r g old new (wanted_records old.state.records head edits)
+      → LeavesPrefix r g node new (asked_by_line head.account p line)
+      → LeavesPrefix r g old new (wanted_records old.state.records head edits)
   line_leaves node new p text texts going line same moments =
       moments_next r g head.account head.first last old going new
       (subst (λ (l : TapeLine). LeavesPrefix r g node new (asked_by_line head.account p l)) same moments)
@@ -134,7 +145,8 @@ module _ {S D : Type 0} (r : rules.Ghosts S EditList UdcRequest Record UdcReply)
     abbrev at : EditWish → TapeEdit
     at wish = record { line = p.line; wish = wish }
 
-    edits_then : (wish : EditWish) → going.later ≡ edits_with p.line (Some wish) going.good.1 → edits ≡ going.before ++ at wish ∷ going.good.1
+    edits_then : (wish : EditWish) → going.later ≡ edits_with p.line (Some wish) going.good.1
+        → edits ≡ going.before ++ at wish ∷ going.good.1
     edits_then wish is = going.edits_are ∙ ap (λ (l : List TapeEdit). going.before ++ l) is
 
     gained_still : new ≡ node → GainsAll r g old new (wanted_records old.state.records head going.before)
@@ -142,7 +154,8 @@ module _ {S D : Type 0} (r : rules.Ghosts S EditList UdcRequest Record UdcReply)
         (sym same) going.gained
 
     by_wish : {F : Type 0} (wish : Option EditWish) (end : TapeEnd D F)
-        → going.later ≡ edits_with p.line wish going.good.1 → IsLineStop r g node new head.account p.line p.numbers wish end → LoadEnd new end
+        → going.later ≡ edits_with p.line wish going.good.1 → IsLineStop r g node new head.account p.line p.numbers wish end
+        → LoadEnd new end
     by_wish None end is stop = absurd stop
     by_wish (Some wish) (Refused line code shown) is stop = record {
       before = going.before;
@@ -182,6 +195,6 @@ module _ {S D : Type 0} (r : rules.Ghosts S EditList UdcRequest Record UdcReply)
     by_wish (Some wish) Memory is stop = absurd stop
 
     pub line_stopped : {F : Type 0} (end : TapeEnd D F) (line : TapeLine) → line ≡ going.good.0
-        → IsLineStop r g node new head.account p.line p.numbers (wish_of p.working line) end → LoadEnd new end
-    line_stopped end line same stop = by_wish (wish_of p.working going.good.0) end going.good.5
-        (subst (λ (l : TapeLine). IsLineStop r g node new head.account p.line p.numbers (wish_of p.working l) end) same stop)
+        → IsLineStop r g node new head.account p.line p.numbers (wish_on_line p.working line) end → LoadEnd new end
+    line_stopped end line same stop = by_wish (wish_on_line p.working going.good.0) end going.good.5
+        (subst (λ (l : TapeLine). IsLineStop r g node new head.account p.line p.numbers (wish_on_line p.working l) end) same stop)

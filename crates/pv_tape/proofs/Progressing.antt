@@ -1,5 +1,6 @@
 -- How far a run of a tape is: which edits its lines so far had, and what of them is stored.
-use Rattle.std.proofs.Common.{◌≡◌, ◌⊎◌, inl, inr, ℕ, zero, suc, ◌+◌, ◌-◌, ◌<◌, ◌≤◌, Bool, true, false, List, [], ◌∷◌, ◌++◌, length, take, drop, Option, Some, None, refl, sym, ap, subst, ◌∙◌, arith, append_assoc, length-append}
+use Rattle.std.proofs.Common.{◌≡◌, ◌⊎◌, inl, inr, ℕ, zero, suc, ◌+◌, ◌-◌, ◌<◌, ◌≤◌, Bool, true, false, List, [], ◌∷◌, ◌++◌, length, take}
+use Rattle.std.proofs.Common.{drop, Option, Some, None, refl, sym, ap, subst, ◌∙◌, arith, append_assoc, length-append}
 use Rattle.std.specs.Prelude.{nat_le, if◌then◌else◌}
 use Rattle.std.proofs.lemmas.Bool.{leb-true, leb-false, le-leb, lt-leb}
 use Rattle.std.proofs.lemmas.List.{append-nil}
@@ -15,8 +16,9 @@ use Rattle.pv_udc.specs.Requests.{edit_of}
 use Rattle.pv_udc.specs.declared.reply.UdcReply.{UdcReply}
 use Rattle.pv_udc.specs.declared.request.UdcRequest.{UdcRequest}
 use Rattle.pv_editor.specs.declared.seat.Working.{Working}
-use Rattle.pv_tape.specs.Loading.{edit_records, records_above, asked_records, numbers_after_edit, numbers_after_wish, asked_by_wish, progress_after, asked_by_line, IsLineOn, GainsAll, LeavesPrefix}
-use Rattle.pv_tape.specs.Tape.{TapeEdit, AreGood, edits_with, wish_of}
+use Rattle.pv_tape.specs.Loading.{edit_records, records_above, asked_records, numbers_after_edit, numbers_after_wish, asked_by_wish}
+use Rattle.pv_tape.specs.Loading.{progress_after, asked_by_line, IsLineOn, GainsAll, LeavesPrefix}
+use Rattle.pv_tape.specs.Tape.{TapeEdit, AreGood, edits_with, wish_on_line}
 use Rattle.pv_tape.specs.declared.line.TapeLine.{TapeLine}
 use Rattle.pv_tape.specs.declared.progress.Numbers.{Numbers}
 use Rattle.pv_tape.specs.declared.progress.Progress.{Progress}
@@ -111,7 +113,8 @@ line_on p (Some wish) working =
 pub edit_skipped : (account : ℕ) (n : Numbers) (wish : EditWish) → n.next ≤ n.last → asked_records account n wish ≡ []
 edit_skipped account n wish below = rw (le-leb n.next n.last below) refl
 
-pub numbers_skipped : (n : Numbers) → n.next ≤ n.last → record { next = n.next + 1; last = n.last; stored = n.stored } ≡ numbers_after_edit n
+pub numbers_skipped : (n : Numbers) → n.next ≤ n.last
+    → record { next = n.next + 1; last = n.last; stored = n.stored } ≡ numbers_after_edit n
 numbers_skipped n below = rw (le-leb n.next n.last below) refl
 
 -- another is asked for
@@ -119,7 +122,8 @@ pub edit_asked : (account : ℕ) (n : Numbers) (wish : EditWish) → n.last < n.
     → asked_records account n wish ≡ edit_of account n.next wish ∷ []
 edit_asked account n wish over = rw (lt-leb n.next n.last over) refl
 
-pub numbers_asked : (n : Numbers) → n.last < n.next → record { next = n.next + 1; last = n.next; stored = n.stored + 1 } ≡ numbers_after_edit n
+pub numbers_asked : (n : Numbers) → n.last < n.next
+    → record { next = n.next + 1; last = n.next; stored = n.stored + 1 } ≡ numbers_after_edit n
 numbers_asked n over = rw (lt-leb n.next n.last over) refl
 
 -- ---- the numbers of a run
@@ -152,7 +156,8 @@ module _ (account first last : ℕ) where
     abbrev asked_by : Bool → List Record
     asked_by skips = if skips then [] else edit_of account n.next edit.wish ∷ []
 
-    all_before : edit_records account first (before ++ edit ∷ []) ≡ edit_records account first before ++ edit_of account n.next edit.wish ∷ []
+    all_before : edit_records account first (before ++ edit ∷ [])
+        ≡ edit_records account first before ++ edit_of account n.next edit.wish ∷ []
     all_before = records_append account first before (edit ∷ [])
         ∙ ap (λ (q : ℕ). edit_records account first before ++ edit_of account q edit.wish ∷ []) (sym is.next)
 
@@ -165,7 +170,14 @@ module _ (account first last : ℕ) where
         drop_all (last + 1 - first) (edit_records account first before) (omega (arith, below, size, is.next, is.ahead)) in
         let all : drop (last + 1 - first) (edit_records account first before ++ edit_of account n.next edit.wish ∷ []) ≡ [] =
         drop_all (last + 1 - first) (edit_records account first before ++ edit_of account n.next edit.wish ∷ [])
-        (omega (arith, below, size, is.next, is.ahead, length-append (edit_records account first before) (edit_of account n.next edit.wish ∷ []))) in
+        (omega (
+          arith,
+          below,
+          size,
+          is.next,
+          is.ahead,
+          length-append (edit_records account first before) (edit_of account n.next edit.wish ∷ []),
+        )) in
         ap (drop (last + 1 - first)) all_before ∙ all ∙ sym (append-nil (wanted before) ∙ none)
     wanted_by false test =
         let over : n.last < n.next = leb-false n.next n.last test in
@@ -235,18 +247,18 @@ module _ {S D : Type 0} (r : rules.Ghosts S EditList UdcRequest Record UdcReply)
     line_next = going.good.0
 
     abbrev here : List TapeEdit
-    here = edits_with p.line (wish_of p.working going.good.0) []
+    here = edits_with p.line (wish_on_line p.working going.good.0) []
 
     abbrev asked : List Record
     asked = asked_by_line account p going.good.0
 
     edits_next : edits ≡ (going.before ++ here) ++ going.good.1
     edits_next = going.edits_are ∙ ap (λ (l : List TapeEdit). going.before ++ l)
-        (going.good.5 ∙ edits_split p.line (wish_of p.working going.good.0) going.good.1)
+        (going.good.5 ∙ edits_split p.line (wish_on_line p.working going.good.0) going.good.1)
         ∙ sym (append_assoc going.before here going.good.1)
 
     wanted_next : records_above last account first (going.before ++ here) ≡ records_above last account first going.before ++ asked
-    wanted_next = wanted_more account first last going.before p.numbers p.line going.numbered (wish_of p.working going.good.0)
+    wanted_next = wanted_more account first last going.before p.numbers p.line going.numbered (wish_on_line p.working going.good.0)
 
     -- while it is done, a crash leaves a prefix of what is wanted
     pub moments_next : (new : Parts D EditList Record) → LeavesPrefix r g node new (asked_by_line account p going.good.0)
@@ -281,7 +293,7 @@ module _ {S D : Type 0} (r : rules.Ghosts S EditList UdcRequest Record UdcReply)
           later = going.good.1;
           edits_are = edits_next;
           good = going.good.4;
-          numbered = numbered_more account first last going.before p.numbers p.line going.numbered (wish_of p.working going.good.0);
+          numbered = numbered_more account first last going.before p.numbers p.line going.numbered (wish_on_line p.working going.good.0);
           gained = subst (GainsAll r g old new) (sym wanted_next) (λ records stands.
               subst (λ (l : List Record). StandsFor r g new l) (append_assoc records done asked)
               (gains (records ++ done) (going.gained records stands)));

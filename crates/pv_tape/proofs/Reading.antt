@@ -34,7 +34,8 @@ module _ (text first tail : List ℕ) (split : IsSplit text first tail)
   head_here : (head : Head) → IsHead text head → IsHeadAfter tail head
   head_here head is = subst (λ (later : List ℕ). IsHeadAfter later head) (sym (only is.0 is.1 is.2).1) is.4
 
-  pub head-some : are_same first (codes "TAPE") ≡ true → (result : Option Head) → Exactly (IsHeadAfter tail) result → Exactly (IsHead text) result
+  pub head-some : are_same first (codes "TAPE") ≡ true → (result : Option Head) → Exactly (IsHeadAfter tail) result
+      → Exactly (IsHead text) result
   head-some test None says = record { found = tt; only = λ head is. says.only head (head_here head is) }
   head-some test (Some made) says =
       record { found = (first, tail, split, test, says.found); only = λ head is. says.only head (head_here head is) }

@@ -1,5 +1,6 @@
 -- After any runs of one tape the account has a prefix of its edits, each once.
-use Rattle.std.proofs.Common.{◌≡◌, ℕ, zero, suc, ◌+◌, ◌-◌, ◌<◌, ◌≤◌, Bool, true, false, List, [], ◌∷◌, ◌++◌, length, take, drop, Option, Some, None, refl, sym, ap, subst, ◌∙◌, arith, append_assoc, eqb}
+use Rattle.std.proofs.Common.{◌≡◌, ℕ, zero, suc, ◌+◌, ◌-◌, ◌<◌, ◌≤◌, Bool, true, false, List, [], ◌∷◌, ◌++◌, length, take, drop, Option}
+use Rattle.std.proofs.Common.{Some, None, refl, sym, ap, subst, ◌∙◌, arith, append_assoc, eqb}
 use Rattle.std.specs.Prelude.{◌&&◌, nat_le, filter, slice_get}
 use Rattle.std.proofs.lemmas.Bool.{le-leb, leb-true, leb-false}
 use Rattle.std.proofs.lemmas.List.{append-nil}
@@ -13,8 +14,8 @@ use Rattle.pv_udc.specs.Requests.{edit_of}
 use Rattle.pv_udc.specs.Judgement.{last_edit}
 use Rattle.pv_udc.proofs.CallerLemmas.{last_edit-his, last_edit-others, last_edit-there}
 use Rattle.pv_editor.specs.Say.{number_of_last}
-use Rattle.pv_tape.specs.Laws.{Run, IsWhole, records_after_run, records_after_runs, HasNoEdits, HasNoneBetween, is_from, edits_from}
-use Rattle.pv_tape.specs.Loading.{last_number, edit_records, wanted_records}
+use Rattle.pv_tape.specs.Laws.{Run, IsWhole, records_after_run, records_after_runs, HasNoEdits, HasOnlyOthers, is_from, edits_from}
+use Rattle.pv_tape.specs.Loading.{last_number_of, edit_records, wanted_records}
 use Rattle.pv_tape.specs.Tape.{TapeEdit}
 use Rattle.pv_tape.specs.declared.head.Head.{Head}
 use Rattle.pv_tape.proofs.Progressing.{length_drop, length_records}
@@ -108,7 +109,7 @@ module _ (head : Head) (edits : List TapeEdit) where
   record HasFirst (records : List Record) (k : ℕ) : Type 0 where
     within : k ≤ length all
     edits_are : his records ≡ take k all
-    last : last_number records head.account + 1 - head.first ≡ k
+    last : last_number_of records head.account + 1 - head.first ≡ k
 
   -- another's record changes nothing
   other_keeps : (records : List Record) (k : ℕ) (edit : Record) → is_edit_of head.account edit ≡ false
@@ -132,12 +133,14 @@ module _ (head : Head) (edits : List TapeEdit) where
   next_keeps records k x xs is has =
       let at = split_at k all x xs is in
       let edit = numbered_edit head.account k head.first edits x xs is in
-      let from : is_from head.first (number_in x) ≡ true = ap (is_from head.first) edit.numbered ∙ le-leb head.first (head.first + k) (omega arith) in
-      let last : last_number (records ++ x ∷ []) head.account ≡ head.first + k =
+      let from : is_from head.first (number_in x) ≡ true =
+      ap (is_from head.first) edit.numbered ∙ le-leb head.first (head.first + k) (omega arith) in
+      let last : last_number_of (records ++ x ∷ []) head.account ≡ head.first + k =
       ap number_of_last (last_edit-his records x head.account (head.first + k) edit.his edit.numbered) in
       record {
         within = at.within;
-        edits_are = filter-append _ records (x ∷ []) ∙ rw (edit.his, from) (ap (λ (l : List Record). l ++ x ∷ []) has.edits_are) ∙ sym at.before;
+        edits_are = filter-append _ records (x ∷ [])
+            ∙ rw (edit.his, from) (ap (λ (l : List Record). l ++ x ∷ []) has.edits_are) ∙ sym at.before;
         last = omega (arith, last);
       }
 
@@ -179,7 +182,7 @@ module _ (head : Head) (edits : List TapeEdit) where
         stored.2,
       )
 
-  runs_keep : (runs : List Run) (records : List Record) (k : ℕ) → HasNoneBetween head.account runs → HasFirst records k
+  runs_keep : (runs : List Run) (records : List Record) (k : ℕ) → HasOnlyOthers head.account runs → HasFirst records k
       → (m : ℕ) × HasFirst (records_after_runs head edits records runs) m
   runs_keep [] records k none has = (k, has)
   runs_keep (run ∷ runs) records k none has =
@@ -206,7 +209,7 @@ module _ (head : Head) (edits : List TapeEdit) where
       none_here test x xs edit (λ at rest here. none_passes test xs at edit rest here passes) (test x) refl none place there passes
 
   -- an account without an edit from the first number on has a last number below it
-  last_below : (records : List Record) → 1 ≤ head.first → his records ≡ [] → last_number records head.account < head.first
+  last_below : (records : List Record) → 1 ≤ head.first → his records ≡ [] → last_number_of records head.account < head.first
   last_below records some none = by (last_edit records head.account) refl
     where
       over : (q place : ℕ) → last_edit records head.account ≡ Some (q, place) → (ge : Bool) → nat_le head.first q ≡ ge → q < head.first
@@ -228,21 +231,21 @@ module _ (head : Head) (edits : List TapeEdit) where
   -- ---- the laws
 
   pub runs_leave : (runs : List Run) (records : List Record) → 1 ≤ head.first → his records ≡ []
-      → HasNoneBetween head.account runs → (k : ℕ) × (his (records_after_runs head edits records runs) ≡ take k all)
+      → HasOnlyOthers head.account runs → (k : ℕ) × (his (records_after_runs head edits records runs) ≡ take k all)
   runs_leave runs records some none between =
       let left = runs_keep runs records 0 between (has_none records some none) in
       (left.0, left.1.edits_are)
 
   pub whole_leaves : (runs : List Run) (run : Run) (records : List Record) → 1 ≤ head.first → his records ≡ []
-      → HasNoneBetween head.account runs → HasNoEdits head.account run.others
+      → HasOnlyOthers head.account runs → HasNoEdits head.account run.others
       → IsWhole head edits (records_after_runs head edits records runs) run
       → his (records_after_run head edits (records_after_runs head edits records runs) run) ≡ all
   whole_leaves runs run records some none between others whole =
       let left = runs_keep runs records 0 between (has_none records some none) in
       let before = records_after_runs head edits records runs in
       let last = run_keeps before run left.0 others left.1 in
-      let asked : last_number (before ++ run.others) head.account + 1 - head.first ≡ left.0 =
+      let asked : last_number_of (before ++ run.others) head.account + 1 - head.first ≡ left.0 =
       (others_keep run.others before left.0 others left.1).last in
-      let size = length_drop (last_number (before ++ run.others) head.account + 1 - head.first) all in
+      let size = length_drop (last_number_of (before ++ run.others) head.account + 1 - head.first) all in
       let m : last.0 ≡ length all = last.2 (omega (arith, size, whole, asked)) in
       last.1.edits_are ∙ take_all last.0 all (omega (arith, m))

@@ -13,7 +13,7 @@ use Rattle.pv_udc.specs.EditList.{EditList, with_record}
 use Rattle.pv_udc.specs.declared.reply.UdcReply.{UdcReply}
 use Rattle.pv_udc.specs.declared.request.UdcRequest.{UdcRequest}
 use Rattle.pv_tape.specs.Loading.{wanted_records, GainsAll, LeavesPrefix, IsLoadEnd, IsEditEnd, IsStoppedAt}
-use Rattle.pv_tape.specs.Running.{IsOfHand, LeavesPart, GainsAfter, IsSettledEnd, IsEditsEnd}
+use Rattle.pv_tape.specs.Running.{IsFromHand, LeavesPart, GainsAfter, IsSettledEnd, IsEditsEnd}
 use Rattle.pv_tape.specs.Tape.{TapeEdit}
 use Rattle.pv_tape.specs.declared.end.TapeEnd.{TapeEnd}
 use Rattle.pv_tape.specs.declared.end.TapeEnd.TheVariants.{Done, ReadFault, TooLong, BadTape, NotKnown, Refused, Full, DiskFault, Memory}
@@ -25,7 +25,7 @@ module _ {S D : Type 0} (r : rules.Ghosts S EditList UdcRequest Record UdcReply)
     (after : (state : EditList) (edit : Record) (place : ℕ) → r.after state edit place ≡ with_record state edit)
     (head : Head) (edits : List TapeEdit) (old settled : Parts D EditList Record) where
   -- what was settled was in hand
-  of_hand : (stored : Option Record) → IsSettled r g old settled stored → IsOfHand old.hand stored
+  of_hand : (stored : Option Record) → IsSettled r g old settled stored → IsFromHand old.hand stored
   of_hand None is = inl refl
   of_hand (Some rec) is = inr (sym is.was)
 
@@ -42,7 +42,7 @@ module _ {S D : Type 0} (r : rules.Ghosts S EditList UdcRequest Record UdcReply)
 
   -- the records, perhaps with the one in hand, are a beginning of what the run leaves
   abbrev Left : List Record → List ℕ → Type 0
-  Left records image = (part : Option Record) × IsOfHand old.hand part × (n : ℕ)
+  Left records image = (part : Option Record) × IsFromHand old.hand part × (n : ℕ)
       × Stands r image (records_with records part ++ take n (wanted_records (records_with records part) head edits))
 
   either_left : (hand : Option Record) → old.hand ≡ hand → (records : List Record) (image : List ℕ)
@@ -79,7 +79,8 @@ module _ {S D : Type 0} (r : rules.Ghosts S EditList UdcRequest Record UdcReply)
           stored,
           of_hand stored is,
           left.0,
-          subst (λ (l : List Record). Stands r image (records_with records stored ++ take left.0 (wanted_records l head edits))) same left.1,
+          subst (λ (l : List Record). Stands r image (records_with records stored ++ take left.0 (wanted_records l head edits)))
+              same left.1,
         )) now in
         only_then g {first = old.journal.disk} {second = settled.journal.disk} {third = new.journal.disk}
         (settling_leaves settling records stands) weaker.time weaker.now

@@ -7,20 +7,20 @@ use Rattle.pv_tape.specs.declared.input.InputEnd.TheVariants as ends
 use Rattle.pv_tape.specs.declared.input.TheConstants.{LONGEST_TAPE}
 
 -- the bytes were read, and nothing else
-pub record HasRead (taken_before taken_now left_before left_now : Option (List ℕ)) (text : List ℕ) : Type 0 where
+pub record ReadsText (taken_before taken_now left_before left_now : Option (List ℕ)) (text : List ℕ) : Type 0 where
   pub taken : Appends taken_before taken_now text
   pub left : Consumes left_before left_now text
 
 -- the text is all that a source had left, if it reports what it has
-abbrev pub IsAllLeft : Option (List ℕ) → List ℕ → Type 0
-IsAllLeft None text = Unit {0}
-IsAllLeft (Some left) text = left ≡ text
+abbrev pub IsAllOfSource : Option (List ℕ) → List ℕ → Type 0
+IsAllOfSource None text = Unit {0}
+IsAllOfSource (Some left) text = left ≡ text
 
 -- the text fits, and was read to the end of its source
-pub record IsReadWhole (text : List ℕ) (left : Option (List ℕ)) (ended : Bool) : Type 0 where
+pub record IsWholeTape (text : List ℕ) (left : Option (List ℕ)) (ended : Bool) : Type 0 where
   pub within : length text ≤ LONGEST_TAPE
   pub at_end : IsTrue ended
-  pub all : IsAllLeft left text
+  pub all : IsAllOfSource left text
 
 -- why a text was not read to its end
 abbrev pub IsInputEnd : List ℕ → ℕ → ℕ → InputEnd → Type 0

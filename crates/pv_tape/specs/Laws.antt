@@ -35,8 +35,8 @@ abbrev pub HasNoEdits : ℕ → List Record → Type 0
 HasNoEdits account records = AllByRecursion (λ edit. is_edit_of account edit ≡ false) records
 
 -- no edit of the account comes between the runs
-abbrev pub HasNoneBetween : ℕ → List Run → Type 0
-HasNoneBetween account runs = AllByRecursion (λ run. HasNoEdits account run.others) runs
+abbrev pub HasOnlyOthers : ℕ → List Run → Type 0
+HasOnlyOthers account runs = AllByRecursion (λ run. HasNoEdits account run.others) runs
 
 -- the number is at least this
 abbrev pub is_from : ℕ → Option ℕ → Bool

@@ -46,12 +46,12 @@ IsSaidAfter words.Store text tail = GivesAlone Store tail
 IsSaidAfter words.Drop text tail = Gives (IsOne IsNameText) (λ name. Drop name) tail
 IsSaidAfter words.Other text tail = IsFrameLine text
 
-abbrev pub IsSaid : List ℕ → TapeLine → Type 0
-IsSaid text line = (first tail : List ℕ) × IsSplit text first tail × IsSaidAfter (tape_word first) text tail line
+abbrev pub SaysLine : List ℕ → TapeLine → Type 0
+SaysLine text line = (first tail : List ℕ) × IsSplit text first tail × IsSaidAfter (tape_word first) text tail line
 
 -- what a line of a tape says
 abbrev pub IsTapeLine : List ℕ → TapeLine → Type 0
-IsTapeLine text line = MatchBool (is_comment text) (line ≡ Comment) (IsSaid text line)
+IsTapeLine text line = MatchBool (is_comment text) (line ≡ Comment) (SaysLine text line)
 
 -- ---- the first line
 

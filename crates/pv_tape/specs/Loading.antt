@@ -1,5 +1,6 @@
 -- Which edits of a tape a run asks for, and how their asking ends.
-use Rattle.std.specs.Prelude.{◌≡◌, ◌⊎◌, ℕ, ◌+◌, ◌-◌, ◌≤◌, nat_le, List, [], ◌∷◌, ◌++◌, length, take, drop, Option, Some, None, if◌then◌else◌}
+use Rattle.std.specs.Prelude.{◌≡◌, ◌⊎◌, ℕ, ◌+◌, ◌-◌, ◌≤◌, nat_le, List, [], ◌∷◌, ◌++◌, length, take, drop, Option, Some, None}
+use Rattle.std.specs.Prelude.{if◌then◌else◌}
 use Rattle.pv_outside.specs.Counts.{Rose}
 use Rattle.pv_outside.specs.declared.reports.Reports as reports
 use Rattle.pv_journal.specs.Journal.{LeavesOnly}
@@ -17,7 +18,7 @@ use Rattle.pv_udc.specs.declared.reply.UdcReply.TheVariants as replies
 use Rattle.pv_udc.specs.declared.request.UdcRequest.{UdcRequest}
 use Rattle.pv_udc.specs.declared.request.UdcRequest.TheVariants.{Edit}
 use Rattle.pv_editor.specs.Say.{number_of_last}
-use Rattle.pv_tape.specs.Tape.{TapeEdit, wish_of, working_after}
+use Rattle.pv_tape.specs.Tape.{TapeEdit, wish_on_line, working_after}
 use Rattle.pv_tape.specs.declared.end.TapeEnd.{TapeEnd}
 use Rattle.pv_tape.specs.declared.end.TapeEnd.TheVariants.{Done, Refused, Full, DiskFault}
 use Rattle.pv_tape.specs.declared.head.Head.{Head}
@@ -28,8 +29,8 @@ use Rattle.pv_tape.specs.declared.progress.Progress.{Progress}
 -- ---- the records of a tape
 
 -- an account's last number
-abbrev pub last_number : List Record → ℕ → ℕ
-last_number records account = number_of_last (last_edit records account)
+abbrev pub last_number_of : List Record → ℕ → ℕ
+last_number_of records account = number_of_last (last_edit records account)
 
 -- the records of edits, whose numbers are counted on from this one
 abbrev pub edit_records : ℕ → ℕ → List TapeEdit → List Record
@@ -42,7 +43,7 @@ records_above last account q edits = drop (last + 1 - q) (edit_records account q
 
 -- what a run of a tape asks for at these records: the edits whose numbers are above the account's last
 abbrev pub wanted_records : List Record → Head → List TapeEdit → List Record
-wanted_records records head edits = records_above (last_number records head.account) head.account head.first edits
+wanted_records records head edits = records_above (last_number_of records head.account) head.account head.first edits
 
 -- ---- one line
 
@@ -70,12 +71,12 @@ abbrev pub progress_after : Progress → TapeLine → Progress
 progress_after p line = record {
   working = working_after p.working line;
   line = p.line + 1;
-  numbers = numbers_after_wish p.numbers (wish_of p.working line);
+  numbers = numbers_after_wish p.numbers (wish_on_line p.working line);
 }
 
 -- what a line asks for
 abbrev pub asked_by_line : ℕ → Progress → TapeLine → List Record
-asked_by_line account p line = asked_by_wish account p.numbers (wish_of p.working line)
+asked_by_line account p line = asked_by_wish account p.numbers (wish_on_line p.working line)
 
 -- a line further, and at most an edit
 pub record IsLineOn (old new : Progress) : Type 0 where
@@ -85,7 +86,8 @@ pub record IsLineOn (old new : Progress) : Type 0 where
 
 -- ---- the node
 
-module _ {S D : Type 0} (r : rules.Ghosts S EditList UdcRequest Record UdcReply) (g : reports.Ghosts D) (old new : Parts D EditList Record) where
+module _ {S D : Type 0} (r : rules.Ghosts S EditList UdcRequest Record UdcReply) (g : reports.Ghosts D)
+    (old new : Parts D EditList Record) where
   -- whatever records the node stood for, it stands for these after them now
   abbrev pub GainsAll : List Record → Type 0
   GainsAll more = (records : List Record) → StandsFor r g old records → StandsFor r g new (records ++ more)
@@ -97,18 +99,18 @@ module _ {S D : Type 0} (r : rules.Ghosts S EditList UdcRequest Record UdcReply)
 
   -- why an edit that was asked for is not stored: it was refused, or there are as many records as the limit, and nothing has
   -- changed; or a call of the disk failed, and it is in hand
-  abbrev pub IsLineEnd : {F : Type 0} → ℕ → ℕ → ℕ → EditWish → TapeEnd D F → Type 0
-  IsLineEnd account line q wish (Refused refused code shown) = (new ≡ old) × (refused ≡ line)
+  abbrev pub IsAskEnd : {F : Type 0} → ℕ → ℕ → ℕ → EditWish → TapeEnd D F → Type 0
+  IsAskEnd account line q wish (Refused refused code shown) = (new ≡ old) × (refused ≡ line)
       × (judge old.state.limits old.state.records (Edit account q wish) ≡ Answer (replies.Refused (record { code = code; shown = shown })))
-  IsLineEnd account line q wish (Full count) = (new ≡ old) × (count ≡ old.state.limits.records)
-  IsLineEnd account line q wish (DiskFault failure) = KeepsAll r g old new × (new.hand ≡ Some (edit_of account q wish))
+  IsAskEnd account line q wish (Full count) = (new ≡ old) × (count ≡ old.state.limits.records)
+  IsAskEnd account line q wish (DiskFault failure) = KeepsAll r g old new × (new.hand ≡ Some (edit_of account q wish))
       × Rose (g.faults old.journal.disk) (g.faults new.journal.disk)
-  IsLineEnd account line q wish _ = ⊥
+  IsAskEnd account line q wish _ = ⊥
 
   -- a line that asks for nothing is never in vain
   abbrev pub IsLineStop : {F : Type 0} → ℕ → ℕ → Numbers → Option EditWish → TapeEnd D F → Type 0
   IsLineStop account line n None end = ⊥
-  IsLineStop account line n (Some wish) end = IsLineEnd account line n.next wish end
+  IsLineStop account line n (Some wish) end = IsAskEnd account line n.next wish end
 
 -- ---- all lines
 
@@ -117,7 +119,8 @@ module _ {D : Type 0} (g : reports.Ghosts D) (disk : D) (new : Parts D EditList 
   -- the disk failed, the count of whose faults has risen since this disk, and the edit is in hand.
   abbrev pub IsEditEnd : {F : Type 0} → ℕ → ℕ → TapeEdit → TapeEnd D F → Type 0
   IsEditEnd account q edit (Refused line code shown) = (line ≡ edit.line) × (new.hand ≡ None)
-      × (judge new.state.limits new.state.records (Edit account q edit.wish) ≡ Answer (replies.Refused (record { code = code; shown = shown })))
+      × (judge new.state.limits new.state.records (Edit account q edit.wish)
+      ≡ Answer (replies.Refused (record { code = code; shown = shown })))
   IsEditEnd account q edit (Full count) = (count ≡ new.state.limits.records) × (new.hand ≡ None)
   IsEditEnd account q edit (DiskFault failure) =
       (new.hand ≡ Some (edit_of account q edit.wish)) × Rose (g.faults disk) (g.faults new.journal.disk)
@@ -131,7 +134,7 @@ module _ {D : Type 0} (g : reports.Ghosts D) (disk : D) (new : Parts D EditList 
       pub asked : stored ≡ length (wanted_records records head edits)
       pub gained : Gained (wanted_records records head edits)
       pub hand : new.hand ≡ None
-      pub reached : (length edits ≡ 0) ⊎ (head.first + length edits ≤ last_number new.state.records head.account + 1)
+      pub reached : (length edits ≡ 0) ⊎ (head.first + length edits ≤ last_number_of new.state.records head.account + 1)
 
     -- One edit of a tape is not stored. Of those before it, the ones that were asked for are.
     pub record IsStoppedAt {F : Type 0} (edits : List TapeEdit) (end : TapeEnd D F) : Type 0 where

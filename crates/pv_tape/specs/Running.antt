@@ -13,7 +13,7 @@ use Rattle.pv_udc.specs.EditList.{EditList}
 use Rattle.pv_udc.specs.declared.reply.UdcReply.{UdcReply}
 use Rattle.pv_udc.specs.declared.request.UdcRequest.{UdcRequest}
 use Rattle.pv_editor.specs.Say.{is_password}
-use Rattle.pv_tape.specs.Input.{IsReadWhole}
+use Rattle.pv_tape.specs.Input.{IsWholeTape}
 use Rattle.pv_tape.specs.Loading.{wanted_records, IsLoadEnd}
 use Rattle.pv_tape.specs.Tape.{TapeEdit, IsTape, IsBadAt}
 use Rattle.pv_tape.specs.declared.end.TapeEnd.{TapeEnd}
@@ -22,19 +22,20 @@ use Rattle.pv_tape.specs.declared.head.Head.{Head}
 use Rattle.pv_tape.specs.declared.input.TheConstants.{LONGEST_TAPE}
 
 -- the record that was in hand, or none
-abbrev pub IsOfHand : Option Record → Option Record → Type 0
-IsOfHand hand part = (part ≡ None) ⊎ (part ≡ hand)
+abbrev pub IsFromHand : Option Record → Option Record → Type 0
+IsFromHand hand part = (part ≡ None) ⊎ (part ≡ hand)
 
 -- there is such an account at these records, with this password
 abbrev pub is_known : List Record → Head → Bool
 is_known records head = is_password (account_at records head.account) head.password
 
-module _ {S D : Type 0} (r : rules.Ghosts S EditList UdcRequest Record UdcReply) (g : reports.Ghosts D) (old new : Parts D EditList Record) where
-  -- A crash at any moment of the run leaves the records that there were, perhaps with the one that was in hand, and then a prefix of
-  -- the tape's edits whose numbers are above the account's last among these.
+module _ {S D : Type 0} (r : rules.Ghosts S EditList UdcRequest Record UdcReply) (g : reports.Ghosts D)
+    (old new : Parts D EditList Record) where
+  -- A crash at any moment of the run leaves the records that there were, perhaps with the one that was in hand. After them it leaves
+  -- a prefix of those edits of the tape whose numbers are above the account's last.
   abbrev pub LeavesPart : Head → List TapeEdit → Type 0
   LeavesPart head edits = (records : List Record) → StandsFor r g old records
-      → LeavesOnly g old.journal.disk new.journal.disk (λ image. (part : Option Record) × IsOfHand old.hand part × (n : ℕ)
+      → LeavesOnly g old.journal.disk new.journal.disk (λ image. (part : Option Record) × IsFromHand old.hand part × (n : ℕ)
       × Stands r image (records_with records part ++ take n (wanted_records (records_with records part) head edits)))
 
   -- the node stands for the records that there were, with this one, and for these after them
@@ -43,7 +44,7 @@ module _ {S D : Type 0} (r : rules.Ghosts S EditList UdcRequest Record UdcReply)
 
   -- The record that was in hand was settled: it is stored, or it is not. The asking for the edits of a tape began after that.
   abbrev pub IsSettledEnd : {F : Type 0} → Head → List TapeEdit → TapeEnd D F → Type 0
-  IsSettledEnd head edits end = (part : Option Record) × IsOfHand old.hand part
+  IsSettledEnd head edits end = (part : Option Record) × IsFromHand old.hand part
       × IsLoadEnd g old.journal.disk new (GainsAfter part) (records_with old.state.records part) head edits end
 
   -- how a run of the edits of a tape ends: a call of the disk may also fail in the settling
@@ -53,11 +54,11 @@ module _ {S D : Type 0} (r : rules.Ghosts S EditList UdcRequest Record UdcReply)
   IsEditsEnd head edits end = IsSettledEnd head edits end
 
   -- How a run of a text ends. A bad line is the text's first. A tape of an unknown account does nothing.
-  abbrev pub IsRunOf : {F : Type 0} → List ℕ → TapeEnd D F → Type 0
-  IsRunOf text (BadTape line) = IsBadAt text line × (new ≡ old)
-  IsRunOf text NotKnown = (head : Head) × (edits : List TapeEdit) × IsTape text head edits
+  abbrev pub IsTextRun : {F : Type 0} → List ℕ → TapeEnd D F → Type 0
+  IsTextRun text (BadTape line) = IsBadAt text line × (new ≡ old)
+  IsTextRun text NotKnown = (head : Head) × (edits : List TapeEdit) × IsTape text head edits
       × (is_known old.state.records head ≡ false) × (new ≡ old)
-  IsRunOf text end = (head : Head) × (edits : List TapeEdit) × IsTape text head edits
+  IsTextRun text end = (head : Head) × (edits : List TapeEdit) × IsTape text head edits
       × (is_known old.state.records head ≡ true) × IsEditsEnd head edits end
 
   -- How a run ends that read this text. If it could not be read whole, nothing was done.
@@ -65,4 +66,4 @@ module _ {S D : Type 0} (r : rules.Ghosts S EditList UdcRequest Record UdcReply)
   IsTapeRun text left ended before now ReadFault = (length text ≤ LONGEST_TAPE) × Rose before now × (new ≡ old)
   IsTapeRun text left ended before now TooLong = (length text ≡ LONGEST_TAPE + 1) × (new ≡ old)
   IsTapeRun text left ended before now Memory = (text ≡ []) × (new ≡ old)
-  IsTapeRun text left ended before now end = IsReadWhole text left ended × IsRunOf text end
+  IsTapeRun text left ended before now end = IsWholeTape text left ended × IsTextRun text end

@@ -34,10 +34,10 @@ working_after working (Change change) = option_map (changed_working change) work
 working_after working _ = working
 
 -- the edit that a line asks for, if it asks for one
-abbrev pub wish_of : Option Working → TapeLine → Option EditWish
-wish_of working Store = option_map (λ w. wishes.Put w.name w.frame) working
-wish_of working (Drop name) = Some (wishes.Drop name)
-wish_of working _ = None
+abbrev pub wish_on_line : Option Working → TapeLine → Option EditWish
+wish_on_line working Store = option_map (λ w. wishes.Put w.name w.frame) working
+wish_on_line working (Drop name) = Some (wishes.Drop name)
+wish_on_line working _ = None
 
 -- ---- all lines
 
@@ -56,7 +56,7 @@ abbrev pub AreGood : Option Working → ℕ → List (List ℕ) → List TapeEdi
 AreGood working number [] edits = edits ≡ []
 AreGood working number (text ∷ texts) edits =
     (line : TapeLine) × (later : List TapeEdit) × IsTapeLine text line × (can_do working line ≡ true)
-    × AreGood (working_after working line) (number + 1) texts later × (edits ≡ edits_with number (wish_of working line) later)
+    × AreGood (working_after working line) (number + 1) texts later × (edits ≡ edits_with number (wish_on_line working line) later)
 
 -- the line says nothing that can be done
 abbrev pub IsBad : Option Working → List ℕ → Type 0
@@ -67,7 +67,8 @@ abbrev pub IsFirstBad : Option Working → ℕ → List (List ℕ) → ℕ → T
 IsFirstBad working number [] bad = ⊥
 IsFirstBad working number (text ∷ texts) bad =
     ((bad ≡ number) × IsBad working text)
-    ⊎ ((line : TapeLine) × IsTapeLine text line × (can_do working line ≡ true) × IsFirstBad (working_after working line) (number + 1) texts bad)
+    ⊎ ((line : TapeLine) × IsTapeLine text line × (can_do working line ≡ true)
+    × IsFirstBad (working_after working line) (number + 1) texts bad)
 
 -- ---- a tape
 

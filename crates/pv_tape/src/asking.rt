@@ -1,6 +1,6 @@
 ghost use Rattle.std.specs.Prelude.{◌≡◌, ◌<◌, ◌≤◌, ◌∷◌, [], None, OnOk, IfErr};
 ghost use Rattle.pv_udc.specs.Requests.{edit_of};
-ghost use Rattle.pv_tape.specs.Loading.{last_number, GainsAll, LeavesPrefix, IsLineEnd};
+ghost use Rattle.pv_tape.specs.Loading.{last_number_of, GainsAll, LeavesPrefix, IsAskEnd};
 
 use crate::end::TapeEnd;
 use pv_edits::EditWish;
@@ -18,16 +18,16 @@ pub(crate) fn ask_edit<D: Disk>(
     wish: EditWish,
 ) -> Result<(), TapeEnd<D>>
     requires hand { node.old.hand ≡ None }
-    requires above { last_number node.old.state.records editor < q }
+    requires above { last_number_of node.old.state.records editor < q }
 
     // The edit is stored after the records, and is the editor's last. Or it is not, for the reason that is returned.
     ensures stored { OnOk result (GainsAll ⟦<UdcRules as Rules>⟧ D.Reports node.old node.new
         (edit_of editor q wish ∷ [])) }
-    ensures last { OnOk result (last_number node.new.state.records editor ≡ q) }
+    ensures last { OnOk result (last_number_of node.new.state.records editor ≡ q) }
     ensures hand { OnOk result (node.new.hand ≡ None) }
     ensures limits { node.new.state.limits ≡ node.old.state.limits }
     ensures stopped { IfErr result
-        (IsLineEnd ⟦<UdcRules as Rules>⟧ D.Reports node.old node.new editor line q wish) }
+        (IsAskEnd ⟦<UdcRules as Rules>⟧ D.Reports node.old node.new editor line q wish) }
 
     // A crash at any moment leaves the records, perhaps with the edit. The disk's count of faults never falls.
     ensures moments { LeavesPrefix ⟦<UdcRules as Rules>⟧ D.Reports node.old node.new

@@ -24,10 +24,12 @@ pub(crate) const SECOND_LINE: u32 = 2;
 pub fn check_tape(text: &[u8]) -> Result<Head, u32>
     requires { length text.now ≤ LONGEST_TAPE }
     ensures good { IfOk result (λ head. (edits : List TapeEdit) × IsTape text.now head edits) }
-    ensures some { OnOk result (0 < length text.now) }
-    ensures first { IfOk result (λ head. head.first ≤ LAST_FIRST) }
     ensures only { (head : Head) (edits : List TapeEdit) → IsTape text.now head edits → result ≡ Ok head }
     ensures bad { IfErr result (IsBadAt text.now) }
+
+    // A tape has a first line, whose number is within its range.
+    ensures some { OnOk result (0 < length text.now) }
+    ensures first { IfOk result (λ head. head.first ≤ LAST_FIRST) }
 {
     if text.is_empty() {
         return Err(FIRST_LINE);
@@ -42,7 +44,8 @@ pub fn check_tape(text: &[u8]) -> Result<Head, u32>
 /// The head of a tape, if all lines after its first are good, and otherwise the number of the first bad line.
 fn check_rest(head: Head, text: &[u8]) -> Result<Head, u32>
     requires { length text.now ≤ LONGEST_TAPE }
-    ensures good { OnOk result ((edits : List TapeEdit) × AreGood None second_line (lines_of text.now) edits) }
+    ensures good { OnOk result
+        ((edits : List TapeEdit) × AreGood None second_line (lines_of text.now) edits) }
     ensures head { IfOk result (λ checked. checked ≡ head) }
     ensures only { (edits : List TapeEdit) → AreGood None second_line (lines_of text.now) edits
         → result ≡ Ok head }
@@ -57,9 +60,11 @@ fn check_rest(head: Head, text: &[u8]) -> Result<Head, u32>
 /// The number of the first bad line after the first line of a tape.
 fn first_bad(text: &[u8]) -> Option<u32>
     requires { length text.now ≤ LONGEST_TAPE }
-    ensures found { MatchOption result ((edits : List TapeEdit) × AreGood None second_line (lines_of text.now) edits)
+    ensures found { MatchOption result
+        ((edits : List TapeEdit) × AreGood None second_line (lines_of text.now) edits)
         (IsFirstBad None second_line (lines_of text.now)) }
-    ensures only { (edits : List TapeEdit) → AreGood None second_line (lines_of text.now) edits → result ≡ None }
+    ensures only { (edits : List TapeEdit) → AreGood None second_line (lines_of text.now) edits
+        → result ≡ None }
 {
     let mut working = None;
     let mut number = SECOND_LINE;
@@ -77,8 +82,8 @@ fn first_bad(text: &[u8]) -> Option<u32>
 
 /// Does a line to the working frame, if it is good, and returns whether it is.
 fn take_line(working: &mut Option<Working>, text: &[u8]) -> bool
-    ensures good { result ≡ true → (line : TapeLine) × IsTapeLine text.now line × (can_do working.old line ≡ true)
-        × (working.new ≡ working_after working.old line) }
+    ensures good { result ≡ true → (line : TapeLine) × IsTapeLine text.now line
+        × (can_do working.old line ≡ true) × (working.new ≡ working_after working.old line) }
     ensures only { (line : TapeLine) → IsTapeLine text.now line → can_do working.old line ≡ true
         → (result ≡ true) × (working.new ≡ working_after working.old line) }
     ensures bad { result ≡ false → IsBad working.old text.now }

@@ -2,7 +2,7 @@
 ghost use Rattle.std.specs.Prelude.{◌≡◌, ℕ, ◌+◌, ◌<◌, ◌≤◌, IsTrue, List, ◌++◌, length, take, MatchResult, IfOk, IfErr};
 ghost use Rattle.std.specs.Io.KnownBytes.{Keeps, IsAtEnd};
 ghost use Rattle.pv_outside.specs.Counts.{Rose};
-ghost use Rattle.pv_tape.specs.Input.{HasRead, IsReadWhole, IsInputEnd};
+ghost use Rattle.pv_tape.specs.Input.{ReadsText, IsWholeTape, IsInputEnd};
 
 use pv_outside::{Failed, Source};
 use std::alloc::Global;
@@ -24,9 +24,9 @@ pub(crate) enum InputEnd {
 /// Reads a source to its end, and at most one byte more than a tape may have.
 pub(crate) fn read_tape<S: Source>(alloc: Global, source: &mut S) -> Result<Vec<u8>, InputEnd>
     ensures read { (text : List ℕ)
-        × HasRead (S.taken source.old) (S.taken source.new) (S.left source.old) (S.left source.new) text
+        × ReadsText (S.taken source.old) (S.taken source.new) (S.left source.old) (S.left source.new) text
         × MatchResult result
-        (λ tape. (tape.items ≡ text) × IsReadWhole text (S.left source.old) (S.ended source.new))
+        (λ tape. (tape.items ≡ text) × IsWholeTape text (S.left source.old) (S.ended source.new))
         (IsInputEnd text (S.read_faults source.old) (S.read_faults source.new)) }
     ensures counted { S.read_faults source.old ≤ S.read_faults source.new }
 {
@@ -43,10 +43,10 @@ pub(crate) fn read_tape<S: Source>(alloc: Global, source: &mut S) -> Result<Vec<
 fn fill<S: Source>(source: &mut S, into: &mut [u8]) -> Result<usize, InputEnd>
     requires { length into.old ≡ LONGEST_TAPE + 1 }
     ensures read { (text : List ℕ)
-        × HasRead (S.taken source.old) (S.taken source.new) (S.left source.old) (S.left source.new) text
+        × ReadsText (S.taken source.old) (S.taken source.new) (S.left source.old) (S.left source.new) text
         × MatchResult result
         (λ len. (take len into.new ≡ text) × (length text ≡ len)
-        × IsReadWhole text (S.left source.old) (S.ended source.new))
+        × IsWholeTape text (S.left source.old) (S.ended source.new))
         (IsInputEnd text (S.read_faults source.old) (S.read_faults source.new)) }
     ensures counted { S.read_faults source.old ≤ S.read_faults source.new }
 {
@@ -66,7 +66,7 @@ fn read_from<S: Source>(source: &mut S, into: &mut [u8], at: usize) -> Result<us
     requires { at < length into.old }
     ensures count { IfOk result (λ count. at + count ≤ length into.old) }
     ensures read { IfOk result (λ count. (bytes : List ℕ)
-        × HasRead (S.taken source.old) (S.taken source.new) (S.left source.old) (S.left source.new) bytes
+        × ReadsText (S.taken source.old) (S.taken source.new) (S.left source.old) (S.left source.new) bytes
         × (length bytes ≡ count) × (take (at + count) into.new ≡ take at into.old ++ bytes)) }
 
     // A count of 0 says that the source has ended, and comes only if nothing was left.

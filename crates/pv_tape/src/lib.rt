@@ -36,7 +36,7 @@ pub use head::{Head, LAST_FIRST, head_of};
 pub use input::LONGEST_TAPE;
 pub use law::runs_leave_each_edit_once;
 pub use line::{TapeLine, tape_line_of};
-pub use making::{advance, can_do, wish_of};
+pub use making::{advance, can_do, wish_on_line};
 pub use running::run_tape;
 
 #[cfg(test)]

@@ -1,7 +1,7 @@
 ghost use Rattle.std.specs.Prelude.{◌≡◌, Some, IfSome};
 ghost use Rattle.pv_words.specs.Parts.{Exactly, Gives, GivesAlone, IsOne};
 ghost use Rattle.pv_editor.specs.Parts.{IsNameText};
-ghost use Rattle.pv_tape.specs.Lines.{is_comment, IsTapeLine, IsSaid, IsSaidAfter, IsFrameLine, tape_line, tape_word};
+ghost use Rattle.pv_tape.specs.Lines.{is_comment, IsTapeLine, SaysLine, IsSaidAfter, IsFrameLine, tape_line, tape_word};
 
 use pv_editor::{EditLine, FrameChange, NameText, line_of};
 use pv_page::FrameName;
@@ -64,7 +64,7 @@ pub(crate) enum TapeWord {
 
 /// What a line says that is no comment.
 fn said(text: &[u8]) -> Option<TapeLine>
-    ensures { Exactly (IsSaid text.now) result }
+    ensures { Exactly (SaysLine text.now) result }
 {
     let (first, tail) = split_word(text);
     said_after(word_of(first), text, tail)

@@ -2,8 +2,8 @@
 ghost use Rattle.std.specs.Prelude.{◌≡◌, ℕ, ◌+◌, ◌^◌, ◌-◌, ◌<◌, ◌≤◌, List, length, None, OnOk, IfErr};
 ghost use Rattle.pv_words.specs.Lines.{lines_of};
 ghost use Rattle.pv_tape.specs.Lines.{IsTapeLine};
-ghost use Rattle.pv_tape.specs.Loading.{last_number, wanted_records, asked_records, asked_by_line, asked_by_wish, numbers_after_edit, numbers_after_wish, progress_after, GainsAll, LeavesPrefix, IsLineEnd, IsLineOn, IsLineStop, IsLoadEnd};
-ghost use Rattle.pv_tape.specs.Tape.{TapeEdit, AreGood, IsTape, second_line, wish_of};
+ghost use Rattle.pv_tape.specs.Loading.{last_number_of, wanted_records, asked_records, asked_by_line, asked_by_wish, numbers_after_edit, numbers_after_wish, progress_after, GainsAll, LeavesPrefix, IsAskEnd, IsLineOn, IsLineStop, IsLoadEnd};
+ghost use Rattle.pv_tape.specs.Tape.{TapeEdit, AreGood, IsTape, second_line, wish_on_line};
 ghost use Rattle.pv_tape.specs.declared.head.TheConstants.{LAST_FIRST};
 ghost use Rattle.pv_tape.specs.declared.line.TapeLine.{TapeLine};
 ghost use Rattle.pv_tape.specs.declared.input.TheConstants.{LONGEST_TAPE};
@@ -13,7 +13,7 @@ use crate::checking::SECOND_LINE;
 use crate::end::TapeEnd;
 use crate::head::Head;
 use crate::line::{TapeLine, tape_line_of};
-use crate::making::{advance, wish_of};
+use crate::making::{advance, wish_on_line};
 use crate::progress::{Numbers, Progress};
 use pv_account::AccountNo;
 use pv_edits::EditWish;
@@ -28,6 +28,8 @@ pub(crate) fn load<D: Disk>(node: &mut Node<UdcRules, D>, head: &Head, text: &[u
     requires some { 0 < length text.now }
     requires within { length text.now ≤ LONGEST_TAPE }
     requires first { head.now.first ≤ LAST_FIRST }
+
+    // The asking ends so, and a crash at any moment of it leaves a prefix of what is asked for.
     ensures ends { (edits : List TapeEdit) → IsTape text.now head.now edits
         → IsLoadEnd D.Reports node.old.journal.disk node.new
         (GainsAll ⟦<UdcRules as Rules>⟧ D.Reports node.old node.new) node.old.state.records head.now edits result }
@@ -74,7 +76,7 @@ fn first_progress(state: &UdcState, head: &Head) -> Progress
       line = second_line;
       numbers = record {
         next = head.now.first;
-        last = last_number state.now.records head.now.account;
+        last = last_number_of state.now.records head.now.account;
         stored = 0;
       };
     } }
@@ -84,15 +86,15 @@ fn first_progress(state: &UdcState, head: &Head) -> Progress
         line: SECOND_LINE,
         numbers: Numbers {
             next: head.first,
-            last: last_number(state, head.account),
+            last: last_number_of(state, head.account),
             stored: 0,
         },
     }
 }
 
 /// An editor's last number, 0 at first.
-fn last_number(state: &UdcState, editor: AccountNo) -> u32
-    ensures { result ≡ last_number state.now.records editor }
+fn last_number_of(state: &UdcState, editor: AccountNo) -> u32
+    ensures { result ≡ last_number_of state.now.records editor }
 {
     match state.base().last(editor) {
         Some((q, _)) => q,
@@ -119,7 +121,7 @@ fn load_line<D: Disk>(
     line: &TapeLine,
 ) -> Result<(), TapeEnd<D>>
     requires hand { node.old.hand ≡ None }
-    requires last { progress.old.numbers.last ≡ last_number node.old.state.records account }
+    requires last { progress.old.numbers.last ≡ last_number_of node.old.state.records account }
     requires lines { progress.old.line < 2 ^ 32 - 1 }
     requires numbers { progress.old.numbers.next < 2 ^ 32 - 1 }
     requires stored { progress.old.numbers.stored < 2 ^ 32 - 1 }
@@ -130,12 +132,12 @@ fn load_line<D: Disk>(
     ensures records { OnOk result (GainsAll ⟦<UdcRules as Rules>⟧ D.Reports node.old node.new
         (asked_by_line account progress.old line.now)) }
     ensures hand { OnOk result (node.new.hand ≡ None) }
-    ensures last { OnOk result (progress.new.numbers.last ≡ last_number node.new.state.records account) }
+    ensures last { OnOk result (progress.new.numbers.last ≡ last_number_of node.new.state.records account) }
 
     // Or it is not, for the reason that is returned.
     ensures stopped { IfErr result
         (IsLineStop ⟦<UdcRules as Rules>⟧ D.Reports node.old node.new account progress.old.line
-        progress.old.numbers (wish_of progress.old.working line.now)) }
+        progress.old.numbers (wish_on_line progress.old.working line.now)) }
 
     // A crash at any moment leaves the records, perhaps with what the line asks for. The limits stay.
     ensures moments { LeavesPrefix ⟦<UdcRules as Rules>⟧ D.Reports node.old node.new
@@ -143,7 +145,7 @@ fn load_line<D: Disk>(
     ensures limits { node.new.state.limits ≡ node.old.state.limits }
     ensures counted { D.faults node.old.journal.disk ≤ D.faults node.new.journal.disk }
 {
-    let wish = wish_of(&progress.working, line);
+    let wish = wish_on_line(&progress.working, line);
     load_wish(node, account, progress.line, &mut progress.numbers, wish)?;
     advance(&mut progress.working, line);
     progress.line += 1;
@@ -159,7 +161,7 @@ fn load_wish<D: Disk>(
     wish: Option<EditWish>,
 ) -> Result<(), TapeEnd<D>>
     requires hand { node.old.hand ≡ None }
-    requires last { numbers.old.last ≡ last_number node.old.state.records account }
+    requires last { numbers.old.last ≡ last_number_of node.old.state.records account }
     requires numbers { numbers.old.next < 2 ^ 32 - 1 }
     requires stored { numbers.old.stored < 2 ^ 32 - 1 }
 
@@ -168,7 +170,7 @@ fn load_wish<D: Disk>(
     ensures records { OnOk result (GainsAll ⟦<UdcRules as Rules>⟧ D.Reports node.old node.new
         (asked_by_wish account numbers.old wish)) }
     ensures hand { OnOk result (node.new.hand ≡ None) }
-    ensures last { OnOk result (numbers.new.last ≡ last_number node.new.state.records account) }
+    ensures last { OnOk result (numbers.new.last ≡ last_number_of node.new.state.records account) }
 
     // Or it is not, for the reason that is returned.
     ensures stopped { IfErr result (IsLineStop ⟦<UdcRules as Rules>⟧ D.Reports node.old node.new account
@@ -195,7 +197,7 @@ fn load_edit<D: Disk>(
     wish: EditWish,
 ) -> Result<(), TapeEnd<D>>
     requires hand { node.old.hand ≡ None }
-    requires last { numbers.old.last ≡ last_number node.old.state.records account }
+    requires last { numbers.old.last ≡ last_number_of node.old.state.records account }
     requires numbers { numbers.old.next < 2 ^ 32 - 1 }
     requires stored { numbers.old.stored < 2 ^ 32 - 1 }
 
@@ -204,10 +206,10 @@ fn load_edit<D: Disk>(
     ensures records { OnOk result (GainsAll ⟦<UdcRules as Rules>⟧ D.Reports node.old node.new
         (asked_records account numbers.old wish)) }
     ensures hand { OnOk result (node.new.hand ≡ None) }
-    ensures last { OnOk result (numbers.new.last ≡ last_number node.new.state.records account) }
+    ensures last { OnOk result (numbers.new.last ≡ last_number_of node.new.state.records account) }
 
     // Or it is not, for the reason that is returned.
-    ensures stopped { IfErr result (IsLineEnd ⟦<UdcRules as Rules>⟧ D.Reports node.old node.new account
+    ensures stopped { IfErr result (IsAskEnd ⟦<UdcRules as Rules>⟧ D.Reports node.old node.new account
         line numbers.old.next wish) }
 
     // A crash at any moment leaves the records, perhaps with it. The limits stay.

@@ -1,6 +1,6 @@
 //! The working frame of a tape, line by line.
 ghost use Rattle.std.specs.Prelude.{◌≡◌};
-ghost use Rattle.pv_tape.specs.Tape.{is_storable, can_do, working_after, wish_of};
+ghost use Rattle.pv_tape.specs.Tape.{is_storable, can_do, working_after, wish_on_line};
 
 use crate::line::TapeLine;
 use pv_editor::{FrameChange, Working, has_all_fields, make_change};
@@ -41,8 +41,8 @@ fn is_storable(working: &Option<Working>) -> bool
 }
 
 /// The edit that a line asks for, if it asks for one.
-pub fn wish_of(working: &Option<Working>, line: &TapeLine) -> Option<EditWish>
-    ensures { result ≡ wish_of working.now line.now }
+pub fn wish_on_line(working: &Option<Working>, line: &TapeLine) -> Option<EditWish>
+    ensures { result ≡ wish_on_line working.now line.now }
 {
     match (line, working) {
         (TapeLine::Drop { name }, _) => Some(EditWish::Drop { name: *name }),

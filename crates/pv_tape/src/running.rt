@@ -1,8 +1,8 @@
 //! The run of a tape: it is read and checked whole, and then its edits are asked for in order.
 ghost use Rattle.std.specs.Prelude.{◌≡◌, ℕ, ◌<◌, ◌≤◌, List, length};
-ghost use Rattle.pv_tape.specs.Input.{HasRead};
+ghost use Rattle.pv_tape.specs.Input.{ReadsText};
 ghost use Rattle.pv_tape.specs.declared.input.TheConstants.{LONGEST_TAPE};
-ghost use Rattle.pv_tape.specs.Running.{is_known, IsEditsEnd, IsRunOf, IsTapeRun, LeavesPart};
+ghost use Rattle.pv_tape.specs.Running.{is_known, IsEditsEnd, IsTextRun, IsTapeRun, LeavesPart};
 ghost use Rattle.pv_tape.specs.Tape.{TapeEdit, IsTape};
 ghost use Rattle.pv_tape.specs.declared.head.Head.{Head};
 ghost use Rattle.pv_tape.specs.declared.head.TheConstants.{LAST_FIRST};
@@ -28,7 +28,7 @@ pub fn run_tape<S: Source, D: Disk>(
     // What was read is a text, and the run of that text came to this end. A crash at any moment leaves the records,
     // perhaps with the one in hand, and then a prefix of what the tape asks for.
     ensures runs { (text : List ℕ)
-        × HasRead (S.taken tape.old) (S.taken tape.new) (S.left tape.old) (S.left tape.new) text
+        × ReadsText (S.taken tape.old) (S.taken tape.new) (S.left tape.old) (S.left tape.new) text
         × IsTapeRun ⟦<UdcRules as Rules>⟧ D.Reports node.old node.new text (S.left tape.old)
         (S.ended tape.new) (S.read_faults tape.old) (S.read_faults tape.new) result
         × ((head : Head) (edits : List TapeEdit) → IsTape text head edits
@@ -46,7 +46,7 @@ pub fn run_tape<S: Source, D: Disk>(
 /// Checks a tape, and asks for its edits.
 fn run_text<D: Disk>(node: &mut Node<UdcRules, D>, text: &[u8]) -> TapeEnd<D>
     requires { length text.now ≤ LONGEST_TAPE }
-    ensures runs { IsRunOf ⟦<UdcRules as Rules>⟧ D.Reports node.old node.new text.now result }
+    ensures runs { IsTextRun ⟦<UdcRules as Rules>⟧ D.Reports node.old node.new text.now result }
     ensures moments { (head : Head) (edits : List TapeEdit) → IsTape text.now head edits
         → LeavesPart ⟦<UdcRules as Rules>⟧ D.Reports node.old node.new head edits }
 {

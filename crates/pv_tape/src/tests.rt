@@ -223,6 +223,9 @@ fn records_of(alloc: Global, node: &MemNode) -> Result<Vec<Record>, Fail> {
 /// How many calls of the disk the three edits of the tape make.
 const CALLS: u32 = 12;
 
+/// Numbers of images that a crash may leave: nothing, parts and all of what was not synced.
+const IMAGES: [u8; 5] = [0, 1, 85, 170, 255];
+
 /// The records of a node at which the tape was run whole.
 fn whole_records(alloc: Global) -> Result<Vec<Record>, Fail> {
     let mut node = open(alloc, new_disk(alloc)?, LIMITS)?;
@@ -230,8 +233,7 @@ fn whole_records(alloc: Global) -> Result<Vec<Record>, Fail> {
     records_of(alloc, &node)
 }
 
-/// The records after a run of which so many calls of the disk passed, a crash that left this image, and a run of
-/// the same tape.
+/// The records after a run that was cut after this many calls, a crash that left this image, and a run of the same tape.
 fn records_after_cut(alloc: Global, calls: u32, image: u8) -> Result<Vec<Record>, Fail> {
     let mut node = open(alloc, new_disk(alloc)?, LIMITS)?;
     node.fuse(calls);
@@ -252,7 +254,7 @@ fn a_run_that_was_cut_is_continued(rt: HostRuntime) -> Result<(), Fail> {
     let alloc = rt.alloc();
     let whole = whole_records(alloc)?;
     for calls in 0..CALLS {
-        for image in 0..=u8::MAX {
+        for image in IMAGES {
             assert_eq!(rt;
                 records_after_cut(alloc, calls, image)?,
                 whole,
@@ -263,7 +265,7 @@ fn a_run_that_was_cut_is_continued(rt: HostRuntime) -> Result<(), Fail> {
     Ok(())
 }
 
-/// The records after a run that was cut after so many calls, and a run of the same tape at the same node.
+/// The records after a run that was cut after this many calls, and a run of the same tape at the same node.
 fn records_after_fault(alloc: Global, calls: u32) -> Result<Vec<Record>, Fail> {
     let mut node = open(alloc, new_disk(alloc)?, LIMITS)?;
     node.fuse(calls);

@@ -8,12 +8,14 @@ use Rattle.pv_tape.proofs.asking.ask_edit.Goals as goal
 pub returns-in-Stored-clause-stored : goal.returns-in-Stored-clause-stored
 returns-in-Stored-clause-stored g c =
     (was_stored udc.ghosts g.D.Reports c.args.node.now c.ask.new.self c.args.editor c.args.q c.args.wish (λ state. refl)
-    (λ state edit place. refl) g.row.D-Failure.Denot _ c.in-Ok.told c.in-Stored.field-0 refl (c.in-Ok.ensures.answers c.requires.hand) c.in-Stored.is).gains
+    (λ state edit place. refl) g.row.D-Failure.Denot _ c.in-Ok.told c.in-Stored.field-0 refl
+    (c.in-Ok.ensures.answers c.requires.hand) c.in-Stored.is).gains
 
 pub returns-in-Stored-clause-last : goal.returns-in-Stored-clause-last
 returns-in-Stored-clause-last g c =
     (was_stored udc.ghosts g.D.Reports c.args.node.now c.ask.new.self c.args.editor c.args.q c.args.wish (λ state. refl)
-    (λ state edit place. refl) g.row.D-Failure.Denot _ c.in-Ok.told c.in-Stored.field-0 refl (c.in-Ok.ensures.answers c.requires.hand) c.in-Stored.is).last
+    (λ state edit place. refl) g.row.D-Failure.Denot _ c.in-Ok.told c.in-Stored.field-0 refl
+    (c.in-Ok.ensures.answers c.requires.hand) c.in-Stored.is).last
 
 pub returns-in-Stored-clause-moments : goal.returns-in-Stored-clause-moments
 returns-in-Stored-clause-moments g c =
@@ -24,7 +26,8 @@ returns-in-Stored-clause-moments g c =
 pub returns-in-Refused-clause-stopped : goal.returns-in-Refused-clause-stopped
 returns-in-Refused-clause-stopped g c =
     let was = was_answered udc.ghosts g.D.Reports c.args.node.now c.ask.new.self c.args.editor c.args.q c.args.wish (λ state. refl)
-    (λ state edit place. refl) g.row.D-Failure.Denot _ c.in-Ok.told refl (c.in-Ok.ensures.answers c.requires.hand) (λ stored. let is = c.in-Refused.is in absurd cc) in
+    (λ state edit place. refl) g.row.D-Failure.Denot _ c.in-Ok.told refl (c.in-Ok.ensures.answers c.requires.hand)
+    (λ stored. let is = c.in-Refused.is in absurd cc) in
     (was.0, refl, rw c.in-Refused.is (was.1 ∙ ap Answer c.in-Refused.is))
 
 pub returns-in-Refused-clause-moments : goal.returns-in-Refused-clause-moments

@@ -24,7 +24,8 @@ loop-rest-preserved c =
           (subst (λ (l : List (List ℕ)). AreGood before number l all.0) (sym c.first_line.ensures.line) all.1);
       bad = λ line is.
           c.loop-rest.invariant.bad line
-          (subst (λ (l : List (List ℕ)). IsFirstBad before number l line) (sym c.first_line.ensures.line) (bad_before before after number text texts was line is));
+          (subst (λ (l : List (List ℕ)). IsFirstBad before number l line) (sym c.first_line.ensures.line)
+          (bad_before before after number text texts was line is));
       only = λ all are.
           let left = c.loop-rest.invariant.only all are in
           good_later before after number text texts (λ line is can. (c.if-not-take_line.ensures.only line is can).1) left.0

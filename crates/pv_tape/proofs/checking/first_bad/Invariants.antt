@@ -10,7 +10,8 @@ invariant-loop-rest l = record {
   good : (edits : List TapeEdit) → AreGood l.working l.number (lines_of l.rest) edits
       → (all : List TapeEdit) × AreGood None second_line (lines_of l.text) all;
   bad : (line : ℕ) → IsFirstBad l.working l.number (lines_of l.rest) line → IsFirstBad None second_line (lines_of l.text) line;
-  only : (all : List TapeEdit) → AreGood None second_line (lines_of l.text) all → (edits : List TapeEdit) × AreGood l.working l.number (lines_of l.rest) edits;
+  only : (all : List TapeEdit) → AreGood None second_line (lines_of l.text) all
+      → (edits : List TapeEdit) × AreGood l.working l.number (lines_of l.rest) edits;
   number : l.number + length l.rest ≤ second_line + LONGEST_TAPE;
 }
 

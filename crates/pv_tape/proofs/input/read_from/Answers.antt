@@ -9,7 +9,8 @@ returns-clause-read g c =
     let e = c.read.ensures in
     let at = c.args.at in
     let into = c.args.into.now in
-    let fits : IfOk c.read.result (λ n. n ≤ length c.read.new.into) = subst (λ (k : ℕ). IfOk c.read.result (λ n. n ≤ k)) (sym c.read.auto.into) e.within in
+    let fits : IfOk c.read.result (λ n. n ≤ length c.read.new.into) =
+    subst (λ (k : ℕ). IfOk c.read.result (λ n. n ≤ k)) (sym c.read.auto.into) e.within in
     given_from c.read.result _ _ _ _ at into c.read.new.into (omega arith) fits e.taken e.left
 
 pub returns-clause-only_at_end : goal.returns-clause-only_at_end

@@ -2,11 +2,10 @@ use Rattle.std.proofs.Common.{◌≡◌, ℕ, None, ◌∷◌, [], List, length,
 use Rattle.pv_udc.specs.EditList.{EditList}
 use Rattle.pv_udc.specs.contracts.rules.UdcRulesRules.TheImpl as udc
 use Rattle.pv_words.specs.Lines.{lines_of}
-use Rattle.pv_tape.specs.Loading.{last_number}
-use Rattle.pv_tape.specs.Tape.{TapeEdit, second_line}
+use Rattle.pv_tape.specs.Loading.{last_number_of}
+use Rattle.pv_tape.specs.Tape.{second_line}
 use Rattle.pv_tape.specs.declared.progress.Progress.{Progress}
-use Rattle.pv_tape.proofs.Loaded.{going_first, going_last, line_done, line_leaves, line_stopped, none_leaves, no_lines}
-use Rattle.pv_tape.proofs.Progressing.{IsGoing}
+use Rattle.pv_tape.proofs.Loaded.{going_at, going_first, going_last, line_done, line_leaves, line_stopped, none_leaves, no_lines}
 use Rattle.pv_tape.proofs.loading.load_lines.Goals as goal
 
 -- nothing was asked yet
@@ -15,16 +14,13 @@ loop-rest-init g c =
     let is = c.first_progress-progress.ensures ∙ ap (λ (s : EditList). record {
       working = None;
       line = second_line;
-      numbers = record { next = c.args.head.now.first; last = last_number s.records c.args.head.now.account; stored = 0 };
+      numbers = record { next = c.args.head.now.first; last = last_number_of s.records c.args.head.now.account; stored = 0 };
     }) c.state.ensures in
     record {
       going = λ edits good.
-          subst (λ (p : Progress). IsGoing udc.ghosts g.D.Reports c.args.head.now.account c.args.head.now.first
-          (last_number c.args.node.now.state.records c.args.head.now.account) c.args.node.now edits c.args.node.now p (lines_of c.args.text.now))
-          (sym is)
-          (going_first udc.ghosts g.D.Reports c.args.head.now edits c.args.node.now (lines_of c.args.text.now) good
+          going_first udc.ghosts g.D.Reports c.args.head.now edits c.args.node.now _ (lines_of c.args.text.now) is good
           (none_leaves udc.ghosts g.D.Reports c.args.head.now edits c.args.node.now g.met.D.Disk.only_now g.met.D.Disk.now_is_known
-          c.requires.hand _));
+          c.requires.hand _);
       hand = c.requires.hand;
       last = ap (λ (p : Progress). p.numbers.last) is;
       limits = refl;
@@ -42,8 +38,7 @@ loop-rest-preserved g c =
     let on = c.in-Ok.ensures.on in
     record {
       going = λ edits good.
-          let was = subst (λ (ls : List (List ℕ)). IsGoing udc.ghosts g.D.Reports c.args.head.now.account c.args.head.now.first
-          (last_number c.args.node.now.state.records c.args.head.now.account) c.args.node.now edits c.loop-rest.node c.loop-rest.progress ls)
+          let was = going_at udc.ghosts g.D.Reports c.args.head.now edits c.args.node.now c.loop-rest.node c.loop-rest.progress _ _
           c.first_line.ensures.line (inv.going edits good) in
           line_done udc.ghosts g.D.Reports c.args.head.now edits c.args.node.now c.loop-rest.node c.load_line.new.node c.loop-rest.progress
           c.load_line.new.progress c.first_line.result.0.now (lines_of c.first_line.result.1.now) was c.checked_line-line.result
@@ -61,18 +56,17 @@ loop-rest-preserved g c =
 pub returns-in-Err-clause-ends : goal.returns-in-Err-clause-ends
 returns-in-Err-clause-ends g c = λ edits good.
     let inv = c.loop-rest.invariant in
-    let was = subst (λ (ls : List (List ℕ)). IsGoing udc.ghosts g.D.Reports c.args.head.now.account c.args.head.now.first
-    (last_number c.args.node.now.state.records c.args.head.now.account) c.args.node.now edits c.loop-rest.node c.loop-rest.progress ls)
+    let was = going_at udc.ghosts g.D.Reports c.args.head.now edits c.args.node.now c.loop-rest.node c.loop-rest.progress _ _
     c.first_line.ensures.line (inv.going edits good) in
     line_stopped udc.ghosts g.D.Reports c.args.head.now edits c.args.node.now c.loop-rest.node c.load_line.new.node c.loop-rest.progress
-    c.first_line.result.0.now (lines_of c.first_line.result.1.now) was inv.hand inv.limits inv.counted c.in-Err.end c.checked_line-line.result
+    c.first_line.result.0.now (lines_of c.first_line.result.1.now) was inv.hand inv.limits inv.counted c.in-Err.end
+    c.checked_line-line.result
     (c.checked_line-line.ensures was.good.0 was.good.2) c.in-Err.ensures.stopped
 
 pub returns-in-Err-clause-moments : goal.returns-in-Err-clause-moments
 returns-in-Err-clause-moments g c = λ edits good.
     let inv = c.loop-rest.invariant in
-    let was = subst (λ (ls : List (List ℕ)). IsGoing udc.ghosts g.D.Reports c.args.head.now.account c.args.head.now.first
-    (last_number c.args.node.now.state.records c.args.head.now.account) c.args.node.now edits c.loop-rest.node c.loop-rest.progress ls)
+    let was = going_at udc.ghosts g.D.Reports c.args.head.now edits c.args.node.now c.loop-rest.node c.loop-rest.progress _ _
     c.first_line.ensures.line (inv.going edits good) in
     line_leaves udc.ghosts g.D.Reports c.args.head.now edits c.args.node.now c.loop-rest.node c.load_line.new.node c.loop-rest.progress
     c.first_line.result.0.now (lines_of c.first_line.result.1.now) was c.checked_line-line.result
@@ -84,8 +78,7 @@ returns-clause-ends g c = λ edits good.
     let inv = c.loop-rest.invariant in
     let none : length c.loop-rest.rest.now ≡ 0 = search rules in
     going_last udc.ghosts g.D.Reports c.args.head.now edits c.args.node.now c.loop-rest.node c.loop-rest.progress
-    (subst (λ (ls : List (List ℕ)). IsGoing udc.ghosts g.D.Reports c.args.head.now.account c.args.head.now.first
-    (last_number c.args.node.now.state.records c.args.head.now.account) c.args.node.now edits c.loop-rest.node c.loop-rest.progress ls)
+    (going_at udc.ghosts g.D.Reports c.args.head.now edits c.args.node.now c.loop-rest.node c.loop-rest.progress _ _
     (no_lines c.loop-rest.rest.now none) (inv.going edits good)) inv.hand inv.last
 
 pub returns-clause-moments : goal.returns-clause-moments

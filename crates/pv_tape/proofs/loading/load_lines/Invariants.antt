@@ -2,7 +2,7 @@ use Rattle.std.proofs.Common.{◌≡◌, ◌+◌, ◌≤◌, ℕ, List, None, le
 use Rattle.pv_tape.specs.declared.input.TheConstants.{LONGEST_TAPE}
 use Rattle.pv_udc.specs.contracts.rules.UdcRulesRules.TheImpl as udc
 use Rattle.pv_words.specs.Lines.{lines_of}
-use Rattle.pv_tape.specs.Loading.{last_number}
+use Rattle.pv_tape.specs.Loading.{last_number_of}
 use Rattle.pv_tape.specs.Tape.{TapeEdit, AreGood, second_line}
 use Rattle.pv_tape.specs.declared.head.TheConstants.{LAST_FIRST}
 use Rattle.pv_tape.proofs.Progressing.{IsGoing}
@@ -12,10 +12,10 @@ use Rattle.pv_tape.proofs.loading.load_lines.Given as goal
 abbrev pub invariant-loop-rest : goal.invariant-loop-rest
 invariant-loop-rest g l = record {
   going : (edits : List TapeEdit) → AreGood None second_line (lines_of l.text) edits
-      → IsGoing udc.ghosts g.D.Reports l.head.account l.head.first (last_number l.fn.node.state.records l.head.account) l.fn.node
+      → IsGoing udc.ghosts g.D.Reports l.head.account l.head.first (last_number_of l.fn.node.state.records l.head.account) l.fn.node
       edits l.node l.progress (lines_of l.rest);
   hand : l.node.hand ≡ None;
-  last : l.progress.numbers.last ≡ last_number l.node.state.records l.head.account;
+  last : l.progress.numbers.last ≡ last_number_of l.node.state.records l.head.account;
   limits : l.node.state.limits ≡ l.fn.node.state.limits;
   lines : l.progress.line + length l.rest ≤ second_line + LONGEST_TAPE;
   numbers : l.progress.numbers.next + length l.rest ≤ LAST_FIRST + LONGEST_TAPE;
