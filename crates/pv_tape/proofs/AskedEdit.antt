@@ -6,11 +6,10 @@ use Rattle.pv_outside.specs.declared.limits.Limits.{Limits}
 use Rattle.pv_outside.specs.declared.reports.Reports as reports
 use Rattle.pv_edits.specs.declared.record.Record.{Record}
 use Rattle.pv_edits.specs.declared.wish.EditWish.{EditWish}
-use Rattle.pv_node.specs.Asking.{CarriesOut, AskLeaves, IsSettled, to_store, records_with}
+use Rattle.pv_node.specs.Asking.{CarriesOut, AskLeaves, to_store}
 use Rattle.pv_node.specs.declared.decision.Decision.{Decision}
 use Rattle.pv_node.specs.declared.decision.Decision.TheVariants.{Answer, Store}
 use Rattle.pv_node.specs.declared.decision.Told.{Told}
-use Rattle.pv_node.specs.declared.fault.AskFault.{AskFault}
 use Rattle.pv_node.specs.declared.fault.AskFault.TheVariants.{Full, Disk}
 use Rattle.pv_node.specs.declared.rules.Rules as rules
 use Rattle.pv_node.specs.Parts.{Parts}

@@ -1,7 +1,7 @@
 -- Worked examples of a tape's lines, computed from the definitions.
-use Rattle.std.proofs.Common.{◌≡◌, true, false, [], ◌∷◌, None, Some, codes, refl}
+use Rattle.std.proofs.Common.{◌≡◌, true, false, None, codes, refl}
 use Rattle.pv_tape.specs.Lines.{is_comment}
-use Rattle.pv_tape.specs.Tape.{can_do, wish_on_line}
+use Rattle.pv_tape.specs.Tape.{can_do}
 use Rattle.pv_tape.specs.declared.head.TheConstants.{LAST_FIRST}
 use Rattle.pv_tape.specs.declared.line.TapeLine.TheVariants.{Store}
 
@@ -17,5 +17,5 @@ pub nothing_stored : can_do None Store ≡ false
 nothing_stored = refl
 
 -- the last number that a tape may begin with
-pub last_number_of : LAST_FIRST ≡ 4_000_000_000
-last_number_of = refl
+pub last_first : LAST_FIRST ≡ 4_000_000_000
+last_first = refl

@@ -4,7 +4,6 @@ use Rattle.std.proofs.Common.{subst, ◌∙◌, arith}
 use Rattle.std.proofs.lemmas.List.{append-nil}
 use Rattle.std.proofs.Math.Seq.{drop-nil}
 use Rattle.pv_outside.specs.Counts.{Rose}
-use Rattle.pv_outside.specs.declared.limits.Limits.{Limits}
 use Rattle.pv_outside.specs.declared.failed.TheConstants.{COUNT_END}
 use Rattle.pv_outside.specs.declared.reports.Reports as reports
 use Rattle.pv_edits.specs.declared.record.Record.{Record}
@@ -20,7 +19,7 @@ use Rattle.pv_udc.specs.Requests.{edit_of}
 use Rattle.pv_udc.specs.declared.reply.UdcReply.{UdcReply}
 use Rattle.pv_udc.specs.declared.request.UdcRequest.{UdcRequest}
 use Rattle.pv_tape.specs.Loading.{last_number_of, wanted_records, progress_after, asked_by_line, asked_records, GainsAll, LeavesPrefix}
-use Rattle.pv_tape.specs.Loading.{IsLineStop, IsLoaded, IsStoppedAt, IsLoadEnd}
+use Rattle.pv_tape.specs.Loading.{IsLineStop, IsLoaded, IsLoadEnd}
 use Rattle.pv_tape.specs.Tape.{TapeEdit, AreGood, wish_on_line, edits_with, second_line}
 use Rattle.pv_tape.specs.declared.end.TapeEnd.{TapeEnd}
 use Rattle.pv_tape.specs.declared.end.TapeEnd.TheVariants.{Done, ReadFault, TooLong, BadTape, NotKnown, Refused, Full, DiskFault, Memory}

@@ -1,8 +1,8 @@
 -- After any runs of one tape the account has a prefix of its edits, each once.
 use Rattle.std.proofs.Common.{◌≡◌, ℕ, zero, suc, ◌+◌, ◌-◌, ◌<◌, ◌≤◌, Bool, true, false, List, [], ◌∷◌, ◌++◌, length, take, drop, Option}
 use Rattle.std.proofs.Common.{Some, None, refl, sym, ap, subst, ◌∙◌, arith, append_assoc, eqb}
-use Rattle.std.specs.Prelude.{◌&&◌, nat_le, filter, slice_get}
-use Rattle.std.proofs.lemmas.Bool.{le-leb, leb-true, leb-false}
+use Rattle.std.specs.Prelude.{nat_le, filter, slice_get}
+use Rattle.std.proofs.lemmas.Bool.{le-leb, leb-false}
 use Rattle.std.proofs.lemmas.List.{append-nil}
 use Rattle.std.proofs.lemmas.List.Elements.{filter-append}
 use Rattle.std.proofs.lemmas.Bool.{eq-eqb}
@@ -15,10 +15,10 @@ use Rattle.pv_udc.specs.Judgement.{last_edit}
 use Rattle.pv_udc.proofs.CallerLemmas.{last_edit-his, last_edit-others, last_edit-there}
 use Rattle.pv_editor.specs.Say.{number_of_last}
 use Rattle.pv_tape.specs.Laws.{Run, IsWhole, records_after_run, records_after_runs, HasNoEdits, HasOnlyOthers, is_from, edits_from}
-use Rattle.pv_tape.specs.Loading.{last_number_of, edit_records, wanted_records}
+use Rattle.pv_tape.specs.Loading.{last_number_of, edit_records}
 use Rattle.pv_tape.specs.Tape.{TapeEdit}
 use Rattle.pv_tape.specs.declared.head.Head.{Head}
-use Rattle.pv_tape.proofs.Progressing.{length_drop, length_records}
+use Rattle.pv_tape.proofs.Progressing.{length_drop}
 
 -- ---- lists
 

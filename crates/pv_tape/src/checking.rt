@@ -1,7 +1,7 @@
-ghost use Rattle.std.specs.Prelude.{◌≡◌, ℕ, ◌+◌, ◌<◌, ◌≤◌, List, length, Ok, IfOk, IfErr, OnOk, true, false, None, MatchOption};
+ghost use Rattle.std.specs.Prelude.{◌≡◌, ◌+◌, ◌<◌, ◌≤◌, List, length, Ok, IfOk, IfErr, OnOk, true, false, None, MatchOption};
 ghost use Rattle.pv_words.specs.Lines.{lines_of};
 ghost use Rattle.pv_editor.specs.declared.seat.Working.{Working};
-ghost use Rattle.pv_tape.specs.Lines.{IsTapeLine, IsHead};
+ghost use Rattle.pv_tape.specs.Lines.{IsTapeLine};
 ghost use Rattle.pv_tape.specs.declared.head.Head.{Head};
 ghost use Rattle.pv_tape.specs.declared.line.TapeLine.{TapeLine};
 ghost use Rattle.pv_tape.specs.Tape.{TapeEdit, AreGood, IsFirstBad, IsBad, IsTape, IsBadAt, second_line, can_do, working_after};
@@ -21,7 +21,7 @@ pub(crate) const SECOND_LINE: u32 = 2;
 
 /// What the first line of a tape says, if all its lines are good, and otherwise the number of the first bad line, from
 /// 1. A text without a line has a bad first line.
-pub fn check_tape(text: &[u8]) -> Result<Head, u32>
+pub(crate) fn check_tape(text: &[u8]) -> Result<Head, u32>
     requires { length text.now ≤ LONGEST_TAPE }
     ensures good { IfOk result (λ head. (edits : List TapeEdit) × IsTape text.now head edits) }
     ensures only { (head : Head) (edits : List TapeEdit) → IsTape text.now head edits → result ≡ Ok head }

@@ -1,4 +1,4 @@
-ghost use Rattle.std.specs.Prelude.{◌≡◌, Some, IfSome, codes};
+ghost use Rattle.std.specs.Prelude.{◌≡◌, Some, codes};
 ghost use Rattle.pv_editor.specs.Words.{are_same};
 ghost use Rattle.pv_words.specs.Parts.{Exactly};
 ghost use Rattle.pv_tape.specs.Lines.{IsHead, IsHeadAfter, IsFirstNumber};
@@ -8,17 +8,17 @@ use pv_editor::{AccountText, PasswordText};
 use pv_words::{Reader, number_of, split_word, three_as};
 
 /// The last number that a tape's first edit may have.
-pub const LAST_FIRST: u32 = 4_000_000_000;
+pub(crate) const LAST_FIRST: u32 = 4_000_000_000;
 
 /// What the first line of a tape says: `TAPE FIRST account password`.
 #[derive(Clone, Copy, Debug, PartialEq, Eq)]
-pub struct Head {
+pub(crate) struct Head {
     /// The number of the first edit among the account's, 1 to [`LAST_FIRST`].
-    pub first: u32,
+    pub(crate) first: u32,
     /// Whose edits these are.
-    pub account: AccountNo,
+    pub(crate) account: AccountNo,
     /// The account's password, as typed.
-    pub password: [u8; PASSWORD_BYTES],
+    pub(crate) password: [u8; PASSWORD_BYTES],
 }
 
 /// The part that is the number of a tape's first edit.
@@ -41,7 +41,7 @@ impl<'a> Reader<'a> for FirstNumber {
 }
 
 /// What the first line of a tape says. `None` exactly when it is no such line.
-pub fn head_of(text: &[u8]) -> Option<Head>
+pub(crate) fn head_of(text: &[u8]) -> Option<Head>
     ensures { Exactly (IsHead text.now) result }
 {
     let (first, tail) = split_word(text);

@@ -8,11 +8,21 @@
 //! DROP 21a
 //! ```
 //!
-//! - [`Head`] is what the first line says: whose edits these are, and the number of the first.
-//! - [`TapeLine`] is what each further line says. The lines that make a frame are those of an editor; `STORE` and
-//!   `DROP` have no number, since the edits are counted on from the first.
-//! - [`check_tape`] finds the first bad line, before anything is asked.
-//! - [`run_tape`] reads a whole tape, checks it, and asks the Update Centre for its edits. [`TapeEnd`] says how it ended.
+//! The first line says whose edits these are, and the number of the first. The lines that make a frame are those of an
+//! editor. `STORE` and `DROP` have no number, since the edits are counted on from the first.
+//!
+//! - [`run_tape`] reads a whole tape, checks it, and asks the Update Centre for its edits. A run that was cut is
+//!   continued by running the tape again.
+//! - [`TapeEnd`] says how a run ended.
+//! - [`runs_leave_each_edit_once`] is the law of any runs of one tape.
+//!
+//! ```text
+//! match run_tape(alloc, &mut node, &mut source) {
+//!     TapeEnd::Done { stored, skipped } => report(stored, skipped),
+//!     TapeEnd::BadTape { line } => point_at(line),
+//!     end => explain(end),
+//! }
+//! ```
 //!
 //! What a tape means is defined in `specs/Tape.antt`, what its lines ask for in `specs/Loading.antt`, and how a run ends in
 //! `specs/Running.antt`.
@@ -30,13 +40,9 @@ mod making;
 mod progress;
 mod running;
 
-pub use checking::check_tape;
 pub use end::TapeEnd;
-pub use head::{Head, LAST_FIRST, head_of};
 pub use input::LONGEST_TAPE;
 pub use law::runs_leave_each_edit_once;
-pub use line::{TapeLine, tape_line_of};
-pub use making::{advance, can_do, wish_on_line};
 pub use running::run_tape;
 
 #[cfg(test)]

@@ -1,4 +1,4 @@
-ghost use Rattle.std.specs.Prelude.{◌≡◌, Some, IfSome};
+ghost use Rattle.std.specs.Prelude.{◌≡◌, Some};
 ghost use Rattle.pv_words.specs.Parts.{Exactly, Gives, GivesAlone, IsOne};
 ghost use Rattle.pv_editor.specs.Parts.{IsNameText};
 ghost use Rattle.pv_tape.specs.Lines.{is_comment, IsTapeLine, SaysLine, IsSaidAfter, IsFrameLine, tape_line, tape_word};
@@ -9,7 +9,7 @@ use pv_words::{one_as, split_word};
 
 /// What a line of a tape says, after the first.
 #[derive(Clone, Copy, Debug, PartialEq, Eq)]
-pub enum TapeLine {
+pub(crate) enum TapeLine {
     /// Nothing: the line is empty, or begins with `;`.
     Comment,
     /// `NEW name`
@@ -32,7 +32,7 @@ pub enum TapeLine {
 }
 
 /// What a line of a tape says. `None` exactly when it is none of the lines that [`TapeLine`] lists.
-pub fn tape_line_of(text: &[u8]) -> Option<TapeLine>
+pub(crate) fn tape_line_of(text: &[u8]) -> Option<TapeLine>
     ensures { Exactly (IsTapeLine text.now) result }
 {
     if is_comment(text) {

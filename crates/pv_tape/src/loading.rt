@@ -1,5 +1,5 @@
 //! The lines of a tape that was checked, one by one.
-ghost use Rattle.std.specs.Prelude.{◌≡◌, ℕ, ◌+◌, ◌^◌, ◌-◌, ◌<◌, ◌≤◌, List, length, None, OnOk, IfErr};
+ghost use Rattle.std.specs.Prelude.{◌≡◌, ◌+◌, ◌^◌, ◌-◌, ◌<◌, ◌≤◌, List, length, None, OnOk, IfErr};
 ghost use Rattle.pv_words.specs.Lines.{lines_of};
 ghost use Rattle.pv_tape.specs.Lines.{IsTapeLine};
 ghost use Rattle.pv_tape.specs.Loading.{last_number_of, wanted_records, asked_records, asked_by_line, asked_by_wish, numbers_after_edit, numbers_after_wish, progress_after, GainsAll, LeavesPrefix, IsAskEnd, IsLineOn, IsLineStop, IsLoadEnd};

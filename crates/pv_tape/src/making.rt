@@ -9,7 +9,7 @@ use pv_frame::Frame;
 
 /// Whether a line can be done: one that changes a frame or stores it has a working frame, there is no ninth field,
 /// and what is stored is valid.
-pub fn can_do(working: &Option<Working>, line: &TapeLine) -> bool
+pub(crate) fn can_do(working: &Option<Working>, line: &TapeLine) -> bool
     ensures { result ≡ can_do working.now line.now }
 {
     match line {
@@ -41,7 +41,7 @@ fn is_storable(working: &Option<Working>) -> bool
 }
 
 /// The edit that a line asks for, if it asks for one.
-pub fn wish_on_line(working: &Option<Working>, line: &TapeLine) -> Option<EditWish>
+pub(crate) fn wish_on_line(working: &Option<Working>, line: &TapeLine) -> Option<EditWish>
     ensures { result ≡ wish_on_line working.now line.now }
 {
     match (line, working) {
@@ -55,7 +55,7 @@ pub fn wish_on_line(working: &Option<Working>, line: &TapeLine) -> Option<EditWi
 }
 
 /// Does a line to the working frame.
-pub fn advance(working: &mut Option<Working>, line: &TapeLine)
+pub(crate) fn advance(working: &mut Option<Working>, line: &TapeLine)
     ensures { working.new ≡ working_after working.old line.now }
 {
     match line {

@@ -1,5 +1,5 @@
-use crate::input::LONGEST_TAPE;
-use crate::{TapeEnd, check_tape, run_tape};
+use crate::checking::check_tape;
+use crate::{LONGEST_TAPE, TapeEnd, run_tape};
 use pv_edits::Record;
 use pv_journal::format;
 use pv_memory::{MemDisk, MemSource};

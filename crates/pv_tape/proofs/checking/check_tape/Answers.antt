@@ -1,5 +1,4 @@
-use Rattle.std.proofs.Common.{◌≡◌, ℕ, Result, Ok, ap, ◌∙◌}
-use Rattle.pv_tape.specs.declared.head.Head.{Head}
+use Rattle.std.proofs.Common.{◌≡◌, Ok, ap, ◌∙◌}
 use Rattle.pv_tape.proofs.Going.{tape_parts, bad_head}
 use Rattle.pv_tape.proofs.checking.check_tape.Goals as goal
 

@@ -1,7 +1,6 @@
-use Rattle.std.proofs.Common.{◌≡◌, ◌+◌, ℕ, Option, List, [], ◌∷◌, length, subst, sym, refl, arith, rules}
+use Rattle.std.proofs.Common.{◌≡◌, ℕ, List, [], length, subst, sym, refl, arith, rules}
 use Rattle.pv_words.specs.Lines.{lines_of}
-use Rattle.pv_editor.specs.declared.seat.Working.{Working}
-use Rattle.pv_tape.specs.Tape.{TapeEdit, AreGood, IsFirstBad}
+use Rattle.pv_tape.specs.Tape.{AreGood, IsFirstBad}
 use Rattle.pv_tape.proofs.Going.{good_before, bad_before, bad_here, good_end, good_later, good_not_bad}
 use Rattle.pv_tape.proofs.checking.first_bad.Goals as goal
 
