@@ -3,7 +3,6 @@ pub mod Equality
 pub mod Opening
 pub mod Parts
 pub mod Standing
-pub mod TestRules
 pub mod Trail
 pub use Rattle.pv_journal.specs.Journal
 pub use Rattle.pv_journal.specs.Log

@@ -36,6 +36,3 @@ pub use law::image_stands_for_one_list;
 pub use node::{Node, Opened};
 pub use rules::Rules;
 pub use trail::Trail;
-
-#[cfg(test)]
-mod tests;

@@ -1,11 +1,11 @@
 ghost use Rattle.std.specs.Prelude.{◌≡◌, ◌+◌, ◌<◌, length, ◌∷◌, []};
-ghost use Rattle.pv_node.specs.TestRules.{decision_on, sized, one_meaning, stored, counts_more, has_room_too, judged_alike};
+ghost use Rattle.pv_nodes_tests.specs.TestRules.{decision_on, sized, one_meaning, stored, counts_more, has_room_too, judged_alike};
 ghost use Rattle.std.proofs.Common.{refl, sym, ap, ◌∙◌};
 
-use super::*;
 use pv_fields::{NoRoom, Out};
 use pv_journal::format;
 use pv_memory::MemDisk;
+use pv_node::{AskFault, Decision, Node, NodeFault, Rules};
 use pv_outside::{Disk, Failed, Fused, Limits};
 use std::alloc::{AllocError, Global};
 use std::test::Fail;
@@ -122,11 +122,14 @@ const TWO: &[u8] = b"PVJOURN1\x01\x00\x01A\x01\x00\x01B\x00";
 /// A fault of opening a node over a disk in memory.
 type Fault = NodeFault<MemDisk>;
 
-/// A node over such a disk, or why it is not opened.
-fn open(alloc: Global, disk: MemDisk, limits: Limits) -> Result<Node<Counting, MemDisk>, Fault> {
+/// A node of these rules.
+type Counter = Node<Counting, MemDisk>;
+
+/// A node over such a disk.
+fn open(alloc: Global, disk: MemDisk, limits: Limits) -> Result<Counter, Fail> {
     match Node::open(alloc, disk, limits) {
         Ok(node) => Ok(node),
-        Err((fault, _)) => Err(fault),
+        Err(_) => Err("not opened".into()),
     }
 }
 
@@ -140,42 +143,76 @@ fn disk_of(alloc: Global, bytes: &[u8], fails: &[u64]) -> Result<MemDisk, Fail> 
 }
 
 /// A node without records, whose disk is to fail at the calls of these numbers.
-fn empty(alloc: Global, fails: &[u64]) -> Result<Node<Counting, MemDisk>, Fail> {
-    let disk = disk_of(alloc, b"PVJOURN1\x00", fails)?;
-    open(alloc, disk, LIMITS).map_err(|_| Fail::from("not opened"))
+fn empty(alloc: Global, limits: Limits, fails: &[u64]) -> Result<Counter, Fail> {
+    open(alloc, disk_of(alloc, b"PVJOURN1\x00", fails)?, limits)
 }
 
-/// The reply, and the place of the record that was stored.
-fn ask(
-    node: &mut Node<Counting, MemDisk>,
-    byte: u8,
-) -> Result<(u64, Option<u64>), AskFault<MemDisk>> {
-    let told = node.ask(&byte)?;
-    Ok((told.reply, told.number))
+/// What a node answers.
+#[derive(Clone, Copy, Debug, PartialEq, Eq)]
+enum Answer {
+    /// The reply, and nothing is stored.
+    Reply(u64),
+    /// The reply, and the place of the record that was stored.
+    Stored(u64, u64),
+    /// There are this many records, which is the limit.
+    Full(u64),
+    /// The disk failed.
+    Failed,
+}
+
+/// Asks a node to store a byte.
+fn ask(node: &mut Counter, byte: u8) -> Answer {
+    match node.ask(&byte) {
+        Ok(told) => match told.number {
+            Some(place) => Answer::Stored(told.reply, place),
+            None => Answer::Reply(told.reply),
+        },
+        Err(AskFault::Full { count }) => Answer::Full(count),
+        Err(AskFault::Disk(Failed)) => Answer::Failed,
+    }
+}
+
+/// The first of these bytes that is answered otherwise.
+fn first_unlike(node: &mut Counter, asks: &[(u8, Answer)]) -> Option<u8> {
+    for (byte, answer) in asks {
+        if ask(node, *byte) != *answer {
+            return Some(*byte);
+        }
+    }
+    None
 }
 
 #[test]
 fn a_node_is_handed_to_a_thread(rt: HostRuntime) -> Result<(), Fail> {
-    let mut node = empty(rt.alloc(), &[])?;
-    let (told, ()) = thread::join(&rt, move || ask(&mut node, 65), || ());
-    assert_eq!(rt; told, Ok((0, Some(0))));
+    let mut node = empty(rt.alloc(), LIMITS, &[])?;
+    let (answer, ()) = thread::join(&rt, move || ask(&mut node, 65), || ());
+    assert_eq!(rt; answer, Answer::Stored(0, 0));
     Ok(())
+}
+
+/// A node over a disk that was formatted.
+fn formatted(alloc: Global) -> Result<Counter, Fail> {
+    let mut disk = MemDisk::new(alloc, 10_000, &[])?;
+    format(&mut disk)?;
+    open(alloc, disk, LIMITS)
 }
 
 #[test]
 fn what_was_stored_is_there_when_the_disk_is_opened_again(rt: HostRuntime) -> Result<(), Fail> {
-    let mut disk = MemDisk::new(rt.alloc(), 10_000, &[])?;
-    format(&mut disk)?;
-    let mut node = open(rt.alloc(), disk, LIMITS).map_err(|_| Fail::from("not opened"))?;
-    assert_eq!(rt; ask(&mut node, 65), Ok((0, Some(0))));
-    assert_eq!(rt; ask(&mut node, 200), Ok((1, None)));
-    assert_eq!(rt; ask(&mut node, 66), Ok((1, Some(1))));
-    assert_eq!(rt; node.state().count, 2);
+    let mut node = formatted(rt.alloc())?;
+    let asks = [
+        (65, Answer::Stored(0, 0)),
+        (200, Answer::Reply(1)),
+        (66, Answer::Stored(1, 1)),
+    ];
+    assert_eq!(rt;
+        (first_unlike(&mut node, &asks), node.state().count),
+        (None, 2)
+    );
     let disk = node.into_disk();
     assert_eq!(rt; disk.bytes(), TWO);
-    let node = open(rt.alloc(), disk, LIMITS).map_err(|_| Fail::from("not opened"))?;
-    assert_eq!(rt; node.count(), 2);
-    assert_eq!(rt; node.state().count, 2);
+    let node = open(rt.alloc(), disk, LIMITS)?;
+    assert_eq!(rt; (node.count(), node.state().count), (2, 2));
     Ok(())
 }
 
@@ -185,14 +222,29 @@ fn a_node_is_full_at_its_limit_and_not_before(rt: HostRuntime) -> Result<(), Fai
         frames: 9,
         records: 2,
     };
-    let disk = disk_of(rt.alloc(), b"PVJOURN1\x00", &[])?;
-    let mut node = open(rt.alloc(), disk, many).map_err(|_| Fail::from("not opened"))?;
-    assert_eq!(rt; ask(&mut node, 65), Ok((0, Some(0))));
-    assert_eq!(rt; ask(&mut node, 66), Ok((1, Some(1))));
-    assert_eq!(rt; ask(&mut node, 67), Err(AskFault::Full { count: 2 }));
-    assert_eq!(rt; ask(&mut node, 200), Ok((2, None)));
-    assert_eq!(rt; node.count(), 2);
+    let mut node = empty(rt.alloc(), many, &[])?;
+    let asks = [
+        (65, Answer::Stored(0, 0)),
+        (66, Answer::Stored(1, 1)),
+        (67, Answer::Full(2)),
+        (200, Answer::Reply(2)),
+    ];
+    assert_eq!(rt; (first_unlike(&mut node, &asks), node.count()), (None, 2));
     Ok(())
+}
+
+/// The fault of opening a disk of these bytes, of which the calls of these numbers fail.
+fn fault_of(
+    alloc: Global,
+    bytes: &[u8],
+    limits: Limits,
+    fails: &[u64],
+) -> Result<Option<Fault>, Fail> {
+    let disk = disk_of(alloc, bytes, fails)?;
+    match Node::<Counting, MemDisk>::open(alloc, disk, limits) {
+        Ok(_) => Ok(None),
+        Err((fault, _)) => Ok(Some(fault)),
+    }
 }
 
 #[test]
@@ -223,11 +275,7 @@ fn bytes_that_are_no_records_are_refused_for_what_they_are(rt: HostRuntime) -> R
         (three, wide, Fault::TooMany { count: 2 }),
     ];
     for (bytes, limits, fault) in table {
-        let disk = disk_of(rt.alloc(), bytes, &[])?;
-        let Err(found) = open(rt.alloc(), disk, limits) else {
-            return Err("opened".into());
-        };
-        assert_eq!(rt; found, fault);
+        assert_eq!(rt; fault_of(rt.alloc(), bytes, limits, &[])?, Some(fault));
     }
     Ok(())
 }
@@ -236,32 +284,41 @@ fn bytes_that_are_no_records_are_refused_for_what_they_are(rt: HostRuntime) -> R
 fn a_disk_that_fails_while_it_is_read_is_reported(rt: HostRuntime) -> Result<(), Fail> {
     // The calls 2 to 5 are those of the opening.
     for failing in 2..6 {
-        let disk = disk_of(rt.alloc(), b"PVJOURN1\x00", &[failing])?;
-        let Err(found) = open(rt.alloc(), disk, LIMITS) else {
-            return Err("opened".into());
-        };
-        assert_eq!(rt; found, Fault::Disk(Failed), "call {failing} failed");
+        let fault = fault_of(rt.alloc(), b"PVJOURN1\x00", LIMITS, &[failing])?;
+        assert_eq!(rt; fault, Some(Fault::Disk(Failed)), "call {failing} failed");
     }
     Ok(())
+}
+
+/// A node that has the record 65 in hand, since this call of the disk failed.
+fn with_one_in_hand(alloc: Global, failing: u64) -> Result<Counter, Fail> {
+    let mut node = empty(alloc, LIMITS, &[failing])?;
+    if ask(&mut node, 65) != Answer::Failed {
+        return Err("the disk did not fail".into());
+    }
+    Ok(node)
+}
+
+/// What two settlings of a node find, and how many records it has then.
+fn settled_twice(node: &mut Counter) -> Result<(Option<u8>, Option<u8>, u64), Failed> {
+    let first = node.settle()?;
+    let second = node.settle()?;
+    Ok((first, second, node.count()))
 }
 
 #[test]
 fn a_record_in_hand_is_settled_before_the_next_judgement(rt: HostRuntime) -> Result<(), Fail> {
     // The calls 6 to 9 are those of the append: two writes, each with its sync.
-    for (failing, stored) in [(6, 0), (7, 0), (8, 0), (9, 1)] {
-        let mut node = empty(rt.alloc(), &[failing])?;
+    for (failing, stored, found) in [(6, 0, None), (7, 0, None), (8, 0, None), (9, 1, Some(65))] {
+        let mut node = with_one_in_hand(rt.alloc(), failing)?;
+        let count = node.state().count;
         assert_eq!(rt;
-            ask(&mut node, 65),
-            Err(AskFault::Disk(Failed)),
+            (count, ask(&mut node, 66)),
+            (0, Answer::Stored(stored, stored)),
             "call {failing} failed"
         );
-        assert_eq!(rt; node.state().count, 0);
-        assert_eq!(rt; ask(&mut node, 66), Ok((stored, Some(stored))));
-        let mut other = empty(rt.alloc(), &[failing])?;
-        assert_eq!(rt; ask(&mut other, 65), Err(AskFault::Disk(Failed)));
-        assert_eq!(rt; other.settle()?, if stored == 1 { Some(65) } else { None });
-        assert_eq!(rt; other.settle()?, None);
-        assert_eq!(rt; other.count(), stored);
+        let mut other = with_one_in_hand(rt.alloc(), failing)?;
+        assert_eq!(rt; settled_twice(&mut other)?, (found, None, stored));
     }
     Ok(())
 }
@@ -308,33 +365,38 @@ fn a_stop_at_each_call_leaves_the_records_before_or_one_more(rt: HostRuntime) ->
 /// that a stop leaves then.
 fn after_stop(alloc: Global, run: Run, calls: u32, image: u8) -> Result<(bool, u64), Fail> {
     let (is_ok, mut disk) = if run == Run::Open {
-        let mut disk = disk_of(alloc, TWO, &[])?;
-        disk.fuse(calls);
-        match Node::<Counting, MemDisk>::open(alloc, disk, LIMITS) {
-            Ok(node) => (true, node.into_disk()),
-            Err((_, disk)) => (false, disk),
-        }
+        stop_opening(alloc, calls)?
     } else {
         stop_node(alloc, run, calls)?
     };
     disk.crash(image);
-    let node = open(alloc, disk, LIMITS).map_err(|_| Fail::from("not opened"))?;
+    let node = open(alloc, disk, LIMITS)?;
     Ok((is_ok, node.count()))
+}
+
+/// Whether an opening over two records succeeded of which `calls` calls of the disk pass, and the disk.
+fn stop_opening(alloc: Global, calls: u32) -> Result<(bool, MemDisk), Fail> {
+    let mut disk = disk_of(alloc, TWO, &[])?;
+    disk.fuse(calls);
+    match Node::<Counting, MemDisk>::open(alloc, disk, LIMITS) {
+        Ok(node) => Ok((true, node.into_disk())),
+        Err((_, disk)) => Ok((false, disk)),
+    }
 }
 
 /// Whether the run at a node succeeded of which `calls` calls of the disk pass, and its disk.
 fn stop_node(alloc: Global, run: Run, calls: u32) -> Result<(bool, MemDisk), Fail> {
     // Call 9 is the last sync of an append: the record is in hand, and its gate is written.
-    let failing: &[u64] = if run == Run::Ask { &[] } else { &[9] };
-    let mut node = empty(alloc, failing)?;
-    if run != Run::Ask {
-        let _ = ask(&mut node, 65);
-    }
+    let mut node = if run == Run::Ask {
+        empty(alloc, LIMITS, &[])?
+    } else {
+        with_one_in_hand(alloc, 9)?
+    };
     node.fuse(calls);
     let is_ok = if run == Run::Settle {
         node.settle().is_ok()
     } else {
-        ask(&mut node, 66).is_ok()
+        matches!(ask(&mut node, 66), Answer::Stored(..) | Answer::Reply(_))
     };
     Ok((is_ok, node.into_disk()))
 }
