@@ -44,6 +44,3 @@ pub use live::{Live, LiveNode, MAX_PASSES, Start, open_live};
 pub use pass::{NotEntered, Pass};
 pub use run::{FailedLedger, Run, ToldLedger};
 pub use viewer::Viewer;
-
-#[cfg(test)]
-mod tests;

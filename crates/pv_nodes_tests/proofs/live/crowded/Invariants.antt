@@ -1,11 +1,11 @@
-use Rattle.pv_live.proofs.tests.no_look_is_older_than_the_one_before_it.Given as goal
+use Rattle.pv_nodes_tests.proofs.live.crowded.Given as goal
 
 -- the run is that of this node, with what it starts with
 abbrev pub ghosts-crowd-N-Run : goal.ghosts-crowd-N-Run
 ghosts-crowd-N-Run g a = record {
   opening = a.node.state.records;
   limits = a.node.state.limits;
-  passes = 12;
+  passes = a.passes;
   told = a.start.told;
   failed = a.start.failed;
 }
