@@ -73,12 +73,14 @@ module _ (old now new : Option (List ℕ)) (bytes queued : List ℕ) (sent : IsS
   cut_short n wrote = (
     length sent.written + n,
     subst (λ (l : List ℕ). Appends old new l)
-        (take_after sent.written queued n (length sent.written + n) refl ∙ ap (λ (l : List ℕ). take (length sent.written + n) l) (sym sent.split))
+        (take_after sent.written queued n (length sent.written + n) refl
+        ∙ ap (λ (l : List ℕ). take (length sent.written + n) l) (sym sent.split))
         (Appends-trans old now new sent.written (take n queued) sent.wrote wrote),
   )
 
 -- what is queued is written, or the write fails
-pub sends_all : {T : Type 0} → (result : Result T Failed) (old now new : Option (List ℕ)) (bytes queued rest : List ℕ) → IsSent old now bytes queued
+pub sends_all : {T : Type 0} → (result : Result T Failed) (old now new : Option (List ℕ)) (bytes queued rest : List ℕ)
+    → IsSent old now bytes queued
     → Writes now new result queued → rest ≡ [] → Sends result old new bytes rest
 sends_all (Ok value) old now new bytes queued rest sent wrote none =
     sends_on old now new bytes queued sent rest (all_written now new queued rest wrote none)

@@ -248,7 +248,8 @@ module _ {S : Type 0} (r : rules.Ghosts S CentreState IrcRequest CentreRecord Ir
   }
 
   -- all that was queued is written
-  pub flushes : (rest queued queued2 : List ℕ) (line line2 : LineState) → InCall r limits opening shown start first pass call marks rest queued line
+  pub flushes : (rest queued queued2 : List ℕ) (line line2 : LineState)
+      → InCall r limits opening shown start first pass call marks rest queued line
       → Appends line.written line2.written queued → queued2 ≡ [] → line2.taken ≡ line.taken → line.read_faults ≤ line2.read_faults
       → line.write_faults ≤ line2.write_faults → InCall r limits opening shown start first pass call marks rest queued2 line2
   flushes rest queued queued2 line line2 here wrote none taken reads writes = record {
@@ -284,7 +285,8 @@ module _ {S : Type 0} (r : rules.Ghosts S CentreState IrcRequest CentreRecord Ir
   }
 
   -- the caller hangs up
-  pub hangs : {D F : Type 0} → (rest queued : List ℕ) (line : LineState) → InCall r limits opening shown start first pass call marks rest queued line
+  pub hangs : {D F : Type 0} → (rest queued : List ℕ) (line : LineState)
+      → InCall r limits opening shown start first pass call marks rest queued line
       → queued ≡ [] → call.phase ≡ phases.Listening → rest ≡ [] → line.ended ≡ true
       → IsServedCall r limits opening shown {D = D} {F = F} start first pass marks line Hung
   hangs rest queued line here all listens none ended = record {
@@ -303,7 +305,8 @@ module _ {S : Type 0} (r : rules.Ghosts S CentreState IrcRequest CentreRecord Ir
   -- the read of a key fails
   pub unread : {D F : Type 0} → (old rest queued : List ℕ) (line line2 : LineState)
       → InCall r limits opening shown start first pass call marks old queued line
-      → InCall r limits opening shown start first pass call marks rest queued line2 → queued ≡ [] → call.phase ≡ phases.Listening → rest ≡ []
+      → InCall r limits opening shown start first pass call marks rest queued line2
+      → queued ≡ [] → call.phase ≡ phases.Listening → rest ≡ []
       → Rose line.read_faults line2.read_faults
       → IsServedCall r limits opening shown {D = D} {F = F} start first pass marks line2 ReadFault
   unread old rest queued line line2 before here all listens none rose = record {

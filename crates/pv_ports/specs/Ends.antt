@@ -93,8 +93,8 @@ IsWritten _ old new bytes = Appends old new bytes
 
 module _ {S : Type 0} (r : rules.Ghosts S CentreState IrcRequest CentreRecord IrcReply) (limits : Limits) (opening : List CentreRecord)
     (shown : Option ℕ) where
-  -- A call in progress, since its pass was `start` and its line `first`. These keys were read and are still to be taken, and these bytes were
-  -- made and are still to be written.
+  -- A call in progress, since its pass was `start` and its line `first`. These keys were read and are still to be taken, and these
+  -- bytes were made and are still to be written.
   pub record InCall (start : Standing CentreRecord) (first : LineState) (pass : Standing CentreRecord) (call : CallState) (marks : List ℕ)
       (rest queued : List ℕ) (line : LineState) : Type 0 where
     pub last : Step

@@ -64,7 +64,8 @@ impl Outbox {
     pub(crate) fn flush<L: Line>(&mut self, line: &mut L) -> Result<(), Failed>
         ensures written { Writes (L.written line.old) (L.written line.new) result self.old }
         ensures emptied { self.new ≡ [] }
-        ensures only { OnlyWrites (line_of L.Source L.Sink line.old) (line_of L.Source L.Sink line.new) result }
+        ensures only { OnlyWrites (line_of L.Source L.Sink line.old)
+            (line_of L.Source L.Sink line.new) result }
     {
         if self.bytes.is_empty() {
             return Ok(());
@@ -78,7 +79,8 @@ impl Outbox {
     fn make_room<L: Line>(&mut self, line: &mut L) -> Result<(), Failed>
         ensures sent { Sends result (L.written line.old) (L.written line.new) self.old self.new }
         ensures room { OnOk result (length self.new + LONGEST ≤ OUTBOX) }
-        ensures only { OnlyWrites (line_of L.Source L.Sink line.old) (line_of L.Source L.Sink line.new) result }
+        ensures only { OnlyWrites (line_of L.Source L.Sink line.old)
+            (line_of L.Source L.Sink line.new) result }
     {
         if self.bytes.len() + LONGEST <= OUTBOX {
             return Ok(());
@@ -88,8 +90,10 @@ impl Outbox {
 
     /// Queues a screen.
     pub(crate) fn queue<L: Line>(&mut self, line: &mut L, screen: &Screen) -> Result<(), Failed>
-        ensures sent { Sends result (L.written line.old) (L.written line.new) (self.old ++ screen_bytes screen.now) self.new }
-        ensures only { OnlyWrites (line_of L.Source L.Sink line.old) (line_of L.Source L.Sink line.new) result }
+        ensures sent { Sends result (L.written line.old) (L.written line.new)
+            (self.old ++ screen_bytes screen.now) self.new }
+        ensures only { OnlyWrites (line_of L.Source L.Sink line.old)
+            (line_of L.Source L.Sink line.new) result }
     {
         self.make_room(line)?;
         self.add(screen);

@@ -19,5 +19,6 @@ pub returns-clause-goes : goal.returns-clause-goes
 returns-clause-goes g c = λ shown start first rest here.
     c.store.ensures.goes shown start first rest
     (flushes _ _ _ shown start first c.args.pass.now (state_of c.args.hand.now.at.seat) c.args.hand.now.marks.items rest
-    c.args.hand.now.outbox c.flush.new.self (line_of g.L.Source g.L.Sink c.args.line.now) (line_of g.L.Source g.L.Sink c.flush.new.line) here
-    c.in_default-flush.ensures.written c.flush.ensures.emptied c.flush.ensures.only.taken c.flush.ensures.only.reads c.flush.ensures.only.writes)
+    c.args.hand.now.outbox c.flush.new.self (line_of g.L.Source g.L.Sink c.args.line.now) (line_of g.L.Source g.L.Sink c.flush.new.line)
+    here c.in_default-flush.ensures.written c.flush.ensures.emptied c.flush.ensures.only.taken c.flush.ensures.only.reads
+    c.flush.ensures.only.writes)

@@ -17,7 +17,8 @@ returns-in-Ok-send-clause-goes g c = λ shown start first rest here.
     c.request_of.ensures.request c.in-Ok.ensures.told c.ask.ensures.seen c.ask.ensures.same c.in-Ok.ensures.not_failed
     c.paid_by.ensures c.paid-step.ensures.turn in
     goes_on_at_rest _ _ _ shown start first (WishAnswered wish told) c.args.pass.now c.ask.new.pass call after
-    c.args.hand.now.marks.items c.args.hand.now.marks.items rest c.args.hand.now.outbox c.send.new.outbox (line_of g.L.Source g.L.Sink c.args.line.now)
+    c.args.hand.now.marks.items c.args.hand.now.marks.items rest c.args.hand.now.outbox c.send.new.outbox
+    (line_of g.L.Source g.L.Sink c.args.line.now)
     (line_of g.L.Source g.L.Sink c.send.new.line) c.paid-step.result here storing refl c.send.ensures.only.taken
     c.send.ensures.only.reads c.send.ensures.only.writes
     (c.a_call_owes_what_is_its_own.ensures.lasts call after (Stored c.paid_by.result) c.paid-step.result here.own

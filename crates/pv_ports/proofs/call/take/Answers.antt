@@ -13,7 +13,8 @@ returns-in-Ok-clause-goes g c = λ shown start first rest at here.
     let after = state_of c.key.new.at.seat in
     let taken = c.key.ensures in
     comes_to _ _ _ shown start first (KeyTaken c.args.byte c.args.moment) c.args.pass.now c.key.new.pass call after
-    c.args.hand.now.marks.items c.note.new.marks.items rest c.args.hand.now.outbox c.send.new.outbox (line_of g.L.Source g.L.Sink c.args.line.now)
+    c.args.hand.now.marks.items c.note.new.marks.items rest c.args.hand.now.outbox c.send.new.outbox
+    (line_of g.L.Source g.L.Sink c.args.line.now)
     (line_of g.L.Source g.L.Sink c.send.new.line) c.key.new.at.step here.in_call (here.listens, taken, at)
     (noted_by _ _ _ _ _ _ _ _ c.entries-entries.ensures c.entries.ensures c.length.ensures c.note.ensures.noted)
     c.send.ensures.only.taken c.send.ensures.only.reads c.send.ensures.only.writes
@@ -28,7 +29,8 @@ returns-in-Err-clause-goes g c = λ shown start first rest at here.
     let after = state_of c.key.new.at.seat in
     let taken = c.key.ensures in
     cut_off _ _ _ shown start first (KeyTaken c.args.byte c.args.moment) c.args.pass.now c.key.new.pass call after
-    c.args.hand.now.marks.items c.note.new.marks.items rest c.args.hand.now.outbox c.send.new.outbox (line_of g.L.Source g.L.Sink c.args.line.now)
+    c.args.hand.now.marks.items c.note.new.marks.items rest c.args.hand.now.outbox c.send.new.outbox
+    (line_of g.L.Source g.L.Sink c.args.line.now)
     (line_of g.L.Source g.L.Sink c.send.new.line) c.key.new.at.step here.in_call (here.listens, taken, at)
     (noted_by _ _ _ _ _ _ _ _ c.entries-entries.ensures c.entries.ensures c.length.ensures c.note.ensures.noted)
     c.send.ensures.only.taken c.send.ensures.only.reads c.send.ensures.only.writes
