@@ -1,8 +1,14 @@
+mod Causing
 mod Counting
+mod Ending
 mod Facts
+mod Growing
+mod Judging
 mod Laws
 mod Numbering
 mod Phases
+mod Righting
+mod Rounds
 mod Sending
 mod Sessions
 mod Settling

@@ -1,7 +1,11 @@
 pub mod Ends
 pub mod Lines
+pub mod Outcomes
+pub mod Parcels
 pub mod Port
 pub mod ReadAhead
+pub mod Rights
+pub mod Round
 pub mod Sending
 pub mod Session
 pub mod SessionEnds

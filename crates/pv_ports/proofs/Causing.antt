@@ -1,0 +1,491 @@
+-- Why a round ends as it does: what each of its stages does to the counts of the passes and of the links.
+use Rattle.std.proofs.Common.{◌≡◌, ◌⊎◌, inl, inr, ℕ, ◌+◌, ◌<◌, ◌≤◌, min, Bool, true, false, true≢false, List, [], ◌∷◌, length, Option, Some, None, Result, Ok, Err, if◌then◌else◌, refl, ap, sym, ◌∙◌, subst, arith}
+use Rattle.std.specs.Prelude.{IfSome, slice_get, option_map, unwrap_or, take, nat_lt, MatchResult}
+use Rattle.std.proofs.lemmas.Bool.{ltb-true, ltb-false}
+use mathlib.Core.List.{IsPrefix}
+use denote.Param.{number}
+use Rattle.pv_outside.specs.Counts.{Rose, one_more}
+use Rattle.pv_outside.specs.declared.failed.Failed.{Failed}
+use Rattle.pv_outside.specs.declared.limits.Limits.{Limits}
+use Rattle.pv_outside.specs.declared.link.Link as links
+use Rattle.pv_node.specs.declared.decision.Told.{Told}
+use Rattle.pv_post.specs.declared.item.Item.{Item}
+use Rattle.pv_edits.specs.declared.record.Record.{Record}
+use Rattle.pv_history.proofs.CallerLemmas.{prefix_self, prefix_trans, prefix_length}
+use Rattle.pv_irc.specs.contracts.rules.IrcRulesRules.TheImpl as irc
+use Rattle.pv_irc.specs.declared.record.CentreRecord.{CentreRecord}
+use Rattle.pv_irc.specs.declared.reply.IrcReply.{IrcReply}
+use Rattle.pv_irc.specs.declared.request.IrcRequest.{IrcRequest}
+use Rattle.pv_irc.specs.declared.request.IrcRequest.TheVariants.{Apply}
+use Rattle.pv_live.specs.Asking.{HasFailed, IsFullFor}
+use Rattle.pv_live.specs.Pass.{Standing}
+use Rattle.pv_live.specs.declared.fault.LiveFault.TheVariants as faults
+use Rattle.pv_packet.specs.declared.packet.Packet.{Packet}
+use Rattle.pv_packet.specs.Packet.{packet_bytes}
+use Rattle.pv_packet.specs.declared.packet.Packet.TheVariants.{Down, Up, DownHeard, UpHeard}
+use Rattle.pv_udc.specs.contracts.rules.UdcRulesRules.TheImpl as udc
+use Rattle.pv_udc.specs.declared.reply.UdcReply.{UdcReply}
+use Rattle.pv_udc.specs.declared.request.UdcRequest.{UdcRequest}
+use Rattle.pv_udc.specs.declared.request.UdcRequest.TheVariants.{TakeUp}
+use Rattle.pv_ports.specs.Outcomes.{IsKept, IsUsed, IsUnused}
+use Rattle.pv_ports.specs.Round.{Round, Stop, Gave, Took, Then, UpToTwo, ReceivesNext, GivesTo, GivesDown, GivesUp, HandlesDown, HandlesUp, HandlesTaken, ReceivesDown, ReceivesUp, AnswersRecord, AnswersItem, AppliesRecord, TakesItemUp, Carries, applied_by, taken_by, trip_after_record, trip_after_item, trip_after_take, came_by, stop_in, ask_stop, centre_node}
+use Rattle.pv_ports.specs.Session.{AskFault}
+use Rattle.pv_ports.specs.declared.round_end.RoundEnd.TheVariants as stops
+use Rattle.pv_ports.specs.declared.trip.Trip.{Trip}
+use Rattle.pv_ports.proofs.Judging.{applied_answer, taken_answer}
+
+-- ---- counts
+
+-- a count stood still, or rose
+abbrev pub Counts : ℕ → ℕ → Type 0
+Counts old new = (new ≡ old) ⊎ Rose old new
+
+rose_on : (a b c : ℕ) → Rose a b → Rose b c → Rose a c
+rose_on a b c one other = omega (arith, one, other)
+
+pub rose_more : (a b c : ℕ) → Rose a b → b ≤ c → Rose a c
+rose_more a b c one more = omega (arith, one, more)
+
+pub rose_later : (a b c : ℕ) → a ≤ b → Rose b c → Rose a c
+rose_later a b c more one = omega (arith, one, more)
+
+pub rose_still : (a b c : ℕ) → Rose a b → Counts b c → Rose a c
+rose_still a b c one (inl same) = subst (λ n. Rose a n) (sym same) one
+rose_still a b c one (inr other) = rose_on a b c one other
+
+pub still_rose : (a b c : ℕ) → Counts a b → Rose b c → Rose a c
+still_rose a b c (inl same) one = subst (λ n. Rose n c) same one
+still_rose a b c (inr other) one = rose_on a b c other one
+
+pub counts_on : (a b c : ℕ) → Counts a b → Counts b c → Counts a c
+counts_on a b c one (inl same) = subst (λ n. Counts a n) (sym same) one
+counts_on a b c one (inr other) = inr (still_rose a b c one other)
+
+-- one more has risen
+pub rises : (a b : ℕ) → b ≡ one_more a → Rose a b
+rises a b is = omega (arith, is)
+
+module _ {L : Type 0} (k : links.Ghosts L) where
+  -- what a stage does to a link
+  pub record Serves (old new : L) : Type 0 where
+    pub faults : k.faults old ≤ k.faults new
+    pub given : Counts (k.given old) (k.given new)
+    pub taken : Counts (k.taken old) (k.taken new)
+
+  pub serves_none : (link : L) → Serves link link
+  serves_none link = record { faults = omega arith; given = inl refl; taken = inl refl }
+
+  pub serves_on : (a b c : L) → Serves a b → Serves b c → Serves a c
+  serves_on a b c one other = record {
+    faults = omega (arith, one.faults, other.faults);
+    given = counts_on (k.given a) (k.given b) (k.given c) one.given other.given;
+    taken = counts_on (k.taken a) (k.taken b) (k.taken c) one.taken other.taken;
+  }
+
+  pub used_still : (a b c : L) → IsUsed k a b → Serves b c → IsUsed k a c
+  used_still a b c (inl one) serves = inl (rose_still (k.given a) (k.given b) (k.given c) one serves.given)
+  used_still a b c (inr one) serves = inr (rose_still (k.taken a) (k.taken b) (k.taken c) one serves.taken)
+
+  pub still_used : (a b c : L) → Serves a b → IsUsed k b c → IsUsed k a c
+  still_used a b c serves (inl one) = inl (still_rose (k.given a) (k.given b) (k.given c) serves.given one)
+  still_used a b c serves (inr one) = inr (still_rose (k.taken a) (k.taken b) (k.taken c) serves.taken one)
+
+  -- one of the two links was used
+  abbrev pub OneIsUsed : Round L → Round L → Type 0
+  OneIsUsed old new = IsUsed k old.down new.down ⊎ IsUsed k old.up new.up
+
+  -- nothing went
+  pub record IsStill (old new : Round L) : Type 0 where
+    pub before : old.trip.moved ≡ false
+    pub udc : new.udc ≡ old.udc
+    pub centre : new.centre ≡ old.centre
+    pub trip : new.trip ≡ old.trip
+    pub down : IsUnused k old.down new.down
+    pub up : IsUnused k old.up new.up
+
+  -- What the stages of a round have done that goes on: each pass was told of what is counted, and no ask failed.
+  pub record Progress (old new : Round L) : Type 0 where
+    pub down : Serves old.down new.down
+    pub up : Serves old.up new.up
+    pub centre : new.centre.told + old.trip.applied ≡ old.centre.told + new.trip.applied
+    pub udc : new.udc.told + old.trip.taken_up ≡ old.udc.told + new.trip.taken_up
+    pub centre_told : old.centre.told ≤ new.centre.told
+    pub udc_told : old.udc.told ≤ new.udc.told
+    pub centre_failed : new.centre.failed ≡ old.centre.failed
+    pub udc_failed : new.udc.failed ≡ old.udc.failed
+    pub centre_seen : IsPrefix old.centre.seen new.centre.seen
+    pub udc_seen : IsPrefix old.udc.seen new.udc.seen
+    pub moved : new.trip.moved ≡ true → (old.trip.moved ≡ true) ⊎ OneIsUsed old new
+    pub still : new.trip.moved ≡ false → IsStill old new
+
+  pub stays : (old : Round L) → Progress old old
+  stays old = record {
+    down = serves_none old.down;
+    up = serves_none old.up;
+    centre = refl;
+    udc = refl;
+    centre_told = omega arith;
+    udc_told = omega arith;
+    centre_failed = refl;
+    udc_failed = refl;
+    centre_seen = prefix_self old.centre.seen;
+    udc_seen = prefix_self old.udc.seen;
+    moved = λ moved. inl moved;
+    still = λ unmoved. record { before = unmoved; udc = refl; centre = refl; trip = refl; down = (refl, refl); up = (refl, refl) };
+  }
+
+  -- the links were used, or the trip goes on; no node was asked
+  pub linked : (old new : Round L) → Serves old.down new.down → Serves old.up new.up → new.udc ≡ old.udc → new.centre ≡ old.centre
+      → new.trip.applied ≡ old.trip.applied → new.trip.taken_up ≡ old.trip.taken_up
+      → (new.trip.moved ≡ true → (old.trip.moved ≡ true) ⊎ OneIsUsed old new)
+      → (new.trip.moved ≡ false → IsStill old new) → Progress old new
+  linked old new down up udc centre applied taken_up moved still = record {
+    down = down;
+    up = up;
+    centre = omega (arith, ap (λ (p : Standing CentreRecord). p.told) centre, applied);
+    udc = omega (arith, ap (λ (p : Standing Record). p.told) udc, taken_up);
+    centre_told = omega (arith, ap (λ (p : Standing CentreRecord). p.told) centre);
+    udc_told = omega (arith, ap (λ (p : Standing Record). p.told) udc);
+    centre_failed = ap (λ (p : Standing CentreRecord). p.failed) centre;
+    udc_failed = ap (λ (p : Standing Record). p.failed) udc;
+    centre_seen = subst (λ (p : Standing CentreRecord). IsPrefix old.centre.seen p.seen) (sym centre) (prefix_self old.centre.seen);
+    udc_seen = subst (λ (p : Standing Record). IsPrefix old.udc.seen p.seen) (sym udc) (prefix_self old.udc.seen);
+    moved = moved;
+    still = still;
+  }
+
+  used_later : (a b c : Round L) → OneIsUsed a b → Progress b c → OneIsUsed a c
+  used_later a b c (inl one) other = inl (used_still a.down b.down c.down one other.down)
+  used_later a b c (inr one) other = inr (used_still a.up b.up c.up one other.up)
+
+  later_used : (a b c : Round L) → Progress a b → OneIsUsed b c → OneIsUsed a c
+  later_used a b c one (inl other) = inl (still_used a.down b.down c.down one.down other)
+  later_used a b c one (inr other) = inr (still_used a.up b.up c.up one.up other)
+
+  pub goes_on : (a b c : Round L) → Progress a b → Progress b c → Progress a c
+  goes_on a b c one other = record {
+    down = serves_on a.down b.down c.down one.down other.down;
+    up = serves_on a.up b.up c.up one.up other.up;
+    centre = omega (arith, one.centre, other.centre);
+    udc = omega (arith, one.udc, other.udc);
+    centre_told = omega (arith, one.centre_told, other.centre_told);
+    udc_told = omega (arith, one.udc_told, other.udc_told);
+    centre_failed = other.centre_failed ∙ one.centre_failed;
+    udc_failed = other.udc_failed ∙ one.udc_failed;
+    centre_seen = prefix_trans a.centre.seen b.centre.seen c.centre.seen one.centre_seen other.centre_seen;
+    udc_seen = prefix_trans a.udc.seen b.udc.seen c.udc.seen one.udc_seen other.udc_seen;
+    moved = λ moved.
+        elim (other.moved moved) [
+          | inl before ↦ elim (one.moved before) [ inl first ↦ inl first | inr used ↦ inr (used_later a b c used other) ]
+          | inr used ↦ inr (later_used a b c one used)
+        ];
+    still = λ unmoved.
+        let late = other.still unmoved in let early = one.still late.before in record {
+          before = early.before;
+          udc = late.udc ∙ early.udc;
+          centre = late.centre ∙ early.centre;
+          trip = late.trip ∙ early.trip;
+          down = (late.down.0 ∙ early.down.0, late.down.1 ∙ early.down.1);
+          up = (late.up.0 ∙ early.up.0, late.up.1 ∙ early.up.1);
+        };
+  }
+
+module _ {L : Type 0} (k : links.Ghosts L) (udc_limits centre_limits : Limits) (udc_opening : List Record)
+    (centre_opening : List CentreRecord) (C : ℕ) where
+  -- why stages stopped so
+  abbrev pub Fails : Round L → Round L → Stop → Type 0
+  Fails old new stops.LinkFault = Rose (k.faults old.down) (k.faults new.down) ⊎ Rose (k.faults old.up) (k.faults new.up)
+  Fails old new (stops.DiskFault failure) = (new.udc.failed ≡ old.udc.failed + 1) ⊎ (new.centre.failed ≡ old.centre.failed + 1)
+  Fails old new (stops.Full node count) =
+      ((node ≡ 0) × (request : UdcRequest) × IsFullFor udc.ghosts udc_limits udc_opening request new.udc count)
+      ⊎ ((node ≡ centre_node C) × (request : IrcRequest)
+      × IsFullFor (irc.ghosts (number C)) centre_limits centre_opening request new.centre count)
+  Fails old new (stops.Memory stored) =
+      IfSome stored (IsKept udc_opening old.udc new.udc) ⊎ IfSome stored (IsKept centre_opening old.centre new.centre)
+  Fails old new (stops.Moved records items) = ⊥
+  Fails old new stops.Idle = ⊥
+
+  -- the stages went on, or stopped for a cause
+  abbrev pub Comes : Round L → Round L → Option Stop → Type 0
+  Comes old new None = Progress k old new
+  Comes old new (Some why) = Fails old new why
+
+  abbrev pub ComesIn : Round L → Round L → Result Bool Stop → Type 0
+  ComesIn old new (Ok came) = Progress k old new
+  ComesIn old new (Err why) = Fails old new why
+
+  pub kept_later : {Rec : Type 0} (opening : List Rec) (a b c : Standing Rec) (place : ℕ) → IsPrefix a.seen b.seen → a.told ≤ b.told
+      → IsKept opening b c place → IsKept opening a c place
+  kept_later opening a b c place seen told is =
+      (omega (arith, is.0, told), omega (arith, is.1, prefix_length a.seen b.seen seen))
+
+  fails_later : (a b c : Round L) (why : Stop) → Progress k a b → Fails b c why → Fails a c why
+  fails_later a b c stops.LinkFault one (inl rose) = inl (rose_later _ _ _ one.down.faults rose)
+  fails_later a b c stops.LinkFault one (inr rose) = inr (rose_later _ _ _ one.up.faults rose)
+  fails_later a b c (stops.DiskFault failure) one (inl is) = inl (omega (arith, is, one.udc_failed))
+  fails_later a b c (stops.DiskFault failure) one (inr is) = inr (omega (arith, is, one.centre_failed))
+  fails_later a b c (stops.Full node count) one is = is
+  fails_later a b c (stops.Memory None) one is = inl tt
+  fails_later a b c (stops.Memory (Some place)) one (inl is) =
+      inl (kept_later udc_opening a.udc b.udc c.udc place one.udc_seen one.udc_told is)
+  fails_later a b c (stops.Memory (Some place)) one (inr is) =
+      inr (kept_later centre_opening a.centre b.centre c.centre place one.centre_seen one.centre_told is)
+  fails_later a b c (stops.Moved records items) one is = is
+  fails_later a b c stops.Idle one is = is
+
+  comes_later : (a b c : Round L) (stop : Option Stop) → Progress k a b → Comes b c stop → Comes a c stop
+  comes_later a b c None one other = goes_on k a b c one other
+  comes_later a b c (Some why) one other = fails_later a b c why one other
+
+  comes_in_later : (a b c : Round L) (came : Result Bool Stop) → Progress k a b → ComesIn b c came → ComesIn a c came
+  comes_in_later a b c (Ok came) one other = goes_on k a b c one other
+  comes_in_later a b c (Err why) one other = fails_later a b c why one other
+
+  -- what is as it was goes on
+  same : (old new : Round L) (stop : Option Stop) → new ≡ old → stop ≡ None → Comes old new stop
+  same old new stop is none = subst (λ s. Comes old new s) (sym none) (subst (Progress k old) (sym is) (stays k old))
+
+  -- ---- a packet is given
+
+  given_down : (packet : List ℕ) (old : Round L) (link : L) → Gave k packet old.down link (Ok tt)
+      → Progress k old (record old { down = link; trip = record old.trip { moved = true } })
+  given_down packet old link gave =
+      let rose = rises (k.given old.down) (k.given link) gave.given in
+      linked k old _ (record { faults = gave.account.counted; given = inr rose; taken = inl gave.taken }) (serves_none k old.up) refl refl
+      refl refl (λ moved. inr (inl (inl rose))) (λ unmoved. absurd (true≢false unmoved))
+
+  given_up : (packet : List ℕ) (old : Round L) (link : L) → Gave k packet old.up link (Ok tt)
+      → Progress k old (record old { up = link; trip = record old.trip { moved = true } })
+  given_up packet old link gave =
+      let rose = rises (k.given old.up) (k.given link) gave.given in
+      linked k old _ (serves_none k old.down) (record { faults = gave.account.counted; given = inr rose; taken = inl gave.taken }) refl refl
+      refl refl (λ moved. inr (inr (inl rose))) (λ unmoved. absurd (true≢false unmoved))
+
+  pub gives_down : (going : Option Packet) (old new : Round L) (stop : Option Stop) → GivesDown k going old new stop → Comes old new stop
+  gives_down None old new stop is =
+      same old new stop (is.1 ∙ (λ i. record old { down = is.0.0 i; trip = is.0.1 i })) is.0.2
+  gives_down (Some packet) old new stop is = by is.0.1 is.0.2 is.0.3
+    where
+      by : (result : Result (Unit {0}) Failed) → Gave k (packet_bytes packet) old.down new.down result
+          → MatchResult result (λ _. (new.trip ≡ record old.trip { moved = true }) × (stop ≡ None))
+          (λ _. (new.trip ≡ old.trip) × (stop ≡ Some stops.LinkFault)) → Comes old new stop
+      by (Ok _) gave after =
+          subst (λ s. Comes old new s) (sym after.1) (subst (Progress k old)
+          (sym (is.1 ∙ (λ i. record old { down = new.down; trip = after.0 i })))
+          (given_down (packet_bytes packet) old new.down gave))
+      by (Err fault) gave after = subst (λ s. Comes old new s) (sym after.1) (inl (gave.account.failed refl))
+
+  pub gives_up : (going : Option Packet) (old new : Round L) (stop : Option Stop) → GivesUp k going old new stop → Comes old new stop
+  gives_up None old new stop is =
+      same old new stop (is.1 ∙ (λ i. record old { up = is.0.0 i; trip = is.0.1 i })) is.0.2
+  gives_up (Some packet) old new stop is = by is.0.1 is.0.2 is.0.3
+    where
+      by : (result : Result (Unit {0}) Failed) → Gave k (packet_bytes packet) old.up new.up result
+          → MatchResult result (λ _. (new.trip ≡ record old.trip { moved = true }) × (stop ≡ None))
+          (λ _. (new.trip ≡ old.trip) × (stop ≡ Some stops.LinkFault)) → Comes old new stop
+      by (Ok _) gave after =
+          subst (λ s. Comes old new s) (sym after.1) (subst (Progress k old)
+          (sym (is.1 ∙ (λ i. record old { up = new.up; trip = after.0 i })))
+          (given_up (packet_bytes packet) old new.up gave))
+      by (Err fault) gave after = subst (λ s. Comes old new s) (sym after.1) (inr (gave.account.failed refl))
+
+  -- ---- a packet is handled
+
+  -- a fault of an ask
+  centre_fails : (n : ℕ) (request : IrcRequest) (old : Round L) (pass : Standing CentreRecord) (fault : AskFault)
+      → HasFailed (irc.ghosts (number C)) centre_limits centre_opening request old.centre pass fault
+      → Fails old (record old { centre = pass }) (ask_stop (centre_node C) fault)
+  centre_fails n request old pass (faults.Memory (Some place)) is = inr (omega (arith, is.0), is.2)
+  centre_fails n request old pass (faults.Memory None) is = inr tt
+  centre_fails n request old pass (faults.Disk failure) is = inr is.1
+  centre_fails n request old pass (faults.Full count) is = inr (refl, request, is.2)
+
+  udc_fails : (request : UdcRequest) (old : Round L) (pass : Standing Record) (fault : AskFault)
+      → HasFailed udc.ghosts udc_limits udc_opening request old.udc pass fault
+      → Fails old (record old { udc = pass }) (ask_stop 0 fault)
+  udc_fails request old pass (faults.Memory (Some place)) is = inl (omega (arith, is.0), is.2)
+  udc_fails request old pass (faults.Memory None) is = inl tt
+  udc_fails request old pass (faults.Disk failure) is = inl is.1
+  udc_fails request old pass (faults.Full count) is = inl (refl, request, is.2)
+
+  -- a trip that has moved something does not stand still
+  no_still : (old new : Round L) → new.trip.moved ≡ true → new.trip.moved ≡ false → IsStill k old new
+  no_still old new moved unmoved = absurd (true≢false (sym moved ∙ unmoved))
+
+  handles_down : (packet : Option Packet) (old new : Round L) (stop : Option Stop) → old.trip.moved ≡ true
+      → HandlesDown (irc.ghosts (number C)) k centre_limits centre_opening C packet old new stop → Comes old new stop
+  handles_down (Some (Down centre n rec)) old new stop moved is = by is.1 is.2 is.3
+    where
+      by : (result : Result (Told IrcReply) AskFault)
+          → AppliesRecord (irc.ghosts (number C)) centre_limits centre_opening C n rec old.centre is.0 result
+          → AnswersRecord (irc.ghosts (number C)) k centre_limits centre_opening C n result (record old { centre = is.0 }) new stop → Comes old new stop
+      by (Ok told) applies answers =
+          let done = applied_answer C centre_limits centre_opening n rec old.centre is.0 told applies.comes.0 in
+          let counted : Round L = record old { centre = is.0; trip = trip_after_record told.reply old.trip } in
+          comes_later old counted new stop (record {
+            down = serves_none k old.down;
+            up = serves_none k old.up;
+            centre = omega (arith, done.told);
+            udc = refl;
+            centre_told = omega (arith, done.told);
+            udc_told = omega arith;
+            centre_failed = applies.comes.1;
+            udc_failed = refl;
+            centre_seen = applies.asks.prefix;
+            udc_seen = prefix_self old.udc.seen;
+            moved = λ after. inl moved;
+            still = no_still old counted moved;
+          }) (gives_up (option_map (DownHeard C) (applied_by n told.reply)) counted new stop answers)
+      by (Err fault) applies answers =
+          subst (λ s. Comes old new s) (sym answers.1) (subst (λ r. Fails old r (ask_stop (centre_node C) fault)) (sym answers.0)
+          (centre_fails n (Apply n rec) old is.0 fault applies.comes))
+  handles_down (Some (UpHeard centre count)) old new stop moved is =
+      subst (λ s. Comes old new s) (sym is.1) (subst (Progress k old) (sym is.0)
+      (linked k old _ (serves_none k old.down) (serves_none k old.up) refl refl refl refl (λ after. inl moved) (no_still old _ moved)))
+  handles_down (Some (Up centre number item)) old new stop moved is = same old new stop is.0 is.1
+  handles_down (Some (DownHeard centre count)) old new stop moved is = same old new stop is.0 is.1
+  handles_down None old new stop moved is = same old new stop is.0 is.1
+
+  handles_up : (packet : Option Packet) (old new : Round L) (stop : Option Stop) → old.trip.moved ≡ true
+      → HandlesUp udc.ghosts k udc_limits udc_opening C packet old new stop → Comes old new stop
+  handles_up (Some (Up centre number item)) old new stop moved is = by is.1 is.2 is.3
+    where
+      by : (result : Result (Told UdcReply) AskFault)
+          → TakesItemUp udc.ghosts udc_limits udc_opening C number item old.udc is.0 result
+          → AnswersItem udc.ghosts k udc_limits udc_opening C number result (record old { udc = is.0 }) new stop → Comes old new stop
+      by (Ok told) takes answers =
+          let done = taken_answer C udc_limits udc_opening number item old.udc is.0 told takes.comes.0 in
+          let counted : Round L = record old { udc = is.0; trip = trip_after_item told.reply old.trip } in
+          comes_later old counted new stop (record {
+            down = serves_none k old.down;
+            up = serves_none k old.up;
+            centre = refl;
+            udc = omega (arith, done.told);
+            centre_told = omega arith;
+            udc_told = omega (arith, done.told);
+            centre_failed = refl;
+            udc_failed = takes.comes.1;
+            centre_seen = prefix_self old.centre.seen;
+            udc_seen = takes.asks.prefix;
+            moved = λ after. inl moved;
+            still = no_still old counted moved;
+          }) (gives_down (option_map (UpHeard C) (taken_by number told.reply)) counted new stop answers)
+      by (Err fault) takes answers =
+          subst (λ s. Comes old new s) (sym answers.1) (subst (λ r. Fails old r (ask_stop 0 fault)) (sym answers.0)
+          (udc_fails (TakeUp C number item) old is.0 fault takes.comes))
+  handles_up (Some (DownHeard centre count)) old new stop moved is =
+      subst (λ s. Comes old new s) (sym is.1) (subst (Progress k old) (sym is.0)
+      (linked k old _ (serves_none k old.down) (serves_none k old.up) refl refl refl refl (λ after. inl moved) (no_still old _ moved)))
+  handles_up (Some (Down centre n rec)) old new stop moved is = same old new stop is.0 is.1
+  handles_up (Some (UpHeard centre count)) old new stop moved is = same old new stop is.0 is.1
+  handles_up None old new stop moved is = same old new stop is.0 is.1
+
+  -- ---- packets are received
+
+  came : (old new : Round L) (stop : Option Stop) → Comes old new stop → ComesIn old new (came_by stop)
+  came old new None is = is
+  came old new (Some why) is = is
+
+  took_down : (into : List ℕ) (result : Result (Option ℕ) Failed) (old new : Round L) (link : L) (came_is : Result Bool Stop)
+      → Took k into old.down link result
+      → HandlesTaken k C (HandlesDown (irc.ghosts (number C)) k centre_limits centre_opening C) into result
+      (record old { down = link; trip = trip_after_take result old.trip }) new came_is → ComesIn old new came_is
+  took_down into (Ok (Some n)) old new link came_is took is =
+      let rose = rises (k.taken old.down) (k.taken link) took.taken in
+      let taken : Round L = record old { down = link; trip = record old.trip { moved = true } } in
+      subst (ComesIn old new) (sym is.4) (comes_in_later old taken new (came_by is.1) (linked k old taken (record { faults = took.account.counted; given = inl took.given; taken = inr rose }) (serves_none k old.up) refl refl
+      refl refl (λ moved. inr (inl (inr rose))) (λ unmoved. absurd (true≢false unmoved))) (came taken new is.1 (handles_down is.0 taken new is.1 refl is.3)))
+  took_down into (Ok None) old new link came_is took is =
+      subst (ComesIn old new) (sym is.1) (subst (Progress k old) (sym is.0) (linked k old (record old { down = link }) (record { faults = took.account.counted; given = inl took.given; taken = inl took.taken }) (serves_none k old.up)
+      refl refl refl refl (λ moved. inl moved) (λ unmoved. record {
+        before = unmoved;
+        udc = refl;
+        centre = refl;
+        trip = refl;
+        down = (took.given, took.taken);
+        up = (refl, refl);
+      })))
+  took_down into (Err fault) old new link came_is took is =
+      subst (ComesIn old new) (sym is.1) (subst (λ (r : Round L). Fails old r stops.LinkFault) (sym is.0)
+      (inl (took.account.failed refl)))
+
+  took_up : (into : List ℕ) (result : Result (Option ℕ) Failed) (old new : Round L) (link : L) (came_is : Result Bool Stop)
+      → Took k into old.up link result
+      → HandlesTaken k C (HandlesUp udc.ghosts k udc_limits udc_opening C) into result
+      (record old { up = link; trip = trip_after_take result old.trip }) new came_is → ComesIn old new came_is
+  took_up into (Ok (Some n)) old new link came_is took is =
+      let rose = rises (k.taken old.up) (k.taken link) took.taken in
+      let taken : Round L = record old { up = link; trip = record old.trip { moved = true } } in
+      subst (ComesIn old new) (sym is.4) (comes_in_later old taken new (came_by is.1) (linked k old taken (serves_none k old.down) (record { faults = took.account.counted; given = inl took.given; taken = inr rose }) refl refl
+      refl refl (λ moved. inr (inr (inr rose))) (λ unmoved. absurd (true≢false unmoved))) (came taken new is.1 (handles_up is.0 taken new is.1 refl is.3)))
+  took_up into (Ok None) old new link came_is took is =
+      subst (ComesIn old new) (sym is.1) (subst (Progress k old) (sym is.0) (linked k old (record old { up = link }) (serves_none k old.down) (record { faults = took.account.counted; given = inl took.given; taken = inl took.taken })
+      refl refl refl refl (λ moved. inl moved) (λ unmoved. record {
+        before = unmoved;
+        udc = refl;
+        centre = refl;
+        trip = refl;
+        down = (refl, refl);
+        up = (took.given, took.taken);
+      })))
+  took_up into (Err fault) old new link came_is took is =
+      subst (ComesIn old new) (sym is.1) (subst (λ (r : Round L). Fails old r stops.LinkFault) (sym is.0)
+      (inr (took.account.failed refl)))
+
+  -- ---- the round
+
+  next : (Receives : Round L → Round L → Result Bool Stop → Type 0)
+      → ((old new : Round L) (came : Result Bool Stop) → Receives old new came → ComesIn old new came)
+      → (old mid new : Round L) (came : Result Bool Stop) (stop : Option Stop) → ComesIn old mid came
+      → ReceivesNext Receives came mid new stop → Comes old new stop
+  next Receives each old mid new (Ok true) stop first is =
+      by is.0 (comes_in_later old mid new is.0 first (each mid new is.0 is.1)) is.2
+    where
+      by : (second : Result Bool Stop) → ComesIn old new second → stop ≡ stop_in second → Comes old new stop
+      by (Ok came) comes none = subst (Comes old new) (sym none) comes
+      by (Err why) comes some = subst (Comes old new) (sym some) comes
+  next Receives each old mid new (Ok false) stop first is =
+      subst (Comes old new) (sym is.1) (subst (Progress k old) (sym is.0) first)
+  next Receives each old mid new (Err why) stop first is =
+      subst (Comes old new) (sym is.1) (subst (λ (r : Round L). Fails old r why) (sym is.0) first)
+
+  both : (First Second : Round L → Round L → Option Stop → Type 0)
+      → ((old new : Round L) (stop : Option Stop) → First old new stop → Comes old new stop)
+      → ((old new : Round L) (stop : Option Stop) → Second old new stop → Comes old new stop)
+      → (old new : Round L) (stop : Option Stop) → Then First Second old new stop → Comes old new stop
+  both First Second one other old new stop (inl is) = subst (Comes old new) (sym is.2) (one old new (Some is.0) is.1)
+  both First Second one other old new stop (inr is) =
+      comes_later old is.0 new stop (one old is.0 None is.1) (other is.0 new stop is.2)
+
+  received_down : (old new : Round L) (stop : Option Stop)
+      → UpToTwo (ReceivesDown (irc.ghosts (number C)) k centre_limits centre_opening C) old new stop → Comes old new stop
+  received_down old new stop is = next _ each old is.0 new is.1 stop (each old is.0 is.1 is.2) is.3
+    where
+      each : (old new : Round L) (came : Result Bool Stop) → ReceivesDown (irc.ghosts (number C)) k centre_limits centre_opening C old new came
+          → ComesIn old new came
+      each old new came is = took_down is.1 is.2 old new is.0 came is.3 is.4
+
+  received_up : (old new : Round L) (stop : Option Stop) → UpToTwo (ReceivesUp udc.ghosts k udc_limits udc_opening C) old new stop
+      → Comes old new stop
+  received_up old new stop is = next _ each old is.0 new is.1 stop (each old is.0 is.1 is.2) is.3
+    where
+      each : (old new : Round L) (came : Result Bool Stop) → ReceivesUp udc.ghosts k udc_limits udc_opening C old new came
+          → ComesIn old new came
+      each old new came is = took_up is.1 is.2 old new is.0 came is.3 is.4
+
+  -- all that has come is taken
+  pub received : (old new : Round L) (stop : Option Stop)
+      → Then (UpToTwo (ReceivesDown (irc.ghosts (number C)) k centre_limits centre_opening C))
+      (UpToTwo (ReceivesUp udc.ghosts k udc_limits udc_opening C)) old new stop → Comes old new stop
+  received = both _ _ received_down received_up
+
+  -- what goes up is given, and then that
+  pub after_down : (going : Option Packet) (old new : Round L) (stop : Option Stop)
+      → Then (GivesUp k going) (Then (UpToTwo (ReceivesDown (irc.ghosts (number C)) k centre_limits centre_opening C))
+      (UpToTwo (ReceivesUp udc.ghosts k udc_limits udc_opening C))) old new stop → Comes old new stop
+  after_down going = both _ _ (gives_up going) received
+
+  pub carried : (going_down going_up : Option Packet) (old new : Round L) (stop : Option Stop)
+      → Carries udc.ghosts (irc.ghosts (number C)) k udc_limits centre_limits udc_opening centre_opening C going_down going_up old new stop
+      → Comes old new stop
+  carried going_down going_up = both _ _ (gives_down going_down) (after_down going_up)
