@@ -27,8 +27,8 @@ use Rattle.pv_udc.specs.contracts.rules.UdcRulesRules.TheImpl as udc
 use Rattle.pv_udc.specs.declared.reply.UdcReply.{UdcReply}
 use Rattle.pv_udc.specs.declared.request.UdcRequest.{UdcRequest}
 use Rattle.pv_udc.specs.declared.request.UdcRequest.TheVariants.{TakeUp}
-use Rattle.pv_ports.specs.Outcomes.{IsKept, IsUsed, IsUnused}
-use Rattle.pv_ports.specs.Round.{Round, Stop, Gave, Took, Then, UpToTwo, ReceivesNext, GivesTo, GivesDown, GivesUp, HandlesDown, HandlesUp, HandlesTaken, ReceivesDown, ReceivesUp, AnswersRecord, AnswersItem, AppliesRecord, TakesItemUp, Carries, applied_by, taken_by, trip_after_record, trip_after_item, trip_after_take, came_by, stop_in, ask_stop, centre_node}
+use Rattle.pv_ports.specs.Outcomes.{KeepsRecord, LinkIsUsed, LinkIsUnused}
+use Rattle.pv_ports.specs.Round.{Round, Stop, Gave, Took, InTurn, UpToTwo, ReceivesNext, GivesTo, GivesDown, GivesUp, HandlesDown, HandlesUp, HandlesTaken, ReceivesDown, ReceivesUp, AnswersRecord, AnswersItem, AppliesRecord, TakesItemUp, Carries, applied_by, taken_by, trip_after_record, trip_after_item, trip_after_take, came_by, stop_in, ask_stop, centre_node}
 use Rattle.pv_ports.specs.Session.{AskFault}
 use Rattle.pv_ports.specs.declared.round_end.RoundEnd.TheVariants as stops
 use Rattle.pv_ports.specs.declared.trip.Trip.{Trip}
@@ -82,17 +82,17 @@ module _ {L : Type 0} (k : links.Ghosts L) where
     taken = counts_on (k.taken a) (k.taken b) (k.taken c) one.taken other.taken;
   }
 
-  pub used_still : (a b c : L) → IsUsed k a b → Serves b c → IsUsed k a c
+  pub used_still : (a b c : L) → LinkIsUsed k a b → Serves b c → LinkIsUsed k a c
   used_still a b c (inl one) serves = inl (rose_still (k.given a) (k.given b) (k.given c) one serves.given)
   used_still a b c (inr one) serves = inr (rose_still (k.taken a) (k.taken b) (k.taken c) one serves.taken)
 
-  pub still_used : (a b c : L) → Serves a b → IsUsed k b c → IsUsed k a c
+  pub still_used : (a b c : L) → Serves a b → LinkIsUsed k b c → LinkIsUsed k a c
   still_used a b c serves (inl one) = inl (still_rose (k.given a) (k.given b) (k.given c) serves.given one)
   still_used a b c serves (inr one) = inr (still_rose (k.taken a) (k.taken b) (k.taken c) serves.taken one)
 
   -- one of the two links was used
   abbrev pub OneIsUsed : Round L → Round L → Type 0
-  OneIsUsed old new = IsUsed k old.down new.down ⊎ IsUsed k old.up new.up
+  OneIsUsed old new = LinkIsUsed k old.down new.down ⊎ LinkIsUsed k old.up new.up
 
   -- nothing went
   pub record IsStill (old new : Round L) : Type 0 where
@@ -100,10 +100,10 @@ module _ {L : Type 0} (k : links.Ghosts L) where
     pub udc : new.udc ≡ old.udc
     pub centre : new.centre ≡ old.centre
     pub trip : new.trip ≡ old.trip
-    pub down : IsUnused k old.down new.down
-    pub up : IsUnused k old.up new.up
+    pub down : LinkIsUnused k old.down new.down
+    pub up : LinkIsUnused k old.up new.up
 
-  -- What the stages of a round have done that goes on: each pass was told of what is counted, and no ask failed.
+  -- What the stages of a round have done that goes on: each pass counted what the trip counts, and no ask failed.
   pub record Progress (old new : Round L) : Type 0 where
     pub down : Serves old.down new.down
     pub up : Serves old.up new.up
@@ -201,7 +201,7 @@ module _ {L : Type 0} (k : links.Ghosts L) (udc_limits centre_limits : Limits) (
       ⊎ ((node ≡ centre_node C) × (request : IrcRequest)
       × IsFullFor (irc.ghosts (number C)) centre_limits centre_opening request new.centre count)
   Fails old new (stops.Memory stored) =
-      IfSome stored (IsKept udc_opening old.udc new.udc) ⊎ IfSome stored (IsKept centre_opening old.centre new.centre)
+      IfSome stored (KeepsRecord udc_opening old.udc new.udc) ⊎ IfSome stored (KeepsRecord centre_opening old.centre new.centre)
   Fails old new (stops.Moved records items) = ⊥
   Fails old new stops.Idle = ⊥
 
@@ -215,7 +215,7 @@ module _ {L : Type 0} (k : links.Ghosts L) (udc_limits centre_limits : Limits) (
   ComesIn old new (Err why) = Fails old new why
 
   pub kept_later : {Rec : Type 0} (opening : List Rec) (a b c : Standing Rec) (place : ℕ) → IsPrefix a.seen b.seen → a.told ≤ b.told
-      → IsKept opening b c place → IsKept opening a c place
+      → KeepsRecord opening b c place → KeepsRecord opening a c place
   kept_later opening a b c place seen told is =
       (omega (arith, is.0, told), omega (arith, is.1, prefix_length a.seen b.seen seen))
 
@@ -318,7 +318,8 @@ module _ {L : Type 0} (k : links.Ghosts L) (udc_limits centre_limits : Limits) (
     where
       by : (result : Result (Told IrcReply) AskFault)
           → AppliesRecord (irc.ghosts (number C)) centre_limits centre_opening C n rec old.centre is.0 result
-          → AnswersRecord (irc.ghosts (number C)) k centre_limits centre_opening C n result (record old { centre = is.0 }) new stop → Comes old new stop
+          → AnswersRecord (irc.ghosts (number C)) k centre_limits centre_opening C n result (record old { centre = is.0 }) new stop →
+          Comes old new stop
       by (Ok told) applies answers =
           let done = applied_answer C centre_limits centre_opening n rec old.centre is.0 told applies.comes.0 in
           let counted : Round L = record old { centre = is.0; trip = trip_after_record told.reply old.trip } in
@@ -393,10 +394,21 @@ module _ {L : Type 0} (k : links.Ghosts L) (udc_limits centre_limits : Limits) (
   took_down into (Ok (Some n)) old new link came_is took is =
       let rose = rises (k.taken old.down) (k.taken link) took.taken in
       let taken : Round L = record old { down = link; trip = record old.trip { moved = true } } in
-      subst (ComesIn old new) (sym is.4) (comes_in_later old taken new (came_by is.1) (linked k old taken (record { faults = took.account.counted; given = inl took.given; taken = inr rose }) (serves_none k old.up) refl refl
-      refl refl (λ moved. inr (inl (inr rose))) (λ unmoved. absurd (true≢false unmoved))) (came taken new is.1 (handles_down is.0 taken new is.1 refl is.3)))
+      subst (ComesIn old new) (sym is.4) (comes_in_later old taken new (came_by is.1) (linked k old taken (record {
+        faults =
+            took.account.counted;
+        given = inl took.given;
+        taken = inr rose;
+      }) (serves_none k old.up) refl refl
+      refl refl (λ moved. inr (inl (inr rose))) (λ unmoved. absurd (true≢false unmoved))) (came taken new is.1 (handles_down is.0 taken
+      new is.1 refl is.3)))
   took_down into (Ok None) old new link came_is took is =
-      subst (ComesIn old new) (sym is.1) (subst (Progress k old) (sym is.0) (linked k old (record old { down = link }) (record { faults = took.account.counted; given = inl took.given; taken = inl took.taken }) (serves_none k old.up)
+      subst (ComesIn old new) (sym is.1) (subst (Progress k old) (sym is.0) (linked k old (record old { down = link }) (record {
+        faults =
+            took.account.counted;
+        given = inl took.given;
+        taken = inl took.taken;
+      }) (serves_none k old.up)
       refl refl refl refl (λ moved. inl moved) (λ unmoved. record {
         before = unmoved;
         udc = refl;
@@ -416,10 +428,13 @@ module _ {L : Type 0} (k : links.Ghosts L) (udc_limits centre_limits : Limits) (
   took_up into (Ok (Some n)) old new link came_is took is =
       let rose = rises (k.taken old.up) (k.taken link) took.taken in
       let taken : Round L = record old { up = link; trip = record old.trip { moved = true } } in
-      subst (ComesIn old new) (sym is.4) (comes_in_later old taken new (came_by is.1) (linked k old taken (serves_none k old.down) (record { faults = took.account.counted; given = inl took.given; taken = inr rose }) refl refl
-      refl refl (λ moved. inr (inr (inr rose))) (λ unmoved. absurd (true≢false unmoved))) (came taken new is.1 (handles_up is.0 taken new is.1 refl is.3)))
+      subst (ComesIn old new) (sym is.4) (comes_in_later old taken new (came_by is.1) (linked k old taken (serves_none k old.down)
+      (record { faults = took.account.counted; given = inl took.given; taken = inr rose }) refl refl
+      refl refl (λ moved. inr (inr (inr rose))) (λ unmoved. absurd (true≢false unmoved))) (came taken new is.1 (handles_up is.0 taken new
+      is.1 refl is.3)))
   took_up into (Ok None) old new link came_is took is =
-      subst (ComesIn old new) (sym is.1) (subst (Progress k old) (sym is.0) (linked k old (record old { up = link }) (serves_none k old.down) (record { faults = took.account.counted; given = inl took.given; taken = inl took.taken })
+      subst (ComesIn old new) (sym is.1) (subst (Progress k old) (sym is.0) (linked k old (record old { up = link }) (serves_none k
+      old.down) (record { faults = took.account.counted; given = inl took.given; taken = inl took.taken })
       refl refl refl refl (λ moved. inl moved) (λ unmoved. record {
         before = unmoved;
         udc = refl;
@@ -452,7 +467,7 @@ module _ {L : Type 0} (k : links.Ghosts L) (udc_limits centre_limits : Limits) (
   both : (First Second : Round L → Round L → Option Stop → Type 0)
       → ((old new : Round L) (stop : Option Stop) → First old new stop → Comes old new stop)
       → ((old new : Round L) (stop : Option Stop) → Second old new stop → Comes old new stop)
-      → (old new : Round L) (stop : Option Stop) → Then First Second old new stop → Comes old new stop
+      → (old new : Round L) (stop : Option Stop) → InTurn First Second old new stop → Comes old new stop
   both First Second one other old new stop (inl is) = subst (Comes old new) (sym is.2) (one old new (Some is.0) is.1)
   both First Second one other old new stop (inr is) =
       comes_later old is.0 new stop (one old is.0 None is.1) (other is.0 new stop is.2)
@@ -461,7 +476,8 @@ module _ {L : Type 0} (k : links.Ghosts L) (udc_limits centre_limits : Limits) (
       → UpToTwo (ReceivesDown (irc.ghosts (number C)) k centre_limits centre_opening C) old new stop → Comes old new stop
   received_down old new stop is = next _ each old is.0 new is.1 stop (each old is.0 is.1 is.2) is.3
     where
-      each : (old new : Round L) (came : Result Bool Stop) → ReceivesDown (irc.ghosts (number C)) k centre_limits centre_opening C old new came
+      each : (old new : Round L) (came : Result Bool Stop) → ReceivesDown (irc.ghosts (number C)) k centre_limits centre_opening C old
+          new came
           → ComesIn old new came
       each old new came is = took_down is.1 is.2 old new is.0 came is.3 is.4
 
@@ -475,13 +491,13 @@ module _ {L : Type 0} (k : links.Ghosts L) (udc_limits centre_limits : Limits) (
 
   -- all that has come is taken
   pub received : (old new : Round L) (stop : Option Stop)
-      → Then (UpToTwo (ReceivesDown (irc.ghosts (number C)) k centre_limits centre_opening C))
+      → InTurn (UpToTwo (ReceivesDown (irc.ghosts (number C)) k centre_limits centre_opening C))
       (UpToTwo (ReceivesUp udc.ghosts k udc_limits udc_opening C)) old new stop → Comes old new stop
   received = both _ _ received_down received_up
 
   -- what goes up is given, and then that
   pub after_down : (going : Option Packet) (old new : Round L) (stop : Option Stop)
-      → Then (GivesUp k going) (Then (UpToTwo (ReceivesDown (irc.ghosts (number C)) k centre_limits centre_opening C))
+      → InTurn (GivesUp k going) (InTurn (UpToTwo (ReceivesDown (irc.ghosts (number C)) k centre_limits centre_opening C))
       (UpToTwo (ReceivesUp udc.ghosts k udc_limits udc_opening C))) old new stop → Comes old new stop
   after_down going = both _ _ (gives_up going) received
 

@@ -20,8 +20,8 @@ use Rattle.pv_packet.specs.declared.packet.Packet.{Packet}
 use Rattle.pv_packet.specs.declared.packet.Packet.TheVariants.{Down, Up}
 use Rattle.pv_udc.specs.Replies.{down_of}
 use Rattle.pv_udc.specs.contracts.rules.UdcRulesRules.TheImpl as udc
-use Rattle.pv_ports.specs.Outcomes.{HasCause, WasIdle, IsKept}
-use Rattle.pv_ports.specs.Round.{CarrierState, Round, Stop, Then, UpToTwo, GivesDown, GivesUp, ReceivesDown, ReceivesUp, Carries, IsRound, end_of_trip}
+use Rattle.pv_ports.specs.Outcomes.{HasRoundCause, WasIdle, KeepsRecord}
+use Rattle.pv_ports.specs.Round.{CarrierState, Round, Stop, InTurn, UpToTwo, GivesDown, GivesUp, ReceivesDown, ReceivesUp, Carries, IsRound, end_of_trip}
 use Rattle.pv_ports.specs.Talk.{PassLooks}
 use Rattle.pv_ports.specs.declared.round_end.RoundEnd.TheVariants as stops
 use Rattle.pv_ports.specs.declared.trip.Trip.{Trip}
@@ -91,7 +91,7 @@ module _ {L : Type 0} (k : links.Ghosts L) (udc_limits centre_limits : Limits) (
       by (Err fault) stop none after = absurd (no_fault stop stops.LinkFault none after.1)
 
   nothing_up : (going : Option Packet) (old new : Round L)
-      → Then (GivesUp k going) (Then (UpToTwo (ReceivesDown (irc.ghosts (number C)) k centre_limits centre_opening C))
+      → InTurn (GivesUp k going) (InTurn (UpToTwo (ReceivesDown (irc.ghosts (number C)) k centre_limits centre_opening C))
       (UpToTwo (ReceivesUp udc.ghosts k udc_limits udc_opening C))) old new None → new.trip.moved ≡ false → going ≡ None
   nothing_up going old new (inl is) unmoved = let no = is.2 in absurd cc
   nothing_up going old new (inr is) unmoved =
@@ -115,12 +115,12 @@ module _ {L : Type 0} (k : links.Ghosts L) (udc_limits centre_limits : Limits) (
   -- what stages say of the cause
   abbrev Caused : CarrierState → Round L → Round L → Stop → Type 0
   Caused old first last why =
-      HasCause udc.ghosts (irc.ghosts (number C)) k udc_limits centre_limits udc_opening centre_opening C old first.down first.up
+      HasRoundCause udc.ghosts (irc.ghosts (number C)) k udc_limits centre_limits udc_opening centre_opening C old first.down first.up
       (kept_of last) last.down last.up why
 
   stopped : (old : CarrierState) (first last : Round L) (why : Stop) → PassLooks old.udc first.udc → PassLooks old.centre first.centre
       → Fails k udc_limits centre_limits udc_opening centre_opening C first last why
-      → HasCause udc.ghosts (irc.ghosts (number C)) k udc_limits centre_limits udc_opening centre_opening C old first.down first.up
+      → HasRoundCause udc.ghosts (irc.ghosts (number C)) k udc_limits centre_limits udc_opening centre_opening C old first.down first.up
       (kept_of last) last.down last.up why
   stopped old first last stops.LinkFault udc_looks centre_looks is = is
   stopped old first last (stops.DiskFault failure) udc_looks centre_looks (inl is) =
@@ -141,11 +141,12 @@ module _ {L : Type 0} (k : links.Ghosts L) (udc_limits centre_limits : Limits) (
   pub ends_for : (old new : CarrierState) (old_down old_up new_down new_up : L) (end : Stop)
       → IsRound udc.ghosts (irc.ghosts (number C)) k udc_limits centre_limits udc_opening centre_opening C old old_down old_up new
       new_down new_up end
-      → HasCause udc.ghosts (irc.ghosts (number C)) k udc_limits centre_limits udc_opening centre_opening C old old_down old_up new
+      → HasRoundCause udc.ghosts (irc.ghosts (number C)) k udc_limits centre_limits udc_opening centre_opening C old old_down old_up new
       new_down new_up end
   ends_for old new old_down old_up new_down new_up end is =
       rw (is.ends, is.state, is.new_links.0, is.new_links.1, ← is.old_links.0, ← is.old_links.1)
-      (by is.stop (carried k udc_limits centre_limits udc_opening centre_opening C is.going_down is.going_up is.first is.last is.stop is.carries)
+      (by is.stop (carried k udc_limits centre_limits udc_opening centre_opening C is.going_down is.going_up is.first is.last is.stop
+      is.carries)
       is.carries)
     where
       idle : Progress k is.first is.last
@@ -170,7 +171,8 @@ module _ {L : Type 0} (k : links.Ghosts L) (udc_limits centre_limits : Limits) (
             centre = subst (λ (p : Standing CentreRecord). PassLooks old.centre p) (sym still.centre) is.looks_up.looks;
             sent = subst (λ (p : Standing Record). length (with_opening udc_opening p.seen) ≤ old.sending.acknowledged) (sym still.udc)
                 (subst (λ (l : List Record). length l ≤ old.sending.acknowledged) is.looks_down.stands.stands sent);
-            posted = subst (λ (p : Standing CentreRecord). length (items_of (with_opening centre_opening p.seen)) ≤ old.posting.acknowledged)
+            posted = subst (λ (p : Standing CentreRecord). length (items_of (with_opening centre_opening p.seen)) ≤
+                old.posting.acknowledged)
                 (sym still.centre) (subst (λ (l : List Item). length l ≤ old.posting.acknowledged)
                 (ap (λ (s : CentreState). s.items) is.looks_up.stands.stands) posted);
             ends = (

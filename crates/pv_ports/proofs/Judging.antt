@@ -82,7 +82,7 @@ stored false false true count n rec kept reply is = absurd (subst IsAnswer is tt
 stored false false false count n rec kept reply is = (refl, ap (record_or kept) is, ap (reply_or reply) is)
 
 module _ (C : ℕ) (limits : Limits) (opening : List CentreRecord) where
-  -- what an ask for a record has done: what its reply acknowledges was applied, and the pass was told of what it applied
+  -- what an ask for a record has done: what its reply acknowledges was applied, and the pass counted what it applied
   pub record IsApplied (n : ℕ) (old new : Standing CentreRecord) (reply : IrcReply) : Type 0 where
     pub heard : IfSome (applied_by n reply) (λ m. m ≤ applied_of (with_opening opening new.seen))
     pub told : new.told ≡ old.told + records_in_reply reply
@@ -152,7 +152,7 @@ one_taken : (C k : ℕ) (item : Item) → taken_of (Taken (record { centre = C; 
 one_taken C k item = ap (λ (b : Bool). 0 + cond b 1 0) (eq-eqb C C refl)
 
 module _ (C : ℕ) (limits : Limits) (opening : List Record) where
-  -- what an ask for an item has done: what its reply acknowledges was taken up, and the pass was told of what it took up
+  -- what an ask for an item has done: what its reply acknowledges was taken up, and the pass counted what it took up
   pub record IsTakenIn (k : ℕ) (old new : Standing Record) (reply : UdcReply) : Type 0 where
     pub heard : IfSome (taken_by k reply) (λ m. m ≤ taken_of (with_opening opening new.seen) C)
     pub told : new.told ≡ old.told + items_in_reply reply

@@ -25,8 +25,8 @@ use Rattle.pv_udc.specs.Replies.{down_of}
 use Rattle.pv_udc.specs.contracts.rules.UdcRulesRules.TheImpl as udc
 use Rattle.pv_udc.specs.declared.reply.UdcReply.{UdcReply}
 use Rattle.pv_ports.specs.Parcels.{down_packet, up_packet}
-use Rattle.pv_ports.specs.Rights.{GoesDown, GoesUp, Spells, HoldRightPackets}
-use Rattle.pv_ports.specs.Round.{Round, Stop, CarrierState, Then, UpToTwo, ReceivesNext, GivesDown, GivesUp, HandlesDown, HandlesUp, HandlesTaken, ReceivesDown, ReceivesUp, AnswersRecord, AnswersItem, AppliesRecord, TakesItemUp, Carries, IsRound, applied_by, taken_by, trip_after_record, trip_after_item, trip_after_take}
+use Rattle.pv_ports.specs.Rights.{GoesDown, GoesUp, IsRightIfPacket, HoldRightPackets}
+use Rattle.pv_ports.specs.Round.{Round, Stop, CarrierState, InTurn, UpToTwo, ReceivesNext, GivesDown, GivesUp, HandlesDown, HandlesUp, HandlesTaken, ReceivesDown, ReceivesUp, AnswersRecord, AnswersItem, AppliesRecord, TakesItemUp, Carries, IsRound, applied_by, taken_by, trip_after_record, trip_after_item, trip_after_take}
 use Rattle.pv_ports.specs.Session.{AskFault}
 use Rattle.pv_ports.proofs.Growing.{down_grows, up_grows}
 use Rattle.pv_ports.proofs.Judging.{applied_answer, taken_answer}
@@ -62,7 +62,7 @@ module _ {L : Type 0} (k : links.Ghosts L) (udc_limits centre_limits : Limits) (
 
   -- bytes that spell a right packet spell no other
   spelled : (IsRight : Packet → Type 0) (packet : Packet) (bytes : List ℕ) → IsPacket packet → bytes ≡ packet_bytes packet
-      → IsRight packet → Spells C IsRight bytes
+      → IsRight packet → IsRightIfPacket C IsRight bytes
   spelled IsRight packet bytes ranges is right = λ other other_ranges same own.
       let one : Some packet ≡ Some other =
       sym (reads packet ranges) ∙ ap packet_of_bytes (sym is ∙ same) ∙ reads other other_ranges in
@@ -71,9 +71,9 @@ module _ {L : Type 0} (k : links.Ghosts L) (udc_limits centre_limits : Limits) (
   -- The passes have seen more, and the links may hold what they held and right packets.
   moves : (old new : Round L) → IsPrefix old.udc.seen new.udc.seen → IsPrefix old.centre.seen new.centre.seen
       → ((bytes : List ℕ) → k.may_hold new.down bytes
-      → k.may_hold old.down bytes ⊎ Spells C (GoesDown (with_opening udc_opening new.udc.seen)) bytes)
+      → k.may_hold old.down bytes ⊎ IsRightIfPacket C (GoesDown (with_opening udc_opening new.udc.seen)) bytes)
       → ((bytes : List ℕ) → k.may_hold new.up bytes
-      → k.may_hold old.up bytes ⊎ Spells C (GoesUp (with_opening centre_opening new.centre.seen)) bytes)
+      → k.may_hold old.up bytes ⊎ IsRightIfPacket C (GoesUp (with_opening centre_opening new.centre.seen)) bytes)
       → Right old → Right new
   moves old new udc centre down up is = record {
     down = λ bytes held.
@@ -118,7 +118,8 @@ module _ {L : Type 0} (k : links.Ghosts L) (udc_limits centre_limits : Limits) (
       → IfSome going (GoesUp (with_opening centre_opening old.centre.seen)) → GivesUp k going old new stop → Right old → Right new
   gives_up None old new stop right is holds =
       moves old new (same_pass old.udc new.udc (ap (λ (r : Round L). r.udc) is.1)) (same_pass old.centre new.centre
-      (ap (λ (r : Round L). r.centre) is.1)) (λ bytes held. inl (same_link old.down new.down (ap (λ (r : Round L). r.down) is.1) bytes held))
+      (ap (λ (r : Round L). r.centre) is.1)) (λ bytes held. inl (same_link old.down new.down (ap (λ (r : Round L). r.down) is.1) bytes
+      held))
       (λ bytes held. inl (same_link old.up new.up is.0.0 bytes held)) holds
   gives_up (Some packet) old new stop right is holds =
       let pass = ap (λ (r : Round L). r.centre) is.1 in
@@ -156,17 +157,30 @@ module _ {L : Type 0} (k : links.Ghosts L) (udc_limits centre_limits : Limits) (
       → HandlesDown (irc.ghosts (number C)) k centre_limits centre_opening C packet old new stop → Right old → Right new
   handles_down (Some (Down centre n rec)) old new stop is holds = by is.1 is.2 is.3
     where
-      by : (result : Result (Told IrcReply) AskFault) → AppliesRecord (irc.ghosts (number C)) centre_limits centre_opening C n rec old.centre is.0 result
-          → AnswersRecord (irc.ghosts (number C)) k centre_limits centre_opening C n result (record old { centre = is.0 }) new stop → Right new
+      by : (result : Result (Told IrcReply) AskFault) → AppliesRecord (irc.ghosts (number C)) centre_limits centre_opening C n rec
+          old.centre is.0 result
+          → AnswersRecord (irc.ghosts (number C)) k centre_limits centre_opening C n result (record old { centre = is.0 }) new stop →
+          Right new
       by (Ok told) applies answers =
           let done = applied_answer C centre_limits centre_opening n rec old.centre is.0 told applies.comes.0 in
-          gives_up (option_map (DownHeard C) (applied_by n told.reply)) (record old { centre = is.0; trip = trip_after_record told.reply old.trip }) new stop
+          gives_up (option_map (DownHeard C) (applied_by n told.reply)) (record old {
+            centre = is.0;
+            trip = trip_after_record told.reply
+                old.trip;
+          }) new stop
           (heard_up (with_opening centre_opening is.0.seen) (applied_by n told.reply) done.heard) answers
-          (only_passes old (record old { centre = is.0; trip = trip_after_record told.reply old.trip }) (prefix_self old.udc.seen) applies.asks.prefix refl refl holds)
+          (only_passes old (record old { centre = is.0; trip = trip_after_record told.reply old.trip }) (prefix_self old.udc.seen)
+          applies.asks.prefix refl refl holds)
       by (Err fault) applies answers =
-          subst Right (sym answers.0) (only_passes old (record old { centre = is.0 }) (prefix_self old.udc.seen) applies.asks.prefix refl refl holds)
+          subst Right (sym answers.0) (only_passes old (record old { centre = is.0 }) (prefix_self old.udc.seen) applies.asks.prefix refl
+          refl holds)
   handles_down (Some (UpHeard centre count)) old new stop is holds =
-      subst Right (sym is.0) (only_passes old (record old { trip = record old.trip { posting = end_that_heard old.trip.posting count old.trip.item_count } }) (prefix_self old.udc.seen) (prefix_self old.centre.seen) refl refl holds)
+      subst Right (sym is.0) (only_passes old (record old {
+        trip = record old.trip {
+          posting = end_that_heard old.trip.posting count
+              old.trip.item_count;
+        };
+      }) (prefix_self old.udc.seen) (prefix_self old.centre.seen) refl refl holds)
   handles_down (Some (Up centre number item)) old new stop is holds = subst Right (sym is.0) holds
   handles_down (Some (DownHeard centre count)) old new stop is holds = subst Right (sym is.0) holds
   handles_down None old new stop is holds = subst Right (sym is.0) holds
@@ -179,13 +193,24 @@ module _ {L : Type 0} (k : links.Ghosts L) (udc_limits centre_limits : Limits) (
           → AnswersItem udc.ghosts k udc_limits udc_opening C number result (record old { udc = is.0 }) new stop → Right new
       by (Ok told) takes answers =
           let done = taken_answer C udc_limits udc_opening number item old.udc is.0 told takes.comes.0 in
-          gives_down (option_map (UpHeard C) (taken_by number told.reply)) (record old { udc = is.0; trip = trip_after_item told.reply old.trip }) new stop
+          gives_down (option_map (UpHeard C) (taken_by number told.reply)) (record old {
+            udc = is.0;
+            trip = trip_after_item told.reply
+                old.trip;
+          }) new stop
           (heard_down (with_opening udc_opening is.0.seen) (taken_by number told.reply) done.heard) answers
-          (only_passes old (record old { udc = is.0; trip = trip_after_item told.reply old.trip }) takes.asks.prefix (prefix_self old.centre.seen) refl refl holds)
+          (only_passes old (record old { udc = is.0; trip = trip_after_item told.reply old.trip }) takes.asks.prefix (prefix_self
+          old.centre.seen) refl refl holds)
       by (Err fault) takes answers =
-          subst Right (sym answers.0) (only_passes old (record old { udc = is.0 }) takes.asks.prefix (prefix_self old.centre.seen) refl refl holds)
+          subst Right (sym answers.0) (only_passes old (record old { udc = is.0 }) takes.asks.prefix (prefix_self old.centre.seen) refl
+          refl holds)
   handles_up (Some (DownHeard centre count)) old new stop is holds =
-      subst Right (sym is.0) (only_passes old (record old { trip = record old.trip { sending = end_that_heard old.trip.sending count old.trip.record_count } }) (prefix_self old.udc.seen) (prefix_self old.centre.seen) refl refl holds)
+      subst Right (sym is.0) (only_passes old (record old {
+        trip = record old.trip {
+          sending = end_that_heard old.trip.sending count
+              old.trip.record_count;
+        };
+      }) (prefix_self old.udc.seen) (prefix_self old.centre.seen) refl refl holds)
   handles_up (Some (Down centre n rec)) old new stop is holds = subst Right (sym is.0) holds
   handles_up (Some (UpHeard centre count)) old new stop is holds = subst Right (sym is.0) holds
   handles_up None old new stop is holds = subst Right (sym is.0) holds
@@ -204,7 +229,8 @@ module _ {L : Type 0} (k : links.Ghosts L) (udc_limits centre_limits : Limits) (
   receives_down old new came is holds =
       taken_by_way (HandlesDown (irc.ghosts (number C)) k centre_limits centre_opening C) is.1 is.2 handles_down
       (record old { down = is.0; trip = trip_after_take is.2 old.trip }) new came is.4
-      (moves old (record old { down = is.0; trip = trip_after_take is.2 old.trip }) (prefix_self old.udc.seen) (prefix_self old.centre.seen) (λ bytes held. inl (is.3.only bytes held))
+      (moves old (record old { down = is.0; trip = trip_after_take is.2 old.trip }) (prefix_self old.udc.seen) (prefix_self
+      old.centre.seen) (λ bytes held. inl (is.3.only bytes held))
       (λ bytes held. inl held) holds)
 
   receives_up : (old new : Round L) (came : Result Bool Stop)
@@ -212,7 +238,8 @@ module _ {L : Type 0} (k : links.Ghosts L) (udc_limits centre_limits : Limits) (
   receives_up old new came is holds =
       taken_by_way (HandlesUp udc.ghosts k udc_limits udc_opening C) is.1 is.2 handles_up
       (record old { up = is.0; trip = trip_after_take is.2 old.trip }) new came is.4
-      (moves old (record old { up = is.0; trip = trip_after_take is.2 old.trip }) (prefix_self old.udc.seen) (prefix_self old.centre.seen) (λ bytes held. inl held)
+      (moves old (record old { up = is.0; trip = trip_after_take is.2 old.trip }) (prefix_self old.udc.seen) (prefix_self
+      old.centre.seen) (λ bytes held. inl held)
       (λ bytes held. inl (is.3.only bytes held)) holds)
 
   next : (Receives : Round L → Round L → Result Bool Stop → Type 0)
@@ -230,14 +257,14 @@ module _ {L : Type 0} (k : links.Ghosts L) (udc_limits centre_limits : Limits) (
   -- ---- the round
 
   received : (old new : Round L) (stop : Option Stop)
-      → Then (UpToTwo (ReceivesDown (irc.ghosts (number C)) k centre_limits centre_opening C))
+      → InTurn (UpToTwo (ReceivesDown (irc.ghosts (number C)) k centre_limits centre_opening C))
       (UpToTwo (ReceivesUp udc.ghosts k udc_limits udc_opening C)) old new stop → Right old → Right new
   received old new stop (inl is) holds = up_to_two _ receives_down old new (Some is.0) is.1 holds
   received old new stop (inr is) holds = up_to_two _ receives_up is.0 new stop is.2 (up_to_two _ receives_down old is.0 None is.1 holds)
 
   given_up : (going : Option Packet) (old new : Round L) (stop : Option Stop)
       → IfSome going (GoesUp (with_opening centre_opening old.centre.seen))
-      → Then (GivesUp k going) (Then (UpToTwo (ReceivesDown (irc.ghosts (number C)) k centre_limits centre_opening C))
+      → InTurn (GivesUp k going) (InTurn (UpToTwo (ReceivesDown (irc.ghosts (number C)) k centre_limits centre_opening C))
       (UpToTwo (ReceivesUp udc.ghosts k udc_limits udc_opening C))) old new stop → Right old → Right new
   given_up going old new stop right (inl is) holds = gives_up going old new (Some is.0) right is.1 holds
   given_up going old new stop right (inr is) holds = received is.0 new stop is.2 (gives_up going old is.0 None right is.1 holds)
@@ -268,8 +295,10 @@ module _ {L : Type 0} (k : links.Ghosts L) (udc_limits centre_limits : Limits) (
       is.looks_down.looks.prefix is.looks_up.looks.prefix is.old_links.0 is.old_links.1 holds in
       let down : IfSome is.going_down (GoesDown (with_opening udc_opening first.udc.seen)) =
       subst (λ (p : Option Packet). IfSome p (GoesDown (with_opening udc_opening first.udc.seen))) (sym is.looks_down.going_is)
-      (subst (λ (l : List Record). IfSome (down_packet C l (number_to_give old.sending first.trip.record_count)) (GoesDown (with_opening udc_opening first.udc.seen)))
-      (sym is.looks_down.stands.stands) (next_down C (with_opening udc_opening first.udc.seen) (number_to_give old.sending first.trip.record_count))) in
+      (subst (λ (l : List Record). IfSome (down_packet C l (number_to_give old.sending first.trip.record_count)) (GoesDown (with_opening
+      udc_opening first.udc.seen)))
+      (sym is.looks_down.stands.stands) (next_down C (with_opening udc_opening first.udc.seen) (number_to_give old.sending
+      first.trip.record_count))) in
       let up : IfSome is.going_up (GoesUp (with_opening centre_opening first.centre.seen)) =
       subst (λ (p : Option Packet). IfSome p (GoesUp (with_opening centre_opening first.centre.seen))) (sym is.looks_up.going_is)
       (next_up C is.looks_up.state.items (with_opening centre_opening first.centre.seen) (number_to_give old.posting first.trip.item_count)

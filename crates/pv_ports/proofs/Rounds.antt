@@ -19,7 +19,7 @@ use Rattle.pv_packet.specs.declared.packet.Packet.{Packet}
 use Rattle.pv_udc.specs.EditList.{EditList}
 use Rattle.pv_udc.specs.declared.reply.UdcReply.{UdcReply}
 use Rattle.pv_udc.specs.declared.request.UdcRequest.{UdcRequest}
-use Rattle.pv_ports.specs.Parcels.{IsSpelled}
+use Rattle.pv_ports.specs.Parcels.{BeginsWithPacket}
 use Rattle.pv_ports.specs.Round.{Stop, Round, round_at, GivesTo, IsReadAs, LooksDown, LooksUp, Carries, IsRound, ask_stop, end_of_trip}
 use Rattle.pv_ports.specs.Session.{ask_fault}
 use Rattle.pv_ports.specs.declared.trip.Trip.{Trip}
@@ -40,13 +40,13 @@ answered_to k packet other old new trip counted after stop same_packet same_trip
 
 -- what a buffer holds is given, if it holds a packet
 pub given_if : {L : Type 0} (k : links.Ghosts L) (packet : Option Packet) (bytes : List ℕ) (size : Option ℕ) (n : ℕ) (old new : L)
-    (trip after : Trip) (stop : Option Stop) → size ≡ Some n → IsSpelled bytes size packet
+    (trip after : Trip) (stop : Option Stop) → size ≡ Some n → BeginsWithPacket bytes size packet
     → ((one : Packet) → IsPacket one → take n bytes ≡ packet_bytes one → GivesTo k (Some one) old trip new after stop)
     → GivesTo k packet old trip new after stop
 given_if k packet bytes size n old new trip after stop some spelled gives =
-    by packet (subst (λ (s : Option ℕ). IsSpelled bytes s packet) some spelled)
+    by packet (subst (λ (s : Option ℕ). BeginsWithPacket bytes s packet) some spelled)
   where
-    by : (p : Option Packet) → IsSpelled bytes (Some n) p → GivesTo k p old trip new after stop
+    by : (p : Option Packet) → BeginsWithPacket bytes (Some n) p → GivesTo k p old trip new after stop
     by (Some one) is = gives one is.1 is.2
     by None is = absurd is
 
@@ -72,7 +72,8 @@ module _ {SU SC L : Type 0} (u : rules.Ghosts SU EditList UdcRequest Record UdcR
       → LooksUp c centre_limits centre_opening C looked_centre looked.posting centre ready.posting ready.item_count going_up
       → ready_udc ≡ udc
       → ready ≡ record looked { posting = ready.posting; item_count = ready.item_count }
-      → Carries u c k udc_limits centre_limits udc_opening centre_opening C going_down going_up (round_at ready_udc centre ready down up) last stop
+      → Carries u c k udc_limits centre_limits udc_opening centre_opening C going_down going_up (round_at ready_udc centre ready down up)
+      last stop
       → end ≡ unwrap_or stop (end_of_trip last.trip)
       → IsRound u c k udc_limits centre_limits udc_opening centre_opening C
       (record { udc = old_udc; centre = old_centre; sending = old.sending; posting = old.posting }) down up
@@ -87,16 +88,19 @@ module _ {SU SC L : Type 0} (u : rules.Ghosts SU EditList UdcRequest Record UdcR
         looks_down =
             subst (λ (e : SendingEnd). LooksDown u udc_limits udc_opening C old_udc e ready_udc ready.sending ready.record_count going_down)
             (ap (λ (t : Trip). t.sending) begins)
-            (subst (λ (p : Standing Record). LooksDown u udc_limits udc_opening C old_udc begun.sending p ready.sending ready.record_count going_down)
+            (subst (λ (p : Standing Record). LooksDown u udc_limits udc_opening C old_udc begun.sending p ready.sending
+            ready.record_count going_down)
             (sym same_udc)
             (subst (λ (e : SendingEnd). LooksDown u udc_limits udc_opening C old_udc begun.sending udc e ready.record_count going_down)
             (sym (ap (λ (t : Trip). t.sending) second))
             (subst (λ (n : ℕ). LooksDown u udc_limits udc_opening C old_udc begun.sending udc looked.sending n going_down)
             (sym (ap (λ (t : Trip). t.record_count) second)) looks_down)));
         looks_up =
-            subst (λ (p : Standing CentreRecord). LooksUp c centre_limits centre_opening C p old.posting centre ready.posting ready.item_count going_up)
+            subst (λ (p : Standing CentreRecord). LooksUp c centre_limits centre_opening C p old.posting centre ready.posting
+            ready.item_count going_up)
             same_centre
-            (subst (λ (e : SendingEnd). LooksUp c centre_limits centre_opening C looked_centre e centre ready.posting ready.item_count going_up)
+            (subst (λ (e : SendingEnd). LooksUp c centre_limits centre_opening C looked_centre e centre ready.posting ready.item_count
+            going_up)
             (ap (λ (t : Trip). t.posting) first ∙ ap (λ (t : Trip). t.posting) begins) looks_up);
         begins = (
           ap (λ (t : Trip). t.moved) second ∙ ap (λ (t : Trip). t.moved) first ∙ ap (λ (t : Trip). t.moved) begins,

@@ -19,22 +19,22 @@ use Rattle.pv_ports.specs.Round.{CarrierState, Stop, centre_node}
 use Rattle.pv_ports.specs.Talk.{PassLooks}
 use Rattle.pv_ports.specs.declared.round_end.RoundEnd.TheVariants as stops
 
--- the pass was told of this many records, and none of its asks failed
+-- the pass counted this many stored records, and none of its asks failed
 abbrev pub IsTold : {Rec : Type 0} → Standing Rec → Standing Rec → ℕ → Type 0
 IsTold old new count = (new.told ≡ old.told + count) × (new.failed ≡ old.failed)
 
 -- a record of the pass was stored at this place, after all that it had seen before, and not published
-abbrev pub IsKept : {Rec : Type 0} → List Rec → Standing Rec → Standing Rec → ℕ → Type 0
-IsKept opening old new place = (old.told < new.told) × (length opening + length old.seen ≤ place)
+abbrev pub KeepsRecord : {Rec : Type 0} → List Rec → Standing Rec → Standing Rec → ℕ → Type 0
+KeepsRecord opening old new place = (old.told < new.told) × (length opening + length old.seen ≤ place)
 
 module _ {L : Type 0} (k : links.Ghosts L) where
   -- a link was given a packet or handed one out
-  abbrev pub IsUsed : L → L → Type 0
-  IsUsed old new = Rose (k.given old) (k.given new) ⊎ Rose (k.taken old) (k.taken new)
+  abbrev pub LinkIsUsed : L → L → Type 0
+  LinkIsUsed old new = Rose (k.given old) (k.given new) ⊎ Rose (k.taken old) (k.taken new)
 
   -- a link was given no packet and handed none out
-  abbrev pub IsUnused : L → L → Type 0
-  IsUnused old new = (k.given new ≡ k.given old) × (k.taken new ≡ k.taken old)
+  abbrev pub LinkIsUnused : L → L → Type 0
+  LinkIsUnused old new = (k.given new ≡ k.given old) × (k.taken new ≡ k.taken old)
 
 module _ {SU SC L : Type 0} (u : rules.Ghosts SU EditList UdcRequest Record UdcReply)
     (c : rules.Ghosts SC CentreState IrcRequest CentreRecord IrcReply) (k : links.Ghosts L) (udc_limits centre_limits : Limits)
@@ -46,19 +46,19 @@ module _ {SU SC L : Type 0} (u : rules.Ghosts SU EditList UdcRequest Record UdcR
     pub sent : length (with_opening udc_opening new.udc.seen) ≤ old.sending.acknowledged
     pub posted : length (items_of (with_opening centre_opening new.centre.seen)) ≤ old.posting.acknowledged
     pub ends : (new.sending ≡ old.sending) × (new.posting ≡ old.posting)
-    pub links : IsUnused k old_down new_down × IsUnused k old_up new_up
+    pub links : LinkIsUnused k old_down new_down × LinkIsUnused k old_up new_up
 
-  -- Why a round ended so. With `Moved` some link was used, and each pass was told of the records that are counted.
-  abbrev pub HasCause : CarrierState → L → L → CarrierState → L → L → Stop → Type 0
-  HasCause old old_down old_up new new_down new_up (stops.Moved records items) =
-      (IsUsed k old_down new_down ⊎ IsUsed k old_up new_up) × IsTold old.centre new.centre records × IsTold old.udc new.udc items
-  HasCause old old_down old_up new new_down new_up stops.Idle = WasIdle old old_down old_up new new_down new_up
-  HasCause old old_down old_up new new_down new_up stops.LinkFault =
+  -- Why a round ended so. With `Moved` some link was used, and each pass counted as many stored records as it says.
+  abbrev pub HasRoundCause : CarrierState → L → L → CarrierState → L → L → Stop → Type 0
+  HasRoundCause old old_down old_up new new_down new_up (stops.Moved records items) =
+      (LinkIsUsed k old_down new_down ⊎ LinkIsUsed k old_up new_up) × IsTold old.centre new.centre records × IsTold old.udc new.udc items
+  HasRoundCause old old_down old_up new new_down new_up stops.Idle = WasIdle old old_down old_up new new_down new_up
+  HasRoundCause old old_down old_up new new_down new_up stops.LinkFault =
       Rose (k.faults old_down) (k.faults new_down) ⊎ Rose (k.faults old_up) (k.faults new_up)
-  HasCause old old_down old_up new new_down new_up (stops.DiskFault failure) =
+  HasRoundCause old old_down old_up new new_down new_up (stops.DiskFault failure) =
       (new.udc.failed ≡ old.udc.failed + 1) ⊎ (new.centre.failed ≡ old.centre.failed + 1)
-  HasCause old old_down old_up new new_down new_up (stops.Full node count) =
+  HasRoundCause old old_down old_up new new_down new_up (stops.Full node count) =
       ((node ≡ 0) × (request : UdcRequest) × IsFullFor u udc_limits udc_opening request new.udc count)
       ⊎ ((node ≡ centre_node C) × (request : IrcRequest) × IsFullFor c centre_limits centre_opening request new.centre count)
-  HasCause old old_down old_up new new_down new_up (stops.Memory stored) =
-      IfSome stored (IsKept udc_opening old.udc new.udc) ⊎ IfSome stored (IsKept centre_opening old.centre new.centre)
+  HasRoundCause old old_down old_up new new_down new_up (stops.Memory stored) =
+      IfSome stored (KeepsRecord udc_opening old.udc new.udc) ⊎ IfSome stored (KeepsRecord centre_opening old.centre new.centre)

@@ -17,8 +17,8 @@ down_packet C records number = number >>= λ n. option_map (λ (rec : Record). D
 abbrev pub up_packet : ℕ → List Item → Option ℕ → Option Packet
 up_packet C items number = number >>= λ k. option_map (λ (item : Item). Up C k item) (slice_get items k)
 
--- the buffer begins with so much of the packet's spelling, which is all of it; or there is no packet
-abbrev pub IsSpelled : List ℕ → Option ℕ → Option Packet → Type 0
-IsSpelled bytes (Some n) (Some packet) = (n ≤ MAX_PACKET) × IsPacket packet × (take n bytes ≡ packet_bytes packet)
-IsSpelled bytes None None = Unit {0}
-IsSpelled bytes _ _ = ⊥
+-- the buffer begins with the packet's spelling, which has this many bytes; or there is no packet
+abbrev pub BeginsWithPacket : List ℕ → Option ℕ → Option Packet → Type 0
+BeginsWithPacket bytes (Some n) (Some packet) = (n ≤ MAX_PACKET) × IsPacket packet × (take n bytes ≡ packet_bytes packet)
+BeginsWithPacket bytes None None = Unit {0}
+BeginsWithPacket bytes _ _ = ⊥

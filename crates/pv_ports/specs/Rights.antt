@@ -27,11 +27,11 @@ GoesUp records (DownHeard centre count) = count ≤ applied_of records
 GoesUp records _ = ⊥
 
 -- if the bytes spell a packet of this centre, it is right
-abbrev pub Spells : ℕ → (Packet → Type 0) → List ℕ → Type 0
-Spells C IsRight bytes = (packet : Packet) → IsPacket packet → bytes ≡ packet_bytes packet → centre_of packet ≡ C → IsRight packet
+abbrev pub IsRightIfPacket : ℕ → (Packet → Type 0) → List ℕ → Type 0
+IsRightIfPacket C IsRight bytes = (packet : Packet) → IsPacket packet → bytes ≡ packet_bytes packet → centre_of packet ≡ C → IsRight packet
 
 -- all packets of this centre that the two links may hold are right, by what the passes have seen
 pub record HoldRightPackets {L : Type 0} (k : links.Ghosts L) (udc_opening : List Record) (centre_opening : List CentreRecord) (C : ℕ)
     (udc : Standing Record) (centre : Standing CentreRecord) (down_link up_link : L) : Type 0 where
-  pub down : (bytes : List ℕ) → k.may_hold down_link bytes → Spells C (GoesDown (with_opening udc_opening udc.seen)) bytes
-  pub up : (bytes : List ℕ) → k.may_hold up_link bytes → Spells C (GoesUp (with_opening centre_opening centre.seen)) bytes
+  pub down : (bytes : List ℕ) → k.may_hold down_link bytes → IsRightIfPacket C (GoesDown (with_opening udc_opening udc.seen)) bytes
+  pub up : (bytes : List ℕ) → k.may_hold up_link bytes → IsRightIfPacket C (GoesUp (with_opening centre_opening centre.seen)) bytes

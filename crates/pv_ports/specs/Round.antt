@@ -172,9 +172,9 @@ stop_in (Ok came) = None
 stop_in (Err why) = Some why
 
 -- one stage, and then another, unless the round stops at the first
-abbrev pub Then : {L : Type 0} → (Round L → Round L → Option Stop → Type 0) → (Round L → Round L → Option Stop → Type 0)
+abbrev pub InTurn : {L : Type 0} → (Round L → Round L → Option Stop → Type 0) → (Round L → Round L → Option Stop → Type 0)
     → Round L → Round L → Option Stop → Type 0
-Then First Second old new stop =
+InTurn First Second old new stop =
     ((why : Stop) × First old new (Some why) × (stop ≡ Some why)) ⊎ ((mid : Round _) × First old mid None × Second mid new stop)
 
 -- ---- the looks
@@ -210,7 +210,8 @@ module _ {SC : Type 0} (c : rules.Ghosts SC CentreState IrcRequest CentreRecord 
     pub going_is : going ≡ up_packet C state.items (number_to_give end count)
 
   -- the centre is asked to apply a record
-  pub record AppliesRecord (n : ℕ) (rec : DownRecord) (old new : Standing CentreRecord) (result : Result (Told IrcReply) AskFault) : Type 0 where
+  pub record AppliesRecord (n : ℕ) (rec : DownRecord) (old new : Standing CentreRecord) (result : Result (Told IrcReply) AskFault) : Type
+      0 where
     pub asks : PassAsks old new
     pub comes : MatchResult result (λ told. HasAsked c limits opening (Apply n rec) old new told × (new.failed ≡ old.failed))
         (λ fault. HasFailed c limits opening (Apply n rec) old new fault)
@@ -244,7 +245,8 @@ module _ {L : Type 0} (k : links.Ghosts L) where
   abbrev pub HandlesTaken : ℕ → (Option Packet → Round L → Round L → Option Stop → Type 0) → List ℕ → Result (Option ℕ) Failed
       → Round L → Round L → Result Bool Stop → Type 0
   HandlesTaken C Handles into (Ok (Some n)) old new came =
-      (packet : Option Packet) × (stop : Option Stop) × IsReadAs C (take n into) packet × Handles packet old new stop × (came ≡ came_by stop)
+      (packet : Option Packet) × (stop : Option Stop) × IsReadAs C (take n into) packet × Handles packet old new stop × (came ≡ came_by
+      stop)
   HandlesTaken C Handles into (Ok None) old new came = (new ≡ old) × (came ≡ Ok false)
   HandlesTaken C Handles into (Err fault) old new came = (new ≡ old) × (came ≡ Err stops.LinkFault)
 
@@ -285,7 +287,8 @@ module _ {S L : Type 0} (u : rules.Ghosts S EditList UdcRequest Record UdcReply)
       (pass : Standing Record) × (result : Result (Told UdcReply) AskFault)
       × TakesItemUp u limits opening C number item old.udc pass result × AnswersItem number result (record old { udc = pass }) new stop
   HandlesUp (Some (DownHeard centre count)) old new stop =
-      (new ≡ record old { trip = record old.trip { sending = end_that_heard old.trip.sending count old.trip.record_count } }) × (stop ≡ None)
+      (new ≡ record old { trip = record old.trip { sending = end_that_heard old.trip.sending count old.trip.record_count } }) × (stop ≡
+      None)
   HandlesUp _ old new stop = (new ≡ old) × (stop ≡ None)
 
   -- a packet is taken from the link up, and handled
@@ -299,15 +302,15 @@ module _ {SU SC L : Type 0} (u : rules.Ghosts SU EditList UdcRequest Record UdcR
     (udc_opening : List Record) (centre_opening : List CentreRecord) (C : ℕ) where
   -- all that has come is received: first what came down, and then what came up
   abbrev pub Receives : Round L → Round L → Option Stop → Type 0
-  Receives = Then (UpToTwo (ReceivesDown c k centre_limits centre_opening C)) (UpToTwo (ReceivesUp u k udc_limits udc_opening C))
+  Receives = InTurn (UpToTwo (ReceivesDown c k centre_limits centre_opening C)) (UpToTwo (ReceivesUp u k udc_limits udc_opening C))
 
   -- and before that this goes up
   abbrev pub CarriesUp : Option Packet → Round L → Round L → Option Stop → Type 0
-  CarriesUp going = Then (GivesUp k going) Receives
+  CarriesUp going = InTurn (GivesUp k going) Receives
 
   -- what a round does after its looks, with what goes down and up
   abbrev pub Carries : Option Packet → Option Packet → Round L → Round L → Option Stop → Type 0
-  Carries going_down going_up = Then (GivesDown k going_down) (CarriesUp going_up)
+  Carries going_down going_up = InTurn (GivesDown k going_down) (CarriesUp going_up)
 
   -- A whole round: both nodes are looked at, and what the sending ends give next is given to the links; then what has come is taken and
   -- handled, up to two packets on each way. The round ends as it stopped; or as `first` became `last`.

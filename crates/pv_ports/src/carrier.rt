@@ -1,7 +1,7 @@
 ghost use Rattle.std.specs.Prelude.{◌≡◌, ◌≤◌};
 ghost use Rattle.pv_edits.specs.Taken.{IsCentre};
 ghost use Rattle.pv_link.specs.Sending.{new_end};
-ghost use Rattle.pv_ports.specs.Outcomes.{HasCause};
+ghost use Rattle.pv_ports.specs.Outcomes.{HasRoundCause};
 ghost use Rattle.pv_ports.specs.Rights.{HoldRightPackets};
 ghost use Rattle.pv_ports.specs.Round.{IsRound, round_stop};
 
@@ -85,15 +85,19 @@ impl<const C: u8, U: Run<Record>, N: Run<CentreRecord>> Carrier<C, U, N> {
         up: &mut L,
     ) -> RoundEnd<D>
         ensures round { IsRound ⟦<UdcRules as Rules>⟧ ⟦<IrcRules<C> as Rules>⟧ ⟦<L as Link>⟧
-            U.limits N.limits U.opening N.opening C self.old down.old up.old self.new down.new up.new (round_stop result) }
+            U.limits N.limits U.opening N.opening C self.old down.old up.old self.new down.new up.new
+            (round_stop result) }
 
         // Each end has its cause.
-        ensures cause { HasCause ⟦<UdcRules as Rules>⟧ ⟦<IrcRules<C> as Rules>⟧ ⟦<L as Link>⟧
-            U.limits N.limits U.opening N.opening C self.old down.old up.old self.new down.new up.new (round_stop result) }
+        ensures cause { HasRoundCause ⟦<UdcRules as Rules>⟧ ⟦<IrcRules<C> as Rules>⟧ ⟦<L as Link>⟧
+            U.limits N.limits U.opening N.opening C self.old down.old up.old self.new down.new up.new
+            (round_stop result) }
 
         // Packets stay right: if all that the links may hold are right before the round, they are right after it.
-        ensures right { HoldRightPackets ⟦<L as Link>⟧ U.opening N.opening C self.old.udc self.old.centre down.old up.old
-            → HoldRightPackets ⟦<L as Link>⟧ U.opening N.opening C self.new.udc self.new.centre down.new up.new }
+        ensures right { HoldRightPackets ⟦<L as Link>⟧ U.opening N.opening C self.old.udc self.old.centre
+            down.old up.old
+            → HoldRightPackets ⟦<L as Link>⟧ U.opening N.opening C self.new.udc self.new.centre down.new
+            up.new }
     {
         a_packet_is_read_as_it_is_spelled();
         self.make_round(rt, udc, centre, down, up)
@@ -109,7 +113,8 @@ impl<const C: u8, U: Run<Record>, N: Run<CentreRecord>> Carrier<C, U, N> {
         up: &mut L,
     ) -> RoundEnd<D>
         ensures { IsRound ⟦<UdcRules as Rules>⟧ ⟦<IrcRules<C> as Rules>⟧ ⟦<L as Link>⟧
-            U.limits N.limits U.opening N.opening C self.old down.old up.old self.new down.new up.new (round_stop result) }
+            U.limits N.limits U.opening N.opening C self.old down.old up.old self.new down.new up.new
+            (round_stop result) }
     {
         self.hand.trip.begin();
         self.hand.look_down(rt);

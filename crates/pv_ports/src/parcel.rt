@@ -3,7 +3,7 @@ ghost use Rattle.pv_edits.specs.Taken.{IsCentre};
 ghost use Rattle.pv_link.specs.Sending.{new_end, number_to_give, end_after};
 ghost use Rattle.pv_outside.specs.declared.link.TheConstants.{MAX_PACKET};
 ghost use Rattle.pv_packet.specs.Packet.{IsPacket, packet_bytes, centre_of};
-ghost use Rattle.pv_ports.specs.Parcels.{IsSpelled, down_packet, up_packet};
+ghost use Rattle.pv_ports.specs.Parcels.{BeginsWithPacket, down_packet, up_packet};
 
 use pv_fields::Out;
 use pv_irc::IrcState;
@@ -44,11 +44,12 @@ impl<const C: u8> DownParcel<C> {
 impl<const C: u8> Viewer<UdcState> for DownParcel<C> {
     ghost use Rattle.std.specs.Prelude.{◌≡◌, length};
     ghost use Rattle.pv_link.specs.Sending.{number_to_give, end_after};
-    ghost use Rattle.pv_ports.specs.Parcels.{IsSpelled, down_packet};
+    ghost use Rattle.pv_ports.specs.Parcels.{BeginsWithPacket, down_packet};
 
     ghost may_become = { λ old state new. (new.count ≡ length state.records)
         × (new.end ≡ end_after old.end new.count)
-        × IsSpelled new.bytes new.size (down_packet C state.records (number_to_give old.end new.count)) };
+        × BeginsWithPacket new.bytes new.size (down_packet C state.records (number_to_give old.end
+        new.count)) };
 
     fn view(&mut self, state: &UdcState) {
         self.count = state.front();
@@ -90,11 +91,11 @@ impl<const C: u8> UpParcel<C> {
 impl<const C: u8> Viewer<IrcState> for UpParcel<C> {
     ghost use Rattle.std.specs.Prelude.{◌≡◌, length};
     ghost use Rattle.pv_link.specs.Sending.{number_to_give, end_after};
-    ghost use Rattle.pv_ports.specs.Parcels.{IsSpelled, up_packet};
+    ghost use Rattle.pv_ports.specs.Parcels.{BeginsWithPacket, up_packet};
 
     ghost may_become = { λ old state new. (new.count ≡ length state.items)
         × (new.end ≡ end_after old.end new.count)
-        × IsSpelled new.bytes new.size (up_packet C state.items (number_to_give old.end new.count)) };
+        × BeginsWithPacket new.bytes new.size (up_packet C state.items (number_to_give old.end new.count)) };
 
     fn view(&mut self, state: &IrcState) {
         self.count = state.items();
@@ -112,7 +113,7 @@ fn spell_record<const C: u8>(
     into: &mut [u8; MAX_PACKET],
 ) -> Option<usize>
     requires { IsCentre C }
-    ensures { IsSpelled into.new result (down_packet C state.now.records (Some number)) }
+    ensures { BeginsWithPacket into.new result (down_packet C state.now.records (Some number)) }
 {
     let rec = state.rec_at(number)?;
     let packet = Packet::Down {
@@ -130,7 +131,7 @@ fn spell_item<const C: u8>(
     into: &mut [u8; MAX_PACKET],
 ) -> Option<usize>
     requires { IsCentre C }
-    ensures { IsSpelled into.new result (up_packet C state.now.items (Some number)) }
+    ensures { BeginsWithPacket into.new result (up_packet C state.now.items (Some number)) }
 {
     let item = state.item_at(number)?;
     let packet = Packet::Up {
@@ -144,7 +145,7 @@ fn spell_item<const C: u8>(
 /// Puts the spelling of a packet at the beginning, and returns how many bytes it has.
 pub(crate) fn spell(packet: &Packet, into: &mut [u8; MAX_PACKET]) -> usize
     requires { IsCentre (centre_of packet.now) }
-    ensures { IsSpelled into.new (Some result) (Some packet.now) }
+    ensures { BeginsWithPacket into.new (Some result) (Some packet.now) }
 {
     packet.within();
     a_packet_is_read_as_it_is_spelled();

@@ -6,7 +6,7 @@ ghost use Rattle.pv_outside.specs.declared.link.TheConstants.{MAX_PACKET};
 ghost use Rattle.pv_packet.specs.Packet.{IsPacket, centre_of};
 ghost use Rattle.pv_packet.specs.declared.packet.Packet.{Packet};
 ghost use Rattle.pv_packet.specs.declared.packet.Packet.TheVariants.{Down, Up, DownHeard, UpHeard};
-ghost use Rattle.pv_ports.specs.Parcels.{IsSpelled};
+ghost use Rattle.pv_ports.specs.Parcels.{BeginsWithPacket};
 ghost use Rattle.pv_ports.specs.Talk.{PassLooks};
 ghost use Rattle.pv_ports.specs.Round.{LooksDown, LooksUp, GivesTo, IsReadAs, HandlesDown, HandlesUp, ReceivesDown, ReceivesUp, UpToTwo, Receives, CarriesUp, Carries, round_at, round_stop, came_in, stop_in, applied_by, taken_by, ask_stop};
 
@@ -37,9 +37,10 @@ pub(crate) struct Hand<const C: u8, U: Run<Record>, N: Run<CentreRecord>> {
 impl<const C: u8, U: Run<Record>, N: Run<CentreRecord>> Hand<C, U, N> {
     /// Looks at the Update Centre, for what goes down next.
     pub(crate) fn look_down<W: Wait>(&mut self, rt: &W)
-        ensures looks { (going : Option Packet) × LooksDown ⟦<UdcRules as Rules>⟧ U.limits U.opening C self.old.udc
+        ensures looks { (going : Option Packet) × LooksDown ⟦<UdcRules as Rules>⟧ U.limits U.opening C
+            self.old.udc
             self.old.trip.sending self.new.udc self.new.trip.sending self.new.trip.record_count going
-            × IsSpelled self.new.down.bytes self.new.down.size going }
+            × BeginsWithPacket self.new.down.bytes self.new.down.size going }
         ensures fits { IfSome self.new.down.size (λ n. n ≤ MAX_PACKET) }
         ensures same { (self.new.centre ≡ self.old.centre) × (self.new.trip ≡ record self.old.trip {
           sending = self.new.trip.sending;
@@ -54,14 +55,16 @@ impl<const C: u8, U: Run<Record>, N: Run<CentreRecord>> Hand<C, U, N> {
 
     /// Looks at the centre, for what goes up next.
     pub(crate) fn look_up<W: Wait>(&mut self, rt: &W)
-        ensures looks { (going : Option Packet) × LooksUp ⟦<IrcRules<C> as Rules>⟧ N.limits N.opening C self.old.centre
+        ensures looks { (going : Option Packet) × LooksUp ⟦<IrcRules<C> as Rules>⟧ N.limits N.opening C
+            self.old.centre
             self.old.trip.posting self.new.centre self.new.trip.posting self.new.trip.item_count going
-            × IsSpelled self.new.up.bytes self.new.up.size going }
+            × BeginsWithPacket self.new.up.bytes self.new.up.size going }
         ensures fits { IfSome self.new.up.size (λ n. n ≤ MAX_PACKET) }
-        ensures same { (self.new.udc ≡ self.old.udc) × (self.new.down ≡ self.old.down) × (self.new.trip ≡ record self.old.trip {
-          posting = self.new.trip.posting;
-          item_count = self.new.trip.item_count;
-        }) }
+        ensures same { (self.new.udc ≡ self.old.udc) × (self.new.down ≡ self.old.down) × (self.new.trip ≡
+            record self.old.trip {
+              posting = self.new.trip.posting;
+              item_count = self.new.trip.item_count;
+            }) }
     {
         self.up.end = self.trip.posting;
         see(rt, &mut self.centre, &mut self.up);
@@ -255,7 +258,8 @@ impl<const C: u8, U: Run<Record>, N: Run<CentreRecord>> Hand<C, U, N> {
         requires none { self.old.trip.applied ≡ 0 }
         ensures receives { UpToTwo (ReceivesDown ⟦<IrcRules<C> as Rules>⟧ ⟦<L as Link>⟧ N.limits N.opening C)
             (round_at self.old.udc self.old.centre self.old.trip down.old up.old)
-            (round_at self.new.udc self.new.centre self.new.trip down.new up.new) (option_map round_stop result) }
+            (round_at self.new.udc self.new.centre self.new.trip down.new up.new) (option_map round_stop
+            result) }
         ensures other { self.new.trip.taken_up ≡ self.old.trip.taken_up }
     {
         match self.receive_down(rt, centre, down, up) {
@@ -276,7 +280,8 @@ impl<const C: u8, U: Run<Record>, N: Run<CentreRecord>> Hand<C, U, N> {
         requires none { self.old.trip.taken_up ≡ 0 }
         ensures { UpToTwo (ReceivesUp ⟦<UdcRules as Rules>⟧ ⟦<L as Link>⟧ U.limits U.opening C)
             (round_at self.old.udc self.old.centre self.old.trip down.old up.old)
-            (round_at self.new.udc self.new.centre self.new.trip down.new up.new) (option_map round_stop result) }
+            (round_at self.new.udc self.new.centre self.new.trip down.new up.new) (option_map round_stop
+            result) }
     {
         match self.receive_up(rt, udc, down, up) {
             Ok(true) => stop_in(self.receive_up(rt, udc, down, up)),
@@ -295,9 +300,11 @@ impl<const C: u8, U: Run<Record>, N: Run<CentreRecord>> Hand<C, U, N> {
         up: &mut L,
     ) -> Option<RoundEnd<D>>
         requires none { (self.old.trip.applied ≡ 0) × (self.old.trip.taken_up ≡ 0) }
-        ensures { Receives ⟦<UdcRules as Rules>⟧ ⟦<IrcRules<C> as Rules>⟧ ⟦<L as Link>⟧ U.limits N.limits U.opening N.opening C
+        ensures { Receives ⟦<UdcRules as Rules>⟧ ⟦<IrcRules<C> as Rules>⟧ ⟦<L as Link>⟧ U.limits N.limits
+            U.opening N.opening C
             (round_at self.old.udc self.old.centre self.old.trip down.old up.old)
-            (round_at self.new.udc self.new.centre self.new.trip down.new up.new) (option_map round_stop result) }
+            (round_at self.new.udc self.new.centre self.new.trip down.new up.new) (option_map round_stop
+            result) }
     {
         match self.receive_records(rt, centre, down, up) {
             Some(end) => Some(end),
@@ -316,10 +323,12 @@ impl<const C: u8, U: Run<Record>, N: Run<CentreRecord>> Hand<C, U, N> {
     ) -> Option<RoundEnd<D>>
         requires up { IfSome self.old.up.size (λ n. n ≤ MAX_PACKET) }
         requires none { (self.old.trip.applied ≡ 0) × (self.old.trip.taken_up ≡ 0) }
-        ensures { (going : Option Packet) → IsSpelled self.old.up.bytes self.old.up.size going
-            → CarriesUp ⟦<UdcRules as Rules>⟧ ⟦<IrcRules<C> as Rules>⟧ ⟦<L as Link>⟧ U.limits N.limits U.opening N.opening C
+        ensures { (going : Option Packet) → BeginsWithPacket self.old.up.bytes self.old.up.size going
+            → CarriesUp ⟦<UdcRules as Rules>⟧ ⟦<IrcRules<C> as Rules>⟧ ⟦<L as Link>⟧ U.limits N.limits
+            U.opening N.opening C
             going (round_at self.old.udc self.old.centre self.old.trip down.old up.old)
-            (round_at self.new.udc self.new.centre self.new.trip down.new up.new) (option_map round_stop result) }
+            (round_at self.new.udc self.new.centre self.new.trip down.new up.new) (option_map round_stop
+            result) }
     {
         match give(up, &mut self.trip, &self.up.bytes, self.up.size) {
             Some(end) => Some(end),
@@ -339,11 +348,14 @@ impl<const C: u8, U: Run<Record>, N: Run<CentreRecord>> Hand<C, U, N> {
         requires down { IfSome self.old.down.size (λ n. n ≤ MAX_PACKET) }
         requires up { IfSome self.old.up.size (λ n. n ≤ MAX_PACKET) }
         requires none { (self.old.trip.applied ≡ 0) × (self.old.trip.taken_up ≡ 0) }
-        ensures { (going_down going_up : Option Packet) → IsSpelled self.old.down.bytes self.old.down.size going_down
-            → IsSpelled self.old.up.bytes self.old.up.size going_up
-            → Carries ⟦<UdcRules as Rules>⟧ ⟦<IrcRules<C> as Rules>⟧ ⟦<L as Link>⟧ U.limits N.limits U.opening N.opening C
+        ensures { (going_down going_up : Option Packet) → BeginsWithPacket self.old.down.bytes
+            self.old.down.size going_down
+            → BeginsWithPacket self.old.up.bytes self.old.up.size going_up
+            → Carries ⟦<UdcRules as Rules>⟧ ⟦<IrcRules<C> as Rules>⟧ ⟦<L as Link>⟧ U.limits N.limits
+            U.opening N.opening C
             going_down going_up (round_at self.old.udc self.old.centre self.old.trip down.old up.old)
-            (round_at self.new.udc self.new.centre self.new.trip down.new up.new) (option_map round_stop result) }
+            (round_at self.new.udc self.new.centre self.new.trip down.new up.new) (option_map round_stop
+            result) }
     {
         match give(down, &mut self.trip, &self.down.bytes, self.down.size) {
             Some(end) => Some(end),
@@ -389,7 +401,7 @@ fn give<D: Disk, L: Link>(
     size: Option<usize>,
 ) -> Option<RoundEnd<D>>
     requires { IfSome size (λ n. n ≤ MAX_PACKET) }
-    ensures gives { (packet : Option Packet) → IsSpelled bytes.now size packet
+    ensures gives { (packet : Option Packet) → BeginsWithPacket bytes.now size packet
         → GivesTo ⟦<L as Link>⟧ packet link.old trip.old link.new trip.new (option_map round_stop result) }
     ensures same { (trip.new.applied ≡ trip.old.applied) × (trip.new.taken_up ≡ trip.old.taken_up) }
 {
@@ -413,7 +425,8 @@ fn acknowledge<D: Disk, L: Link>(
     packet: Option<Packet>,
 ) -> Option<RoundEnd<D>>
     requires { IfSome packet (λ p. IsCentre (centre_of p)) }
-    ensures gives { GivesTo ⟦<L as Link>⟧ packet link.old trip.old link.new trip.new (option_map round_stop result) }
+    ensures gives { GivesTo ⟦<L as Link>⟧ packet link.old trip.old link.new trip.new (option_map round_stop
+        result) }
     ensures same { (trip.new.applied ≡ trip.old.applied) × (trip.new.taken_up ≡ trip.old.taken_up) }
 {
     let packet = packet?;

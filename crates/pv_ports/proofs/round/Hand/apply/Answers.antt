@@ -19,9 +19,11 @@ returns-in-Ok-clause-handles g c = λ link. (
     comes = (c.in-Ok.ensures.told, c.in-Ok.ensures.not_failed);
   },
   (
-    answered_to g.L.Link c.records_heard-heard.result (option_map (DownHeard g.row.C) (applied_by c.args.n c.in-Ok.told.reply)) c.args.up.now
+    answered_to g.L.Link c.records_heard-heard.result (option_map (DownHeard g.row.C) (applied_by c.args.n c.in-Ok.told.reply))
+        c.args.up.now
         c.acknowledge.new.link c.count_record.new.self (trip_after_record c.in-Ok.told.reply c.args.self.now.trip) c.acknowledge.new.trip
-        (option_map round_stop c.acknowledge.result) c.records_heard-heard.ensures.value c.count_record.ensures.value c.acknowledge.ensures.gives,
+        (option_map round_stop c.acknowledge.result) c.records_heard-heard.ensures.value c.count_record.ensures.value
+        c.acknowledge.ensures.gives,
     refl,
   ),
 )
@@ -32,7 +34,8 @@ returns-in-Err-clause-handles g c = λ link. (
   Err (ask_fault c.in-Err.fault),
   record {
     asks = record { prefix = c.ask.ensures.seen; same = c.ask.ensures.same };
-    comes = failed_as (irc.ghosts (number g.row.C)) g.N.Run.limits g.N.Run.opening (Apply c.args.n c.args.rec.now) c.args.self.now.centre c.ask.new.pass c.in-Err.fault
+    comes = failed_as (irc.ghosts (number g.row.C)) g.N.Run.limits g.N.Run.opening (Apply c.args.n c.args.rec.now) c.args.self.now.centre
+        c.ask.new.pass c.in-Err.fault
         c.in-Err.ensures.failed;
   },
   (refl, ap Some (c.ask_stop.ensures ∙ same_stop (g.row.C + 1) c.in-Err.fault)),

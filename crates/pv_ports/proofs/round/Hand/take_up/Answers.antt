@@ -21,7 +21,8 @@ returns-in-Ok-clause-handles g c = λ link. (
   (
     answered_to g.L.Link c.items_heard-heard.result (option_map (UpHeard g.row.C) (taken_by c.args.k c.in-Ok.told.reply)) c.args.down.now
         c.acknowledge.new.link c.count_item.new.self (trip_after_item c.in-Ok.told.reply c.args.self.now.trip) c.acknowledge.new.trip
-        (option_map round_stop c.acknowledge.result) c.items_heard-heard.ensures.value c.count_item.ensures.value c.acknowledge.ensures.gives,
+        (option_map round_stop c.acknowledge.result) c.items_heard-heard.ensures.value c.count_item.ensures.value
+        c.acknowledge.ensures.gives,
     refl,
   ),
 )
@@ -32,7 +33,8 @@ returns-in-Err-clause-handles g c = λ link. (
   Err (ask_fault c.in-Err.fault),
   record {
     asks = record { prefix = c.ask.ensures.seen; same = c.ask.ensures.same };
-    comes = failed_as udc.ghosts g.U.Run.limits g.U.Run.opening (TakeUp g.row.C c.args.k c.args.item.now) c.args.self.now.udc c.ask.new.pass c.in-Err.fault
+    comes = failed_as udc.ghosts g.U.Run.limits g.U.Run.opening (TakeUp g.row.C c.args.k c.args.item.now) c.args.self.now.udc
+        c.ask.new.pass c.in-Err.fault
         c.in-Err.ensures.failed;
   },
   (refl, ap Some (c.ask_stop.ensures ∙ same_stop 0 c.in-Err.fault)),
