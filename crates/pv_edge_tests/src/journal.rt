@@ -18,10 +18,10 @@ const LIMITS: Limits = Limits {
 /// A journal without bodies.
 const NONE: &[u8] = b"PVJOURN1\x00";
 
-/// The same with one body.
+/// A journal with one body.
 const ONE: &[u8] = b"PVJOURN1\x01\x00\x02AB\x00";
 
-/// The same with three.
+/// A journal with three bodies.
 const THREE: &[u8] = b"PVJOURN1\x01\x00\x01A\x01\x00\x02BC\x01\x00\x03DEF\x00";
 
 /// A disk of these bytes, all of them synced, of which the calls of these numbers fail: the first two

@@ -129,7 +129,7 @@ fn words_of(code: u8, shown: u64) -> Text
     }
 }
 
-/// The same for the codes that no verdict of the Update Centre has.
+/// The words of the codes that no verdict of the Update Centre has.
 fn other_words_of(code: u8, shown: u64) -> Text
     ensures words { result ≡ other_words code shown }
     ensures short { length result ≤ LONGEST_WORDS + LONGEST_NUMBER + LONGEST_WORDS }

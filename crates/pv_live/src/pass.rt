@@ -66,7 +66,7 @@ fn read_copy<R: Rules, N: Run<R::Rec>, T, F: FnOnce(&R::State) -> T>(
     Some((f(&copy.state), now))
 }
 
-/// The same of the copy that is published.
+/// What `f` answers on the state of the copy that is published, unless `left_right` or that copy refuses.
 fn read_published<R: Rules, N: Run<R::Rec>, T, F: FnOnce(&R::State) -> T>(
     reader: &mut ReadHandle<Published<R, N>>,
     known: &Known<R::Rec, N>,
@@ -103,7 +103,7 @@ fn show_copy<R: Rules, N: Run<R::Rec>, V: Viewer<R::State>>(
     Some(now)
 }
 
-/// The same of the copy that is published.
+/// Shows a viewer the state of the copy that is published, unless `left_right` or that copy refuses.
 fn show_published<R: Rules, N: Run<R::Rec>, V: Viewer<R::State>>(
     reader: &mut ReadHandle<Published<R, N>>,
     known: &Known<R::Rec, N>,

@@ -30,7 +30,7 @@ impl Model for UpdateNode {
 }
 
 impl Drop for UpdateNode {
-    /// Written out, so that who lets go of it has one call to think of and not each part.
+    /// One call in place of a drop for each part: the proof of whoever holds it stays short.
     fn drop(self) {
         let UpdateNode { node: _ } = self;
     }

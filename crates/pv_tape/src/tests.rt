@@ -53,7 +53,7 @@ fn the_first_bad_line_is_found(rt: HostRuntime) -> Result<(), Fail> {
 const TAPE: &[u8] =
     b"TAPE 1 0000000000 0000\nNEW 1a\nROW 2 HELLO\nSTORE\nROW 2 AGAIN\nSTORE\nDROP 1a\n";
 
-/// The same from the third number on, which is not the operator's next.
+/// That tape from the third number on, which is not the operator's next.
 const LATER_TAPE: &[u8] =
     b"TAPE 3 0000000000 0000\nNEW 1a\nROW 2 HELLO\nSTORE\nROW 2 AGAIN\nSTORE\nDROP 1a\n";
 
