@@ -28,11 +28,15 @@ JOB = 2_500_000_000
 MOST_JOBS = 4
 
 
+def jobs_in_memory():
+    """How many jobs memory holds."""
+    return max(1, 1024 * rtlib.number_in("/proc/meminfo", r"MemAvailable:\s+(\d+)") // JOB)
+
+
 def processors():
     """How many jobs run at once: as many as there are processors, and as memory holds."""
-    memory = 1024 * rtlib.number_in("/proc/meminfo", r"MemAvailable:\s+(\d+)")
     wanted = int(os.environ.get("RT_JOBS") or len(os.sched_getaffinity(0)))
-    return max(1, min(wanted, memory // JOB))
+    return max(1, min(wanted, jobs_in_memory()))
 
 
 def log_of(crate):
@@ -69,7 +73,9 @@ class Plan:
     def __init__(self, libraries):
         self.left = libraries
         self.running = {}
-        self.idle = processors()
+        self.processors = self.idle = processors()
+        # Memory holds as many jobs over the processors.
+        self.spare = max(0, jobs_in_memory() - self.processors)
         # How many lines stand on a library, with its own: the longest chain. rt lists each after those that it uses.
         self.chain = {}
         for crate in reversed(libraries):
@@ -78,27 +84,37 @@ class Plan:
 
     def ready(self):
         """The libraries whose own libraries are built, the one with the longest chain first."""
-        waited_for = {*self.left, *(crate for crate, _ in self.running.values())}
+        waited_for = {*self.left, *(crate for crate, *_ in self.running.values())}
         ready = [it for it in self.left if not waited_for & {*it.below()}]
         return sorted(ready, key=self.chain.get, reverse=True)
 
+    def is_longest(self, crate):
+        """Whether no chain that is left is longer."""
+        others = [*self.left, *(it for it, *_ in self.running.values())]
+        return self.chain[crate] == max(map(self.chain.get, others))
+
     def start(self, pool):
-        """Starts those that are ready, for as long as processors are idle."""
+        """Starts those that are ready, for as long as processors are idle. Each gets its part of them. The one with the longest
+        chain says when all is done, and those beside it have less to do: it gets as many jobs as there are processors."""
         ready = self.ready()
         for number, crate in enumerate(ready):
             if not self.idle:
                 break
             jobs = max(1, min(MOST_JOBS, self.idle // (len(ready) - number)))
+            wanted = min(MOST_JOBS, self.processors) if self.is_longest(crate) else jobs
+            more = min(self.spare, max(0, wanted - jobs))
             self.idle -= jobs
+            self.spare -= more
             self.left.remove(crate)
-            self.running[pool.submit(build, crate, jobs)] = crate, jobs
+            self.running[pool.submit(build, crate, jobs + more)] = crate, jobs, more
 
     def finish(self):
         """Waits until one is done, and says so. Returns whether all that are done are proved."""
         are_proved = True
         for done in wait(self.running, return_when=FIRST_COMPLETED).done:
-            crate, jobs = self.running.pop(done)
+            crate, jobs, more = self.running.pop(done)
             self.idle += jobs
+            self.spare += more
             are_proved = are_proved and done.result()
             # (the program itself comes last)
             say(crate, done.result(), len(self.left) + len(self.running) + 1)
