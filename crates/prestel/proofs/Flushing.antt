@@ -16,7 +16,7 @@ use Rattle.pv_script.specs.Play.{IsTranscript, IsPlayed, StopsAtBadLine, StopsIn
 use Rattle.pv_script.specs.Evening.{IsEveningOf}
 use Rattle.prestel.specs.Program.{WritesSummary, IsRunOf}
 use Rattle.pv_script.specs.Transcript.{answers}
-use Rattle.pv_script.proofs.CallerLemmas.{Appends-kept}
+use Rattle.pv_input.proofs.CallerLemmas.{Appends-kept}
 
 -- ---- what was written stays written
 

@@ -11,7 +11,8 @@ use Rattle.pv_files.specs.Output.{written_bytes, flushed_bytes, buffered_bytes}
 use Rattle.pv_network.specs.Step.{Choice}
 use Rattle.pv_script.specs.declared.grammar.Command.{Command}
 use Rattle.pv_script.specs.Evening.{IsEvening, summary_of}
-use Rattle.pv_script.specs.Play.{longest_script, IsReadWhole, IsPlayed, StopsAtBadLine, StopsInAnswers, StopsAfterLine}
+use Rattle.pv_input.specs.Reading.{longest_text, IsReadWhole}
+use Rattle.pv_script.specs.Play.{IsPlayed, StopsAtBadLine, StopsInAnswers, StopsAfterLine}
 
 -- How it may end that a text of the program is written: the writer itself has the whole of it, and nothing is in the buffer, or
 -- the output failed after a prefix of it.
@@ -39,10 +40,10 @@ IsRunOf contents centres first text left ended before now Done = IsReadWhole tex
 IsRunOf contents centres first text left ended before now Usage = ⊥
 IsRunOf contents centres first text left ended before now (BadLine number) = IsReadWhole text left ended
     × StopsAtBadLine centres first text number (written_bytes contents before) (flushed_bytes contents now) × (buffered_bytes now ≡ [])
-IsRunOf contents centres first text left ended before now ReadFault = length text ≤ longest_script
+IsRunOf contents centres first text left ended before now ReadFault = length text ≤ longest_text
 IsRunOf contents centres first text left ended before now WriteFault = IsReadWhole text left ended
     × StopsInAnswers centres first text (written_bytes contents before) (written_bytes contents now)
-IsRunOf contents centres first text left ended before now Memory = (length text ≤ longest_script)
+IsRunOf contents centres first text left ended before now Memory = (length text ≤ longest_text)
     × StopsAfterLine centres first text (written_bytes contents before) (written_bytes contents now)
     × ((buffered_bytes now ≡ []) ⊎ Rose before.faults now.faults)
-IsRunOf contents centres first text left ended before now TooLong = length text ≡ longest_script + 1
+IsRunOf contents centres first text left ended before now TooLong = length text ≡ longest_text + 1

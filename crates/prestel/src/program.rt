@@ -1,10 +1,11 @@
 ghost use Rattle.std.specs.Prelude.{◌≡◌, ◌≢◌, ℕ, ◌≤◌, ◌↔◌, List, map, string_bytes};
 ghost use Rattle.pv_outside.specs.Counts.{Rose};
 ghost use Rattle.prestel.specs.About.{about_words, about_text};
+ghost use Rattle.pv_input.specs.Reading.{HasRead};
 ghost use Rattle.pv_gen.specs.Script.{script_of};
 ghost use Rattle.pv_script.specs.Evening.{AskForEvening, AskNoEvening};
 ghost use Rattle.pv_script.specs.Generating.{AskToGenerate, AskNoScript};
-ghost use Rattle.pv_script.specs.Play.{AskToPlay, AskNoPlay, first_world, HasRead, IsNotRun};
+ghost use Rattle.pv_script.specs.Play.{AskToPlay, AskNoPlay, first_world, IsNotRun};
 ghost use Rattle.prestel.specs.Program.{WritesText, WritesSummary, IsRunOf};
 ghost use Rattle.prestel.specs.declared.about.About.{About};
 

@@ -6,13 +6,14 @@ use Rattle.pv_outside.specs.Counts.{Rose}
 use Rattle.pv_outside.specs.declared.status.Status.TheVariants.{Done, Memory}
 use Rattle.pv_script.specs.Grammar.{HasNoForm}
 use Rattle.pv_network.specs.World.{World}
-use Rattle.pv_script.specs.declared.ends.ReadEnd.{ReadEnd}
-use Rattle.pv_script.specs.declared.ends.ReadEnd.TheVariants as reads
+use Rattle.pv_input.specs.declared.text.ReadEnd.{ReadEnd}
+use Rattle.pv_input.specs.declared.text.ReadEnd.TheVariants as reads
 use Rattle.pv_script.specs.declared.ends.AnswerEnd.TheVariants as answering
 use Rattle.pv_script.specs.declared.ends.RunEnd.{RunEnd}
 use Rattle.pv_script.specs.declared.ends.RunEnd.TheVariants.{BadLine, Unanswered}
-use Rattle.pv_script.specs.Ends.{IsReadEnd, IsRunEnd, read_status, run_status}
-use Rattle.pv_script.specs.Play.{IsReadWhole, IsAllLeft, IsPlayOf, StopsAtBadLine, AreCommands, IsScript}
+use Rattle.pv_input.specs.Reading.{IsReadEnd, IsReadWhole, IsAllLeft, read_status}
+use Rattle.pv_script.specs.Ends.{IsRunEnd, run_status}
+use Rattle.pv_script.specs.Play.{IsPlayOf, StopsAtBadLine, AreCommands, IsScript}
 use Rattle.pv_script.proofs.Running.{stops_at_once}
 
 module _ (centres : ℕ) (first : World) (text : List ℕ) (left : Option (List ℕ)) (ended : Bool) (before now : Option (List ℕ)) (faults_before faults_now : ℕ) where

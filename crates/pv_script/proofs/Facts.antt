@@ -18,7 +18,7 @@ use Rattle.pv_script.specs.declared.word.StoringWord.TheVariants as storing
 use Rattle.pv_script.specs.declared.word.Word.TheVariants as words
 use Rattle.pv_script.specs.Evening.{AskForEvening, summary_text}
 use Rattle.pv_script.specs.Tally.{outcomes_of, tally_of}
-use Rattle.pv_script.specs.Play.{AskToPlay, first_world, longest_script, play_limits}
+use Rattle.pv_script.specs.Play.{AskToPlay, first_world, play_limits}
 use Rattle.pv_network.specs.Step.{Choice}
 use Rattle.pv_session.specs.declared.step.Why.TheVariants.{Finished}
 use Rattle.pv_script.specs.Readers.{IsKeyText}
@@ -52,10 +52,6 @@ keys = (([], refl, refl), ([], refl, refl))
 pub words_of_a_play : AskToPlay (codes "play" ∷ codes "4" ∷ []) 4 × (MAX_CENTRES ≡ 4)
 unfolding digits
 words_of_a_play = (record { some = lit≤ tt; few = lit≤ tt; asked = refl }, refl)
-
--- a script may have a mebibyte
-pub mebibyte : longest_script ≡ 1024 * 1024
-mebibyte = refl
 
 -- ---- transcripts
 

@@ -1,4 +1,3 @@
-pub mod CallerLemmas
 pub mod Counting
 pub mod EachWrite
 pub mod Ending
@@ -11,6 +10,6 @@ pub mod Limits
 pub mod Nodes
 pub mod Notation
 pub mod Plain
-pub mod Reading
 pub mod Running
 pub mod Summing
+pub mod Writing

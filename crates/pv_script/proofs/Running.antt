@@ -20,7 +20,7 @@ use Rattle.pv_script.specs.Play.{IsTranscript, StopsAfterLine}
 use Rattle.pv_script.specs.Tally.{outcomes_to, outcomes_of, tally_of, AddsOutcomes}
 use Rattle.pv_script.specs.Fates.{fate_of, fates_of, HasFates, HasFatesOf}
 use Rattle.pv_script.specs.Transcript.{AreRead, answer_to, answers, world_after_command, world_after_all}
-use Rattle.pv_script.proofs.CallerLemmas.{Appends-none, Appends-more}
+use Rattle.pv_input.proofs.CallerLemmas.{Appends-none, Appends-more}
 use Rattle.pv_script.proofs.Counting.{outcomes_of-push, adds_none, adds_more, adds_all}
 use Rattle.pv_script.proofs.Fates.{no_fates, fates-append, all_fates}
 

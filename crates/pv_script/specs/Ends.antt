@@ -7,8 +7,6 @@ use Rattle.pv_outside.specs.declared.status.Status.TheVariants as statuses
 use Rattle.pv_network.specs.Standing.{State, StandsFor}
 use Rattle.pv_network.specs.World.{World}
 use Rattle.pv_network.specs.Step.{Choice}
-use Rattle.pv_script.specs.declared.ends.ReadEnd.{ReadEnd}
-use Rattle.pv_script.specs.declared.ends.ReadEnd.TheVariants as reads
 use Rattle.pv_script.specs.declared.ends.AnswerEnd.{AnswerEnd}
 use Rattle.pv_script.specs.declared.ends.AnswerEnd.TheVariants as answering
 use Rattle.pv_script.specs.declared.ends.RunEnd.{RunEnd}
@@ -17,27 +15,15 @@ use Rattle.pv_script.specs.declared.grammar.Command.{Command}
 use Rattle.pv_script.specs.Grammar.{ReadsLine, HasNoForm, IsCommandChoice}
 use Rattle.pv_script.specs.Transcript.{answer_to, world_after_command}
 use Rattle.pv_script.specs.declared.tally.Tally.{Tally}
-use Rattle.pv_script.specs.Play.{longest_script, IsPlayed, StopsAtBadLine, StopsInAnswers, StopsAfterLine}
+use Rattle.pv_script.specs.Play.{IsPlayed, StopsAtBadLine, StopsInAnswers, StopsAfterLine}
 use Rattle.pv_script.specs.Fates.{HasFatesOf}
 use Rattle.pv_script.specs.Tally.{outcomes_to, outcomes_of, tally_of, AddsOutcomes}
-
--- the status of a play whose script was not read to its end
-abbrev pub read_status : ReadEnd → Status
-read_status reads.TooLong = statuses.TooLong
-read_status reads.Fault = statuses.ReadFault
-read_status reads.Memory = statuses.Memory
 
 -- the status of a play whose lines were not all run
 abbrev pub run_status : RunEnd → Status
 run_status (BadLine number) = statuses.BadLine number
 run_status (Unanswered answering.Fault) = statuses.WriteFault
 run_status (Unanswered answering.Memory) = statuses.Memory
-
--- why a text was not read to its end
-abbrev pub IsReadEnd : List ℕ → ℕ → ℕ → ReadEnd → Type 0
-IsReadEnd text faults_before faults_now reads.TooLong = length text ≡ longest_script + 1
-IsReadEnd text faults_before faults_now reads.Fault = (length text ≤ longest_script) × Rose faults_before faults_now
-IsReadEnd text faults_before faults_now reads.Memory = text ≡ []
 
 -- A command was run: for each world that the network stood for it stands for the next. The answer was written, and says the fate of a
 -- record only if the command is a cut. What came of it was added to the tally.

@@ -7,6 +7,7 @@ use Rattle.pv_outside.specs.declared.limits.Limits.{Limits}
 use Rattle.pv_outside.specs.declared.status.Status.{Status}
 use Rattle.pv_outside.specs.declared.status.Status.TheVariants.{Done, Usage, BadLine, ReadFault, WriteFault, Memory, TooLong}
 use Rattle.pv_words.specs.Lines.{lines_of}
+use Rattle.pv_input.specs.Reading.{longest_text, IsReadWhole}
 use Rattle.pv_account.specs.declared.account.TheConstants.{MAX_CENTRES}
 use Rattle.pv_network.specs.Charging.{OwedLines}
 use Rattle.pv_network.specs.OneList.{OneList}
@@ -34,22 +35,6 @@ play_limits = record { frames = 2000; records = 10000; frames_in_range = (lit< t
 -- the world in which a play of this many centres begins, within these limits
 abbrev pub first_world : ℕ → World
 first_world centres = start centres play_limits
-
--- how many bytes a script may have
-abbrev pub longest_script : ℕ
-longest_script = 1048576
-
--- ---- what was read
-
--- the bytes were read, and nothing else
-pub record HasRead (taken_before taken_now left_before left_now : Option (List ℕ)) (text : List ℕ) : Type 0 where
-  pub taken : Appends taken_before taken_now text
-  pub left : Consumes left_before left_now text
-
--- the text is all that a source had left, if it reports what it has
-abbrev pub IsAllLeft : Option (List ℕ) → List ℕ → Type 0
-IsAllLeft None text = Unit {0}
-IsAllLeft (Some left) text = left ≡ text
 
 -- ---- what was run and written, of a play of this many centres that begins in this world
 
@@ -103,12 +88,6 @@ pub record StopsAfterLine (centres : ℕ) (first : World) (text : List ℕ) (wri
 
 -- ---- all
 
--- the text fits, and was read to the end of its source
-pub record IsReadWhole (text : List ℕ) (left : Option (List ℕ)) (ended : Bool) : Type 0 where
-  pub within : length text ≤ longest_script
-  pub at_end : IsTrue ended
-  pub all : IsAllLeft left text
-
 -- What a play made of the text that it read, by the status that it ended with. Done says that the whole text was run. A bad
 -- line is the first that is not a valid command. A fault of the output leaves a prefix of the answers. If memory ran out, the
 -- first lines were run. A text is too long exactly if it has one byte more than a script may have.
@@ -118,12 +97,12 @@ IsPlayOf centres first text network left ended before now Done =
 IsPlayOf centres first text network left ended before now Usage = ⊥
 IsPlayOf centres first text network left ended before now (BadLine number) =
     IsReadWhole text left ended × StopsAtBadLine centres first text number before now
-IsPlayOf centres first text network left ended before now ReadFault = length text ≤ longest_script
+IsPlayOf centres first text network left ended before now ReadFault = length text ≤ longest_text
 IsPlayOf centres first text network left ended before now WriteFault =
     IsReadWhole text left ended × StopsInAnswers centres first text before now
 IsPlayOf centres first text network left ended before now Memory =
-    (length text ≤ longest_script) × StopsAfterLine centres first text before now
-IsPlayOf centres first text network left ended before now TooLong = length text ≡ longest_script + 1
+    (length text ≤ longest_text) × StopsAfterLine centres first text before now
+IsPlayOf centres first text network left ended before now TooLong = length text ≡ longest_text + 1
 
 -- ---- a script that is valid
 
@@ -135,7 +114,7 @@ AreCommands centres number (line ∷ lines) =
 
 -- the text is a script of a play of this many centres: it fits, and each of its lines is a valid command
 pub record IsScript (centres : ℕ) (text : List ℕ) : Type 0 where
-  pub within : length text ≤ longest_script
+  pub within : length text ≤ longest_text
   pub lines : AreCommands centres 1 (lines_of text)
 
 -- nothing was run

@@ -1,31 +1,7 @@
 ghost use Rattle.std.specs.Prelude.{◌≡◌};
-ghost use Rattle.pv_script.specs.Ends.{read_status, run_status};
+ghost use Rattle.pv_script.specs.Ends.{run_status};
 
 use pv_outside::Status;
-
-/// Why a script was not read to its end.
-#[derive(Clone, Copy, Debug, PartialEq, Eq)]
-pub enum ReadEnd {
-    /// It is longer than a script may be.
-    TooLong,
-    /// A read failed.
-    Fault,
-    /// Memory ran out.
-    Memory,
-}
-
-impl ReadEnd {
-    /// The status of a play that ended so.
-    pub fn status(self) -> Status
-        ensures { result ≡ read_status self }
-    {
-        match self {
-            ReadEnd::TooLong => Status::TooLong,
-            ReadEnd::Fault => Status::ReadFault,
-            ReadEnd::Memory => Status::Memory,
-        }
-    }
-}
 
 /// Why the answer to a command was not written.
 #[derive(Clone, Copy, Debug, PartialEq, Eq)]

@@ -13,9 +13,9 @@ use crate::answer::push_summary;
 use crate::asking::number_asked;
 use crate::ends::{AnswerEnd, RunEnd};
 use crate::playing::{Played, ended, run};
-use crate::script::LONGEST_SCRIPT;
 use crate::tally::Tally;
 use pv_gen::{LAST_NUMBER, script};
+use pv_input::LONGEST_TEXT;
 use pv_memory::MemSink;
 use pv_network::{Event, Network, Outcome};
 use pv_outside::{Failed, Sink, Status};
@@ -104,7 +104,7 @@ fn script_text(alloc: Global, number: u32) -> Result<MemSink, AllocError>
     requires within { number ≤ LAST_NUMBER }
     ensures { IfOk result (λ text. text.bytes ≡ script_of number) }
 {
-    let mut text = MemSink::new(alloc, LONGEST_SCRIPT, &[])?;
+    let mut text = MemSink::new(alloc, LONGEST_TEXT, &[])?;
     match script(number, &mut text) {
         Ok(()) => Ok(text),
         Err(Failed) => Err(AllocError),

@@ -1,21 +1,22 @@
 ghost use Rattle.std.specs.Prelude.{◌≡◌, ◌⊎◌, ℕ, ◌+◌, ◌^◌, ◌<◌, ◌≤◌, ◌==◌, ◌↔◌, List, [], ◌∷◌, map, length, Some, None, IfOk, IfErr, IfSome, OnOk, IsSome, string_bytes};
 ghost use Rattle.pv_outside.specs.Counts.{Rose, one_more};
 ghost use Rattle.pv_words.specs.Lines.{lines_of};
+ghost use Rattle.pv_input.specs.Reading.{HasRead};
 ghost use Rattle.pv_account.specs.declared.account.TheConstants.{MAX_CENTRES};
 ghost use Rattle.pv_network.specs.Standing.{StandsFor, IsPossible};
 ghost use Rattle.pv_script.specs.declared.grammar.Command.TheVariants.{Do};
 ghost use Rattle.pv_script.specs.declared.grammar.Command.TheVariants as commands;
 ghost use Rattle.pv_script.specs.Ends.{GivesAnswer, HasRun, IsAnswerEnd, IsTallied, IsLineEnd, IsRunEnd};
-ghost use Rattle.pv_script.specs.Play.{AskToPlay, AskNoPlay, HasRead, IsPlayOf, IsScript, IsNotRun, WritesEach, first_world};
+ghost use Rattle.pv_script.specs.Play.{AskToPlay, AskNoPlay, IsPlayOf, IsScript, IsNotRun, WritesEach, first_world};
 ghost use Rattle.pv_script.specs.Tally.{tally_of, IsTallyWithin};
 
 use crate::answer::{push_answer, push_limits, write_answer};
 use crate::asking::number_asked;
 use crate::ends::{AnswerEnd, RunEnd};
 use crate::grammar::{Command, parse};
-use crate::script::{LONGEST_SCRIPT, read_script};
 use crate::tally::Tally;
 use pv_account::MAX_CENTRES;
+use pv_input::{LONGEST_TEXT, read_text};
 use pv_network::{Event, Network};
 use pv_outside::{Limits, Sink, Source, Status};
 use pv_screen::BUFFER;
@@ -81,7 +82,7 @@ pub fn play<S: Source, K: Sink>(
     let Some(centres) = centres_asked(words) else {
         return ended(Status::Usage);
     };
-    let text = match read_script(alloc, script) {
+    let text = match read_text(alloc, script) {
         Ok(text) => text,
         Err(end) => return ended(end.status()),
     };
@@ -123,7 +124,7 @@ pub(crate) fn run<K: Sink>(
     text: &[u8],
     out: &mut K,
 ) -> Result<(Network, Tally), RunEnd>
-    requires short { length text.now ≤ LONGEST_SCRIPT }
+    requires short { length text.now ≤ LONGEST_TEXT }
     requires some { 1 ≤ centres }
     requires few { centres ≤ MAX_CENTRES }
 
@@ -165,7 +166,7 @@ fn run_lines<K: Sink>(
     network: &mut Network,
     out: &mut K,
 ) -> Result<Tally, RunEnd>
-    requires short { length text.now ≤ LONGEST_SCRIPT }
+    requires short { length text.now ≤ LONGEST_TEXT }
     requires centres { length network.old.centres ≡ centres }
     requires some { 1 ≤ centres }
     requires few { centres ≤ MAX_CENTRES }

@@ -6,4 +6,3 @@ mod Progressing
 mod Reading
 mod Runs
 mod Settled
-mod Taking

@@ -1,4 +1,3 @@
-pub mod Input
 pub mod Laws
 pub mod Lines
 pub mod Loading

@@ -13,13 +13,13 @@ use Rattle.pv_udc.specs.EditList.{EditList}
 use Rattle.pv_udc.specs.declared.reply.UdcReply.{UdcReply}
 use Rattle.pv_udc.specs.declared.request.UdcRequest.{UdcRequest}
 use Rattle.pv_editor.specs.Say.{is_password}
-use Rattle.pv_tape.specs.Input.{IsWholeTape}
+use Rattle.pv_input.specs.Reading.{IsReadWhole}
 use Rattle.pv_tape.specs.Loading.{wanted_records, IsLoadEnd}
 use Rattle.pv_tape.specs.Tape.{TapeEdit, IsTape, IsBadAt}
 use Rattle.pv_tape.specs.declared.end.TapeEnd.{TapeEnd}
 use Rattle.pv_tape.specs.declared.end.TapeEnd.TheVariants.{ReadFault, TooLong, BadTape, NotKnown, DiskFault, Memory}
 use Rattle.pv_tape.specs.declared.head.Head.{Head}
-use Rattle.pv_tape.specs.declared.input.TheConstants.{LONGEST_TAPE}
+use Rattle.pv_input.specs.declared.text.TheConstants.{LONGEST_TEXT}
 
 -- the record that was in hand, or none
 abbrev pub IsFromHand : Option Record → Option Record → Type 0
@@ -63,7 +63,7 @@ module _ {S D : Type 0} (r : rules.Ghosts S EditList UdcRequest Record UdcReply)
 
   -- How a run ends that read this text. If it could not be read whole, nothing was done.
   abbrev pub IsTapeRun : {F : Type 0} → List ℕ → Option (List ℕ) → Bool → ℕ → ℕ → TapeEnd D F → Type 0
-  IsTapeRun text left ended before now ReadFault = (length text ≤ LONGEST_TAPE) × Rose before now × (new ≡ old)
-  IsTapeRun text left ended before now TooLong = (length text ≡ LONGEST_TAPE + 1) × (new ≡ old)
+  IsTapeRun text left ended before now ReadFault = (length text ≤ LONGEST_TEXT) × Rose before now × (new ≡ old)
+  IsTapeRun text left ended before now TooLong = (length text ≡ LONGEST_TEXT + 1) × (new ≡ old)
   IsTapeRun text left ended before now Memory = (text ≡ []) × (new ≡ old)
-  IsTapeRun text left ended before now end = IsWholeTape text left ended × IsTextRun text end
+  IsTapeRun text left ended before now end = IsReadWhole text left ended × IsTextRun text end

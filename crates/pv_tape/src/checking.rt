@@ -7,10 +7,10 @@ ghost use Rattle.pv_tape.specs.declared.line.TapeLine.{TapeLine};
 ghost use Rattle.pv_tape.specs.Tape.{TapeEdit, AreGood, IsFirstBad, IsBad, IsTape, IsBadAt, second_line, can_do, working_after};
 
 use crate::head::{Head, LAST_FIRST, head_of};
-use crate::input::LONGEST_TAPE;
 use crate::line::{TapeLine, tape_line_of};
 use crate::making::{advance, can_do};
 use pv_editor::Working;
+use pv_input::LONGEST_TEXT;
 use pv_words::first_line;
 
 /// The number of a tape's first line.
@@ -22,7 +22,7 @@ pub(crate) const SECOND_LINE: u32 = 2;
 /// What the first line of a tape says, if all its lines are good, and otherwise the number of the first bad line, from
 /// 1. A text without a line has a bad first line.
 pub(crate) fn check_tape(text: &[u8]) -> Result<Head, u32>
-    requires { length text.now ≤ LONGEST_TAPE }
+    requires { length text.now ≤ LONGEST_TEXT }
     ensures good { IfOk result (λ head. (edits : List TapeEdit) × IsTape text.now head edits) }
     ensures only { (head : Head) (edits : List TapeEdit) → IsTape text.now head edits → result ≡ Ok head }
     ensures bad { IfErr result (IsBadAt text.now) }
@@ -43,7 +43,7 @@ pub(crate) fn check_tape(text: &[u8]) -> Result<Head, u32>
 
 /// The head of a tape, if all lines after its first are good, and otherwise the number of the first bad line.
 fn check_rest(head: Head, text: &[u8]) -> Result<Head, u32>
-    requires { length text.now ≤ LONGEST_TAPE }
+    requires { length text.now ≤ LONGEST_TEXT }
     ensures good { OnOk result
         ((edits : List TapeEdit) × AreGood None second_line (lines_of text.now) edits) }
     ensures head { IfOk result (λ checked. checked ≡ head) }
@@ -59,7 +59,7 @@ fn check_rest(head: Head, text: &[u8]) -> Result<Head, u32>
 
 /// The number of the first bad line after the first line of a tape.
 fn first_bad(text: &[u8]) -> Option<u32>
-    requires { length text.now ≤ LONGEST_TAPE }
+    requires { length text.now ≤ LONGEST_TEXT }
     ensures found { MatchOption result
         ((edits : List TapeEdit) × AreGood None second_line (lines_of text.now) edits)
         (IsFirstBad None second_line (lines_of text.now)) }

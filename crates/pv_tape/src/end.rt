@@ -12,7 +12,7 @@ pub enum TapeEnd<D: Disk> {
     },
     /// The tape could not be read. Its source has counted it. Nothing was asked.
     ReadFault,
-    /// The tape has more than [`LONGEST_TAPE`](crate::LONGEST_TAPE) bytes. Nothing was asked.
+    /// The tape has more than [`LONGEST_TEXT`](pv_input::LONGEST_TEXT) bytes. Nothing was asked.
     TooLong,
     /// A line is bad. Nothing was asked.
     BadTape {

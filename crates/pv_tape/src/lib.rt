@@ -32,7 +32,6 @@ mod asking;
 mod checking;
 mod end;
 mod head;
-mod input;
 mod law;
 mod line;
 mod loading;
@@ -41,7 +40,6 @@ mod progress;
 mod running;
 
 pub use end::TapeEnd;
-pub use input::LONGEST_TAPE;
 pub use law::runs_leave_each_edit_once;
 pub use running::run_tape;
 

@@ -6,7 +6,7 @@ ghost use Rattle.pv_tape.specs.Loading.{last_number_of, wanted_records, asked_re
 ghost use Rattle.pv_tape.specs.Tape.{TapeEdit, AreGood, IsTape, second_line, wish_on_line};
 ghost use Rattle.pv_tape.specs.declared.head.TheConstants.{LAST_FIRST};
 ghost use Rattle.pv_tape.specs.declared.line.TapeLine.{TapeLine};
-ghost use Rattle.pv_tape.specs.declared.input.TheConstants.{LONGEST_TAPE};
+ghost use Rattle.pv_input.specs.declared.text.TheConstants.{LONGEST_TEXT};
 
 use crate::asking::ask_edit;
 use crate::checking::SECOND_LINE;
@@ -26,7 +26,7 @@ use pv_words::first_line;
 pub(crate) fn load<D: Disk>(node: &mut Node<UdcRules, D>, head: &Head, text: &[u8]) -> TapeEnd<D>
     requires hand { node.old.hand ≡ None }
     requires some { 0 < length text.now }
-    requires within { length text.now ≤ LONGEST_TAPE }
+    requires within { length text.now ≤ LONGEST_TEXT }
     requires first { head.now.first ≤ LAST_FIRST }
 
     // The asking ends so, and a crash at any moment of it leaves a prefix of what is asked for.
@@ -44,7 +44,7 @@ pub(crate) fn load<D: Disk>(node: &mut Node<UdcRules, D>, head: &Head, text: &[u
 /// Asks for the edits of the lines after a tape's first.
 fn load_lines<D: Disk>(node: &mut Node<UdcRules, D>, head: &Head, text: &[u8]) -> TapeEnd<D>
     requires hand { node.old.hand ≡ None }
-    requires within { length text.now ≤ LONGEST_TAPE }
+    requires within { length text.now ≤ LONGEST_TEXT }
     requires first { head.now.first ≤ LAST_FIRST }
     ensures ends { (edits : List TapeEdit) → AreGood None second_line (lines_of text.now) edits
         → IsLoadEnd D.Reports node.old.journal.disk node.new

@@ -1,7 +1,7 @@
 //! The run of a tape: it is read and checked whole, and then its edits are asked for in order.
 ghost use Rattle.std.specs.Prelude.{◌≡◌, ℕ, ◌<◌, ◌≤◌, List, length};
-ghost use Rattle.pv_tape.specs.Input.{ReadsText};
-ghost use Rattle.pv_tape.specs.declared.input.TheConstants.{LONGEST_TAPE};
+ghost use Rattle.pv_input.specs.Reading.{HasRead};
+ghost use Rattle.pv_input.specs.declared.text.TheConstants.{LONGEST_TEXT};
 ghost use Rattle.pv_tape.specs.Running.{is_known, IsEditsEnd, IsTextRun, IsTapeRun, LeavesPart};
 ghost use Rattle.pv_tape.specs.Tape.{TapeEdit, IsTape};
 ghost use Rattle.pv_tape.specs.declared.head.Head.{Head};
@@ -10,9 +10,9 @@ ghost use Rattle.pv_tape.specs.declared.head.TheConstants.{LAST_FIRST};
 use crate::checking::check_tape;
 use crate::end::TapeEnd;
 use crate::head::Head;
-use crate::input::{InputEnd, read_tape};
 use crate::loading::load;
 use pv_edits::Base;
+use pv_input::{ReadEnd, read_text};
 use pv_node::{Node, Rules};
 use pv_outside::{Disk, Reports, Source};
 use pv_udc::UdcRules;
@@ -28,24 +28,24 @@ pub fn run_tape<S: Source, D: Disk>(
     // What was read is a text, and the run of that text came to this end. A crash at any moment leaves the records,
     // perhaps with the one in hand, and then a prefix of what the tape asks for.
     ensures runs { (text : List ℕ)
-        × ReadsText (S.taken tape.old) (S.taken tape.new) (S.left tape.old) (S.left tape.new) text
+        × HasRead (S.taken tape.old) (S.taken tape.new) (S.left tape.old) (S.left tape.new) text
         × IsTapeRun ⟦<UdcRules as Rules>⟧ D.Reports node.old node.new text (S.left tape.old)
         (S.ended tape.new) (S.read_faults tape.old) (S.read_faults tape.new) result
         × ((head : Head) (edits : List TapeEdit) → IsTape text head edits
         → LeavesPart ⟦<UdcRules as Rules>⟧ D.Reports node.old node.new head edits) }
     ensures counted { S.read_faults tape.old ≤ S.read_faults tape.new }
 {
-    match read_tape(alloc, tape) {
+    match read_text(alloc, tape) {
         Ok(text) => run_text(node, &text),
-        Err(InputEnd::Fault) => TapeEnd::ReadFault,
-        Err(InputEnd::TooLong) => TapeEnd::TooLong,
-        Err(InputEnd::Memory) => TapeEnd::Memory,
+        Err(ReadEnd::Fault) => TapeEnd::ReadFault,
+        Err(ReadEnd::TooLong) => TapeEnd::TooLong,
+        Err(ReadEnd::Memory) => TapeEnd::Memory,
     }
 }
 
 /// Checks a tape, and asks for its edits.
 fn run_text<D: Disk>(node: &mut Node<UdcRules, D>, text: &[u8]) -> TapeEnd<D>
-    requires { length text.now ≤ LONGEST_TAPE }
+    requires { length text.now ≤ LONGEST_TEXT }
     ensures runs { IsTextRun ⟦<UdcRules as Rules>⟧ D.Reports node.old node.new text.now result }
     ensures moments { (head : Head) (edits : List TapeEdit) → IsTape text.now head edits
         → LeavesPart ⟦<UdcRules as Rules>⟧ D.Reports node.old node.new head edits }
@@ -63,7 +63,7 @@ fn run_text<D: Disk>(node: &mut Node<UdcRules, D>, text: &[u8]) -> TapeEnd<D>
 /// Settles what the node has in hand, and asks for the edits of a tape that was checked.
 fn run_edits<D: Disk>(node: &mut Node<UdcRules, D>, head: &Head, text: &[u8]) -> TapeEnd<D>
     requires some { 0 < length text.now }
-    requires within { length text.now ≤ LONGEST_TAPE }
+    requires within { length text.now ≤ LONGEST_TEXT }
     requires first { head.now.first ≤ LAST_FIRST }
     ensures ends { (edits : List TapeEdit) → IsTape text.now head.now edits
         → IsEditsEnd ⟦<UdcRules as Rules>⟧ D.Reports node.old node.new head.now edits result }

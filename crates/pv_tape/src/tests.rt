@@ -1,6 +1,7 @@
 use crate::checking::check_tape;
-use crate::{LONGEST_TAPE, TapeEnd, run_tape};
+use crate::{TapeEnd, run_tape};
 use pv_edits::Record;
+use pv_input::LONGEST_TEXT;
 use pv_journal::format;
 use pv_memory::{MemDisk, MemSource};
 use pv_node::Node;
@@ -41,7 +42,7 @@ const NINE_FIELDS: &[u8] =
 #[test]
 fn the_first_bad_line_is_found(rt: HostRuntime) -> Result<(), Fail> {
     for (text, bad) in &ROWS {
-        if text.len() > LONGEST_TAPE {
+        if text.len() > LONGEST_TEXT {
             return Err(Fail::from("too long"));
         }
         assert_eq!(rt; check_tape(text).err(), *bad, "at {text:?}");
@@ -204,7 +205,7 @@ fn a_tape_that_is_not_run_writes_nothing(rt: HostRuntime) -> Result<(), Fail> {
 #[test]
 fn a_long_tape_writes_nothing(rt: HostRuntime) -> Result<(), Fail> {
     let alloc = rt.alloc();
-    let tape = vec![in alloc; b'\n'; LONGEST_TAPE + 1]?;
+    let tape = vec![in alloc; b'\n'; LONGEST_TEXT + 1]?;
     assert_eq!(rt; end_without_writing(alloc, &tape, &[])?, Some(End::TooLong));
     Ok(())
 }

@@ -1,7 +1,7 @@
 use Rattle.std.proofs.Common.{◌≡◌, ℕ, true, false, List, take, sym, subst, ◌∙◌}
 use Rattle.std.specs.Prelude.{is_err}
 use Rattle.std.specs.Io.KnownBytes.{Appends}
-use Rattle.pv_script.proofs.Reading.{whole_written, prefix_written}
+use Rattle.pv_script.proofs.Writing.{whole_written, prefix_written}
 use Rattle.pv_script.proofs.Summing.{summed}
 use Rattle.pv_script.proofs.evenings.play_evening.Goals as goal
 

@@ -1,6 +1,6 @@
 use Rattle.std.proofs.Common.{ℕ, ◌≤◌, List, length, None, sym, subst, ◌∙◌}
 use Rattle.std.specs.Prelude.{IfOk, IfErr}
-use Rattle.pv_script.specs.declared.script.TheConstants.{LONGEST_SCRIPT}
+use Rattle.pv_input.specs.declared.text.TheConstants.{LONGEST_TEXT}
 use Rattle.pv_script.specs.Ends.{IsRunEnd, IsTallied}
 use Rattle.pv_script.specs.Play.{first_world}
 use Rattle.pv_script.proofs.Generated.{length-script_of}
@@ -11,7 +11,7 @@ use Rattle.pv_script.proofs.evenings.run_script.Goals as goal
 pub run-requires-clause-short : goal.run-requires-clause-short
 run-requires-clause-short c =
     let text = sym (c.bytes.ensures ∙ c.in-Ok.ensures) in
-    subst (λ (l : List ℕ). length l ≤ LONGEST_SCRIPT) text (length-script_of c.args.number c.requires.some c.requires.within)
+    subst (λ (l : List ℕ). length l ≤ LONGEST_TEXT) text (length-script_of c.args.number c.requires.some c.requires.within)
 
 -- it was run whole
 pub returns-clause-ok : goal.returns-clause-ok

@@ -7,7 +7,7 @@ use Rattle.pv_script.specs.declared.grammar.Command.TheVariants.{Limits}
 use Rattle.pv_script.specs.Transcript.{limits_text}
 use Rattle.pv_script.proofs.Counting.{adds_none}
 use Rattle.pv_script.proofs.Fates.{limits_have_none}
-use Rattle.pv_script.proofs.Reading.{fault_ends}
+use Rattle.pv_script.proofs.Writing.{fault_ends}
 use Rattle.pv_script.proofs.Happening.{count_stands}
 use Rattle.pv_script.proofs.playing.begin_again.Goals as goal
 

@@ -6,7 +6,7 @@ use Rattle.pv_script.specs.Transcript.{answer_text}
 use Rattle.pv_network.specs.declared.outcome.Outcome.{Outcome}
 use Rattle.pv_script.specs.Tally.{AddsOutcomes}
 use Rattle.pv_script.specs.Fates.{HasFatesOf}
-use Rattle.pv_script.proofs.Reading.{fault_ends}
+use Rattle.pv_script.proofs.Writing.{fault_ends}
 use Rattle.pv_script.proofs.Fates.{event_has_its_fate}
 use Rattle.pv_script.proofs.playing.run_event.Goals as goal
 

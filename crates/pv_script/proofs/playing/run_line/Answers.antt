@@ -1,7 +1,7 @@
 use Rattle.std.proofs.Common.{ℕ, ◌+◌, ◌^◌, ◌==◌, Bool, true, List, [], None, refl, sym, subst, inl, inr, arith}
 use Rattle.pv_network.specs.declared.event.Event.{Event}
 use Rattle.pv_script.specs.declared.grammar.Command.TheVariants.{Nothing, Do}
-use Rattle.pv_script.proofs.CallerLemmas.{Appends-none}
+use Rattle.pv_input.proofs.CallerLemmas.{Appends-none}
 use Rattle.pv_script.proofs.Counting.{adds_none, within_more}
 use Rattle.pv_script.proofs.EachWrite.{none_written, one_written}
 use Rattle.pv_script.specs.Grammar.{Asks, AsksAs, ReadsLine}

@@ -1,7 +1,7 @@
 use Rattle.std.proofs.Common.{◌+◌, ◌≤◌, ℕ, List, None, length}
 use Rattle.pv_words.specs.Lines.{lines_of}
 use Rattle.pv_tape.specs.Tape.{TapeEdit, AreGood, IsFirstBad, second_line}
-use Rattle.pv_tape.specs.declared.input.TheConstants.{LONGEST_TAPE}
+use Rattle.pv_input.specs.declared.text.TheConstants.{LONGEST_TEXT}
 use Rattle.pv_tape.proofs.checking.first_bad.Given as goal
 
 -- what is known of the lines that are left is known of all: that they are good, and which is the first bad one
@@ -12,7 +12,7 @@ invariant-loop-rest l = record {
   bad : (line : ℕ) → IsFirstBad l.working l.number (lines_of l.rest) line → IsFirstBad None second_line (lines_of l.text) line;
   only : (all : List TapeEdit) → AreGood None second_line (lines_of l.text) all
       → (edits : List TapeEdit) × AreGood l.working l.number (lines_of l.rest) edits;
-  number : l.number + length l.rest ≤ second_line + LONGEST_TAPE;
+  number : l.number + length l.rest ≤ second_line + LONGEST_TEXT;
 }
 
 abbrev pub decreases-loop-rest : goal.decreases-loop-rest

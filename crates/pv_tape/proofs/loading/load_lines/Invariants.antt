@@ -1,5 +1,5 @@
 use Rattle.std.proofs.Common.{◌≡◌, ◌+◌, ◌≤◌, List, None, length}
-use Rattle.pv_tape.specs.declared.input.TheConstants.{LONGEST_TAPE}
+use Rattle.pv_input.specs.declared.text.TheConstants.{LONGEST_TEXT}
 use Rattle.pv_udc.specs.contracts.rules.UdcRulesRules.TheImpl as udc
 use Rattle.pv_words.specs.Lines.{lines_of}
 use Rattle.pv_tape.specs.Loading.{last_number_of}
@@ -17,8 +17,8 @@ invariant-loop-rest g l = record {
   hand : l.node.hand ≡ None;
   last : l.progress.numbers.last ≡ last_number_of l.node.state.records l.head.account;
   limits : l.node.state.limits ≡ l.fn.node.state.limits;
-  lines : l.progress.line + length l.rest ≤ second_line + LONGEST_TAPE;
-  numbers : l.progress.numbers.next + length l.rest ≤ LAST_FIRST + LONGEST_TAPE;
+  lines : l.progress.line + length l.rest ≤ second_line + LONGEST_TEXT;
+  numbers : l.progress.numbers.next + length l.rest ≤ LAST_FIRST + LONGEST_TEXT;
   stored : l.progress.numbers.stored + l.head.first ≤ l.progress.numbers.next;
   counted : g.D.Reports.faults l.fn.node.journal.disk ≤ g.D.Reports.faults l.node.journal.disk;
 }
