@@ -28,11 +28,12 @@ use Rattle.pv_udc.specs.declared.reply.UdcReply.{UdcReply}
 use Rattle.pv_udc.specs.declared.request.UdcRequest.{UdcRequest}
 use Rattle.pv_udc.specs.declared.request.UdcRequest.TheVariants.{TakeUp}
 use Rattle.pv_ports.specs.Outcomes.{KeepsRecord, LinkIsUsed, LinkIsUnused}
-use Rattle.pv_ports.specs.Round.{Round, Stop, Gave, Took, InTurn, UpToTwo, ReceivesNext, GivesTo, GivesDown, GivesUp, HandlesDown, HandlesUp, HandlesTaken, ReceivesDown, ReceivesUp, AnswersRecord, AnswersItem, AppliesRecord, TakesItemUp, Carries, applied_by, taken_by, trip_after_record, trip_after_item, trip_after_take, came_by, stop_in, ask_stop, centre_node}
+use Rattle.pv_ports.specs.Round.{Round, Stop, Gave, Took, GivesTo, GivesDown, GivesUp, HandlesDown, HandlesUp, AnswersRecord, AnswersItem, AppliesRecord, TakesItemUp, applied_by, taken_by, trip_after_record, trip_after_item, trip_after_take, ask_stop, centre_node}
 use Rattle.pv_ports.specs.Session.{AskFault}
 use Rattle.pv_ports.specs.declared.round_end.RoundEnd.TheVariants as stops
 use Rattle.pv_ports.specs.declared.trip.Trip.{Trip}
 use Rattle.pv_ports.proofs.Judging.{applied_answer, taken_answer}
+use Rattle.pv_ports.proofs.Walking.{EachStage, stop_at_take}
 
 -- ---- counts
 
@@ -210,10 +211,6 @@ module _ {L : Type 0} (k : links.Ghosts L) (udc_limits centre_limits : Limits) (
   Comes old new None = Progress k old new
   Comes old new (Some why) = Fails old new why
 
-  abbrev pub ComesIn : Round L → Round L → Result Bool Stop → Type 0
-  ComesIn old new (Ok came) = Progress k old new
-  ComesIn old new (Err why) = Fails old new why
-
   pub kept_later : {Rec : Type 0} (opening : List Rec) (a b c : Standing Rec) (place : ℕ) → IsPrefix a.seen b.seen → a.told ≤ b.told
       → KeepsRecord opening b c place → KeepsRecord opening a c place
   kept_later opening a b c place seen told is =
@@ -236,10 +233,6 @@ module _ {L : Type 0} (k : links.Ghosts L) (udc_limits centre_limits : Limits) (
   comes_later : (a b c : Round L) (stop : Option Stop) → Progress k a b → Comes b c stop → Comes a c stop
   comes_later a b c None one other = goes_on k a b c one other
   comes_later a b c (Some why) one other = fails_later a b c why one other
-
-  comes_in_later : (a b c : Round L) (came : Result Bool Stop) → Progress k a b → ComesIn b c came → ComesIn a c came
-  comes_in_later a b c (Ok came) one other = goes_on k a b c one other
-  comes_in_later a b c (Err why) one other = fails_later a b c why one other
 
   -- what is as it was goes on
   same : (old new : Round L) (stop : Option Stop) → new ≡ old → stop ≡ None → Comes old new stop
@@ -321,7 +314,7 @@ module _ {L : Type 0} (k : links.Ghosts L) (udc_limits centre_limits : Limits) (
           → AnswersRecord (irc.ghosts (number C)) k centre_limits centre_opening C n result (record old { centre = is.0 }) new stop →
           Comes old new stop
       by (Ok told) applies answers =
-          let done = applied_answer C centre_limits centre_opening n rec old.centre is.0 told applies.comes.0 in
+          let done = applied_answer C centre_limits centre_opening n rec old.centre is.0 told applies.asks.prefix applies.comes.0 in
           let counted : Round L = record old { centre = is.0; trip = trip_after_record told.reply old.trip } in
           comes_later old counted new stop (record {
             down = serves_none k old.down;
@@ -355,7 +348,7 @@ module _ {L : Type 0} (k : links.Ghosts L) (udc_limits centre_limits : Limits) (
           → TakesItemUp udc.ghosts udc_limits udc_opening C number item old.udc is.0 result
           → AnswersItem udc.ghosts k udc_limits udc_opening C number result (record old { udc = is.0 }) new stop → Comes old new stop
       by (Ok told) takes answers =
-          let done = taken_answer C udc_limits udc_opening number item old.udc is.0 told takes.comes.0 in
+          let done = taken_answer C udc_limits udc_opening number item old.udc is.0 told takes.asks.prefix takes.comes.0 in
           let counted : Round L = record old { udc = is.0; trip = trip_after_item told.reply old.trip } in
           comes_later old counted new stop (record {
             down = serves_none k old.down;
@@ -381,127 +374,47 @@ module _ {L : Type 0} (k : links.Ghosts L) (udc_limits centre_limits : Limits) (
   handles_up (Some (UpHeard centre count)) old new stop moved is = same old new stop is.0 is.1
   handles_up None old new stop moved is = same old new stop is.0 is.1
 
-  -- ---- packets are received
+  -- ---- a packet is taken
 
-  came : (old new : Round L) (stop : Option Stop) → Comes old new stop → ComesIn old new (came_by stop)
-  came old new None is = is
-  came old new (Some why) is = is
+  -- a take of nothing
+  took_none : (old : Round L) (down up : L) → Serves k old.down down → Serves k old.up up → LinkIsUnused k old.down down
+      → LinkIsUnused k old.up up → Progress k old (record old { down = down; up = up })
+  took_none old down up serves_down serves_up still_down still_up =
+      linked k old _ serves_down serves_up refl refl refl refl (λ moved. inl moved)
+      (λ unmoved. record { before = unmoved; udc = refl; centre = refl; trip = refl; down = still_down; up = still_up })
 
-  took_down : (into : List ℕ) (result : Result (Option ℕ) Failed) (old new : Round L) (link : L) (came_is : Result Bool Stop)
-      → Took k into old.down link result
-      → HandlesTaken k C (HandlesDown (irc.ghosts (number C)) k centre_limits centre_opening C) into result
-      (record old { down = link; trip = trip_after_take result old.trip }) new came_is → ComesIn old new came_is
-  took_down into (Ok (Some n)) old new link came_is took is =
+  takes_down : (into : List ℕ) (result : Result (Option ℕ) Failed) (old : Round L) (link : L) → Took k into old.down link result
+      → Comes old (record old { down = link; trip = trip_after_take result old.trip }) (stop_at_take result)
+  takes_down into (Ok (Some n)) old link took =
       let rose = rises (k.taken old.down) (k.taken link) took.taken in
-      let taken : Round L = record old { down = link; trip = record old.trip { moved = true } } in
-      subst (ComesIn old new) (sym is.4) (comes_in_later old taken new (came_by is.1) (linked k old taken (record {
-        faults =
-            took.account.counted;
-        given = inl took.given;
-        taken = inr rose;
-      }) (serves_none k old.up) refl refl
-      refl refl (λ moved. inr (inl (inr rose))) (λ unmoved. absurd (true≢false unmoved))) (came taken new is.1 (handles_down is.0 taken
-      new is.1 refl is.3)))
-  took_down into (Ok None) old new link came_is took is =
-      subst (ComesIn old new) (sym is.1) (subst (Progress k old) (sym is.0) (linked k old (record old { down = link }) (record {
-        faults =
-            took.account.counted;
-        given = inl took.given;
-        taken = inl took.taken;
-      }) (serves_none k old.up)
-      refl refl refl refl (λ moved. inl moved) (λ unmoved. record {
-        before = unmoved;
-        udc = refl;
-        centre = refl;
-        trip = refl;
-        down = (took.given, took.taken);
-        up = (refl, refl);
-      })))
-  took_down into (Err fault) old new link came_is took is =
-      subst (ComesIn old new) (sym is.1) (subst (λ (r : Round L). Fails old r stops.LinkFault) (sym is.0)
-      (inl (took.account.failed refl)))
+      linked k old _ (record { faults = took.account.counted; given = inl took.given; taken = inr rose }) (serves_none k old.up) refl refl
+      refl refl (λ moved. inr (inl (inr rose))) (λ unmoved. absurd (true≢false unmoved))
+  takes_down into (Ok None) old link took =
+      took_none old link old.up (record { faults = took.account.counted; given = inl took.given; taken = inl took.taken })
+      (serves_none k old.up) (took.given, took.taken) (refl, refl)
+  takes_down into (Err fault) old link took = inl (took.account.failed refl)
 
-  took_up : (into : List ℕ) (result : Result (Option ℕ) Failed) (old new : Round L) (link : L) (came_is : Result Bool Stop)
-      → Took k into old.up link result
-      → HandlesTaken k C (HandlesUp udc.ghosts k udc_limits udc_opening C) into result
-      (record old { up = link; trip = trip_after_take result old.trip }) new came_is → ComesIn old new came_is
-  took_up into (Ok (Some n)) old new link came_is took is =
+  takes_up : (into : List ℕ) (result : Result (Option ℕ) Failed) (old : Round L) (link : L) → Took k into old.up link result
+      → Comes old (record old { up = link; trip = trip_after_take result old.trip }) (stop_at_take result)
+  takes_up into (Ok (Some n)) old link took =
       let rose = rises (k.taken old.up) (k.taken link) took.taken in
-      let taken : Round L = record old { up = link; trip = record old.trip { moved = true } } in
-      subst (ComesIn old new) (sym is.4) (comes_in_later old taken new (came_by is.1) (linked k old taken (serves_none k old.down)
-      (record { faults = took.account.counted; given = inl took.given; taken = inr rose }) refl refl
-      refl refl (λ moved. inr (inr (inr rose))) (λ unmoved. absurd (true≢false unmoved))) (came taken new is.1 (handles_up is.0 taken new
-      is.1 refl is.3)))
-  took_up into (Ok None) old new link came_is took is =
-      subst (ComesIn old new) (sym is.1) (subst (Progress k old) (sym is.0) (linked k old (record old { up = link }) (serves_none k
-      old.down) (record { faults = took.account.counted; given = inl took.given; taken = inl took.taken })
-      refl refl refl refl (λ moved. inl moved) (λ unmoved. record {
-        before = unmoved;
-        udc = refl;
-        centre = refl;
-        trip = refl;
-        down = (refl, refl);
-        up = (took.given, took.taken);
-      })))
-  took_up into (Err fault) old new link came_is took is =
-      subst (ComesIn old new) (sym is.1) (subst (λ (r : Round L). Fails old r stops.LinkFault) (sym is.0)
-      (inr (took.account.failed refl)))
+      linked k old _ (serves_none k old.down) (record { faults = took.account.counted; given = inl took.given; taken = inr rose }) refl refl
+      refl refl (λ moved. inr (inr (inr rose))) (λ unmoved. absurd (true≢false unmoved))
+  takes_up into (Ok None) old link took =
+      took_none old old.down link (serves_none k old.down)
+      (record { faults = took.account.counted; given = inl took.given; taken = inl took.taken }) (refl, refl) (took.given, took.taken)
+  takes_up into (Err fault) old link took = inr (took.account.failed refl)
 
   -- ---- the round
 
-  next : (Receives : Round L → Round L → Result Bool Stop → Type 0)
-      → ((old new : Round L) (came : Result Bool Stop) → Receives old new came → ComesIn old new came)
-      → (old mid new : Round L) (came : Result Bool Stop) (stop : Option Stop) → ComesIn old mid came
-      → ReceivesNext Receives came mid new stop → Comes old new stop
-  next Receives each old mid new (Ok true) stop first is =
-      by is.0 (comes_in_later old mid new is.0 first (each mid new is.0 is.1)) is.2
-    where
-      by : (second : Result Bool Stop) → ComesIn old new second → stop ≡ stop_in second → Comes old new stop
-      by (Ok came) comes none = subst (Comes old new) (sym none) comes
-      by (Err why) comes some = subst (Comes old new) (sym some) comes
-  next Receives each old mid new (Ok false) stop first is =
-      subst (Comes old new) (sym is.1) (subst (Progress k old) (sym is.0) first)
-  next Receives each old mid new (Err why) stop first is =
-      subst (Comes old new) (sym is.1) (subst (λ (r : Round L). Fails old r why) (sym is.0) first)
-
-  both : (First Second : Round L → Round L → Option Stop → Type 0)
-      → ((old new : Round L) (stop : Option Stop) → First old new stop → Comes old new stop)
-      → ((old new : Round L) (stop : Option Stop) → Second old new stop → Comes old new stop)
-      → (old new : Round L) (stop : Option Stop) → InTurn First Second old new stop → Comes old new stop
-  both First Second one other old new stop (inl is) = subst (Comes old new) (sym is.2) (one old new (Some is.0) is.1)
-  both First Second one other old new stop (inr is) =
-      comes_later old is.0 new stop (one old is.0 None is.1) (other is.0 new stop is.2)
-
-  received_down : (old new : Round L) (stop : Option Stop)
-      → UpToTwo (ReceivesDown (irc.ghosts (number C)) k centre_limits centre_opening C) old new stop → Comes old new stop
-  received_down old new stop is = next _ each old is.0 new is.1 stop (each old is.0 is.1 is.2) is.3
-    where
-      each : (old new : Round L) (came : Result Bool Stop) → ReceivesDown (irc.ghosts (number C)) k centre_limits centre_opening C old
-          new came
-          → ComesIn old new came
-      each old new came is = took_down is.1 is.2 old new is.0 came is.3 is.4
-
-  received_up : (old new : Round L) (stop : Option Stop) → UpToTwo (ReceivesUp udc.ghosts k udc_limits udc_opening C) old new stop
-      → Comes old new stop
-  received_up old new stop is = next _ each old is.0 new is.1 stop (each old is.0 is.1 is.2) is.3
-    where
-      each : (old new : Round L) (came : Result Bool Stop) → ReceivesUp udc.ghosts k udc_limits udc_opening C old new came
-          → ComesIn old new came
-      each old new came is = took_up is.1 is.2 old new is.0 came is.3 is.4
-
-  -- all that has come is taken
-  pub received : (old new : Round L) (stop : Option Stop)
-      → InTurn (UpToTwo (ReceivesDown (irc.ghosts (number C)) k centre_limits centre_opening C))
-      (UpToTwo (ReceivesUp udc.ghosts k udc_limits udc_opening C)) old new stop → Comes old new stop
-  received = both _ _ received_down received_up
-
-  -- what goes up is given, and then that
-  pub after_down : (going : Option Packet) (old new : Round L) (stop : Option Stop)
-      → InTurn (GivesUp k going) (InTurn (UpToTwo (ReceivesDown (irc.ghosts (number C)) k centre_limits centre_opening C))
-      (UpToTwo (ReceivesUp udc.ghosts k udc_limits udc_opening C))) old new stop → Comes old new stop
-  after_down going = both _ _ (gives_up going) received
-
-  pub carried : (going_down going_up : Option Packet) (old new : Round L) (stop : Option Stop)
-      → Carries udc.ghosts (irc.ghosts (number C)) k udc_limits centre_limits udc_opening centre_opening C going_down going_up old new stop
-      → Comes old new stop
-  carried going_down going_up = both _ _ (gives_down going_down) (after_down going_up)
+  pub stages : (going_down going_up : Option Packet)
+      → EachStage k udc_limits centre_limits udc_opening centre_opening C going_down going_up Comes
+  stages going_down going_up = record {
+    later = comes_later;
+    gives_down = gives_down going_down;
+    gives_up = gives_up going_up;
+    takes_down = takes_down;
+    takes_up = takes_up;
+    handles_down = handles_down;
+    handles_up = handles_up;
+  }

@@ -25,7 +25,8 @@ use Rattle.pv_ports.specs.Round.{CarrierState, Round, Stop, InTurn, UpToTwo, Giv
 use Rattle.pv_ports.specs.Talk.{PassLooks}
 use Rattle.pv_ports.specs.declared.round_end.RoundEnd.TheVariants as stops
 use Rattle.pv_ports.specs.declared.trip.Trip.{Trip}
-use Rattle.pv_ports.proofs.Causing.{Progress, Fails, Comes, kept_later, received, after_down, carried}
+use Rattle.pv_ports.proofs.Causing.{Progress, Fails, Comes, kept_later, stages}
+use Rattle.pv_ports.proofs.Walking.{EachStage, received, after_down, carried}
 
 -- ---- an end that gives no number
 
@@ -65,6 +66,14 @@ end_stays end count within =
 
 module _ {L : Type 0} (k : links.Ghosts L) (udc_limits centre_limits : Limits) (udc_opening : List Record)
     (centre_opening : List CentreRecord) (C : ℕ) where
+  -- what stages come to
+  abbrev Every : Round L → Round L → Option Stop → Type 0
+  Every old new stop = Comes k udc_limits centre_limits udc_opening centre_opening C old new stop
+
+  each : (going_down going_up : Option Packet)
+      → EachStage k udc_limits centre_limits udc_opening centre_opening C going_down going_up Every
+  each = stages k udc_limits centre_limits udc_opening centre_opening C
+
   -- ---- nothing was given
 
   no_fault : (stop : Option Stop) (why : Stop) → stop ≡ None → stop ≡ Some why → ⊥
@@ -95,7 +104,7 @@ module _ {L : Type 0} (k : links.Ghosts L) (udc_limits centre_limits : Limits) (
       (UpToTwo (ReceivesUp udc.ghosts k udc_limits udc_opening C))) old new None → new.trip.moved ≡ false → going ≡ None
   nothing_up going old new (inl is) unmoved = let no = is.2 in absurd cc
   nothing_up going old new (inr is) unmoved =
-      let rest = received k udc_limits centre_limits udc_opening centre_opening C is.0 new None is.2 in
+      let rest = received k udc_limits centre_limits udc_opening centre_opening C None going Every (each None going) is.0 new None is.2 in
       none_up going old is.0 is.1 (rest.still unmoved).before
 
   nothing : (going_down going_up : Option Packet) (old new : Round L)
@@ -103,7 +112,8 @@ module _ {L : Type 0} (k : links.Ghosts L) (udc_limits centre_limits : Limits) (
       → new.trip.moved ≡ false → (going_down ≡ None) × (going_up ≡ None)
   nothing going_down going_up old new (inl is) unmoved = let no = is.2 in absurd cc
   nothing going_down going_up old new (inr is) unmoved =
-      let rest = after_down k udc_limits centre_limits udc_opening centre_opening C going_up is.0 new None is.2 in
+      let rest = after_down k udc_limits centre_limits udc_opening centre_opening C going_down going_up Every (each going_down going_up) is.0
+      new None is.2 in
       (none_down going_down old is.0 is.1 (rest.still unmoved).before, nothing_up going_up is.0 new is.2 unmoved)
 
   -- ---- the cause
@@ -145,8 +155,8 @@ module _ {L : Type 0} (k : links.Ghosts L) (udc_limits centre_limits : Limits) (
       new_down new_up end
   ends_for old new old_down old_up new_down new_up end is =
       rw (is.ends, is.state, is.new_links.0, is.new_links.1, ← is.old_links.0, ← is.old_links.1)
-      (by is.stop (carried k udc_limits centre_limits udc_opening centre_opening C is.going_down is.going_up is.first is.last is.stop
-      is.carries)
+      (by is.stop (carried k udc_limits centre_limits udc_opening centre_opening C is.going_down is.going_up Every
+      (each is.going_down is.going_up) is.first is.last is.stop is.carries)
       is.carries)
     where
       idle : Progress k is.first is.last

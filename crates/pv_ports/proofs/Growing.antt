@@ -71,3 +71,16 @@ pub up_grows : (packet : Packet) (opening : List CentreRecord) (one other : List
 up_grows packet opening one other prefix is =
     let more = with_prefix opening one other prefix in
     subst (λ (l : List CentreRecord). GoesUp l packet) more.1 (up_more packet (with_opening opening one) more.0 is)
+
+-- more is applied, and more is taken up, as a pass sees more
+pub applied_grows : (opening : List CentreRecord) (one other : List (Entry CentreRecord)) → IsPrefix one other
+    → applied_of (with_opening opening one) ≤ applied_of (with_opening opening other)
+applied_grows opening one other prefix =
+    let more = with_prefix opening one other prefix in
+    omega (arith, applied_more (with_opening opening one) more.0, ap applied_of more.1)
+
+pub taken_grows : (C : ℕ) (opening : List Record) (one other : List (Entry Record)) → IsPrefix one other
+    → taken_of (with_opening opening one) C ≤ taken_of (with_opening opening other) C
+taken_grows C opening one other prefix =
+    let more = with_prefix opening one other prefix in
+    omega (arith, taken_more C (with_opening opening one) more.0, ap (λ (l : List Record). taken_of l C) more.1)

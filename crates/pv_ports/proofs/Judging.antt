@@ -1,6 +1,7 @@
 -- What the nodes decide on a record that came down, and on an item that came up.
 use Rattle.std.proofs.Common.{◌≡◌, ℕ, ◌+◌, ◌≤◌, ◌==◌, Bool, true, false, not, cond, List, [], ◌∷◌, ◌++◌, length, Option, Some, None, MatchOption, refl, ap, sym, ◌∙◌, subst, arith}
-use Rattle.std.specs.Prelude.{IfSome, nat_lt, min}
+use Rattle.std.specs.Prelude.{IfSome, nat_lt, min, ◌-◌}
+use mathlib.Core.List.{IsPrefix}
 use Rattle.std.proofs.lemmas.Bool.{ltb-false, eq-eqb}
 use denote.Param.{number}
 use Rattle.pv_outside.specs.Counts.{one_more}
@@ -32,8 +33,9 @@ use Rattle.pv_udc.specs.contracts.rules.UdcRulesRules.TheImpl as udc
 use Rattle.pv_udc.specs.declared.reply.UdcReply.{UdcReply}
 use Rattle.pv_udc.specs.declared.reply.UdcReply.TheVariants as udc_replies
 use Rattle.pv_udc.specs.declared.request.UdcRequest.TheVariants.{TakeUp}
+use Rattle.pv_ports.specs.Outcomes.{RisesByTold}
 use Rattle.pv_ports.specs.Round.{applied_by, taken_by, records_in_reply, items_in_reply}
-use Rattle.pv_ports.proofs.Growing.{with_more, taken_more, applied_more}
+use Rattle.pv_ports.proofs.Growing.{with_more, taken_more, applied_more, applied_grows, taken_grows}
 
 module _ {Rec Reply : Type 0} where
   -- the reply of an answer, or this one; and the record and the reply that are stored, or these
@@ -82,16 +84,18 @@ stored false false true count n rec kept reply is = absurd (subst IsAnswer is tt
 stored false false false count n rec kept reply is = (refl, ap (record_or kept) is, ap (reply_or reply) is)
 
 module _ (C : ℕ) (limits : Limits) (opening : List CentreRecord) where
-  -- what an ask for a record has done: what its reply acknowledges was applied, and the pass counted what it applied
+  -- what an ask for a record has done: what its reply acknowledges was applied, and the pass counted what it applied and has seen it
   pub record IsApplied (n : ℕ) (old new : Standing CentreRecord) (reply : IrcReply) : Type 0 where
     pub heard : IfSome (applied_by n reply) (λ m. m ≤ applied_of (with_opening opening new.seen))
     pub told : new.told ≡ old.told + records_in_reply reply
+    pub seen : RisesByTold applied_of opening old new
 
   by_place : (place : Option ℕ) (n : ℕ) (rec : DownRecord) (old new : Standing CentreRecord) (reply : IrcReply)
+      → IsPrefix old.seen new.seen
       → MatchOption place (HasAnswered (irc.ghosts (number C)) limits opening (Apply n rec) old new reply)
       (HasStoredFor (irc.ghosts (number C)) limits opening (Apply n rec) old new reply)
       → IsApplied n old new reply
-  by_place None n rec old new reply is =
+  by_place None n rec old new reply prefix is =
       let state = is.judged.0 in
       let count = ap (λ (s : CentreState). s.applied) is.judged.1.stands in
       let none = answered (nat_lt n state.applied) (nat_lt state.applied n) (not (down_fits state rec)) state.applied n rec reply
@@ -99,8 +103,9 @@ module _ (C : ℕ) (limits : Limits) (opening : List CentreRecord) where
       record {
         heard = subst (λ (a : ℕ). IfSome (applied_by n reply) (λ m. m ≤ a)) count none.0;
         told = omega (arith, is.told, none.1);
+        seen = omega (arith, is.told, applied_grows opening old.seen new.seen prefix);
       }
-  by_place (Some place) n rec old new reply is =
+  by_place (Some place) n rec old new reply prefix is =
       let state = is.judged.0 in
       let count = ap (λ (s : CentreState). s.applied) is.judged.1.stands in
       let kept = stored (nat_lt n state.applied) (nat_lt state.applied n) (not (down_fits state rec)) state.applied n rec is.entry.rec reply
@@ -115,11 +120,12 @@ module _ (C : ℕ) (limits : Limits) (opening : List CentreRecord) where
         heard = subst (λ (r : IrcReply). IfSome (applied_by n r) (λ m. m ≤ applied_of (with_opening opening new.seen))) kept.2
             (omega (arith, grown, count, early));
         told = omega (arith, is.told, ap records_in_reply kept.2);
+        seen = omega (arith, is.told, grown, applied_grows opening old.seen is.before is.stored.known);
       }
 
   pub applied_answer : (n : ℕ) (rec : DownRecord) (old new : Standing CentreRecord) (told : Told IrcReply)
-      → HasAsked (irc.ghosts (number C)) limits opening (Apply n rec) old new told → IsApplied n old new told.reply
-  applied_answer n rec old new told is = by_place told.number n rec old new told.reply is
+      → IsPrefix old.seen new.seen → HasAsked (irc.ghosts (number C)) limits opening (Apply n rec) old new told → IsApplied n old new told.reply
+  applied_answer n rec old new told prefix is = by_place told.number n rec old new told.reply prefix is
 
 -- ---- an item that came up
 
@@ -152,24 +158,27 @@ one_taken : (C k : ℕ) (item : Item) → taken_of (Taken (record { centre = C; 
 one_taken C k item = ap (λ (b : Bool). 0 + cond b 1 0) (eq-eqb C C refl)
 
 module _ (C : ℕ) (limits : Limits) (opening : List Record) where
-  -- what an ask for an item has done: what its reply acknowledges was taken up, and the pass counted what it took up
+  -- what an ask for an item has done: what its reply acknowledges was taken up, and the pass counted what it took up and has seen it
   pub record IsTakenIn (k : ℕ) (old new : Standing Record) (reply : UdcReply) : Type 0 where
     pub heard : IfSome (taken_by k reply) (λ m. m ≤ taken_of (with_opening opening new.seen) C)
     pub told : new.told ≡ old.told + items_in_reply reply
+    pub seen : RisesByTold (λ records. taken_of records C) opening old new
 
   item_by_place : (place : Option ℕ) (k : ℕ) (item : Item) (old new : Standing Record) (reply : UdcReply)
+      → IsPrefix old.seen new.seen
       → MatchOption place (HasAnswered udc.ghosts limits opening (TakeUp C k item) old new reply)
       (HasStoredFor udc.ghosts limits opening (TakeUp C k item) old new reply)
       → IsTakenIn k old new reply
-  item_by_place None k item old new reply is =
+  item_by_place None k item old new reply prefix is =
       let state = is.judged.0 in
       let taken = taken_of state.records C in
       let none = answered_item (nat_lt k taken) (nat_lt taken k) taken C k item (length state.records) reply is.judged.2 in
       record {
         heard = subst (λ (l : List Record). IfSome (taken_by k reply) (λ m. m ≤ taken_of l C)) is.judged.1.stands none.0;
         told = omega (arith, is.told, none.1);
+        seen = omega (arith, is.told, taken_grows C opening old.seen new.seen prefix);
       }
-  item_by_place (Some place) k item old new reply is =
+  item_by_place (Some place) k item old new reply prefix is =
       let state = is.judged.0 in
       let taken = taken_of state.records C in
       let count = ap (λ (l : List Record). taken_of l C) is.judged.1.stands in
@@ -185,8 +194,9 @@ module _ (C : ℕ) (limits : Limits) (opening : List Record) where
         heard = subst (λ (r : UdcReply). IfSome (taken_by k r) (λ m. m ≤ taken_of (with_opening opening new.seen) C)) kept.2
             (omega (arith, grown, count, early));
         told = omega (arith, is.told, ap items_in_reply kept.2);
+        seen = omega (arith, is.told, grown, taken_grows C opening old.seen is.before is.stored.known);
       }
 
   pub taken_answer : (k : ℕ) (item : Item) (old new : Standing Record) (told : Told UdcReply)
-      → HasAsked udc.ghosts limits opening (TakeUp C k item) old new told → IsTakenIn k old new told.reply
-  taken_answer k item old new told is = item_by_place told.number k item old new told.reply is
+      → IsPrefix old.seen new.seen → HasAsked udc.ghosts limits opening (TakeUp C k item) old new told → IsTakenIn k old new told.reply
+  taken_answer k item old new told prefix is = item_by_place told.number k item old new told.reply prefix is

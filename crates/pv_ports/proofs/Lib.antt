@@ -9,7 +9,9 @@ mod Numbering
 mod Phases
 mod Righting
 mod Rounds
+mod Seeing
 mod Sending
 mod Sessions
 mod Settling
 mod Talking
+mod Walking

@@ -26,10 +26,11 @@ use Rattle.pv_udc.specs.contracts.rules.UdcRulesRules.TheImpl as udc
 use Rattle.pv_udc.specs.declared.reply.UdcReply.{UdcReply}
 use Rattle.pv_ports.specs.Parcels.{down_packet, up_packet}
 use Rattle.pv_ports.specs.Rights.{GoesDown, GoesUp, IsRightIfPacket, HoldRightPackets}
-use Rattle.pv_ports.specs.Round.{Round, Stop, CarrierState, InTurn, UpToTwo, ReceivesNext, GivesDown, GivesUp, HandlesDown, HandlesUp, HandlesTaken, ReceivesDown, ReceivesUp, AnswersRecord, AnswersItem, AppliesRecord, TakesItemUp, Carries, IsRound, applied_by, taken_by, trip_after_record, trip_after_item, trip_after_take}
+use Rattle.pv_ports.specs.Round.{Round, Stop, CarrierState, GivesDown, GivesUp, HandlesDown, HandlesUp, AnswersRecord, AnswersItem, AppliesRecord, TakesItemUp, IsRound, applied_by, taken_by, trip_after_record, trip_after_item, trip_after_take}
 use Rattle.pv_ports.specs.Session.{AskFault}
 use Rattle.pv_ports.proofs.Growing.{down_grows, up_grows}
 use Rattle.pv_ports.proofs.Judging.{applied_answer, taken_answer}
+use Rattle.pv_ports.proofs.Walking.{EachStage, carried}
 
 -- what goes next is right: it is the record or the item of its number
 next_down : (C : ℕ) (records : List Record) (given : Option ℕ) → IfSome (down_packet C records given) (GoesDown records)
@@ -50,15 +51,36 @@ next_up C items records (Some k) same = by (slice_get items k) refl
     by None is = tt
     by (Some item) is = ap (λ (l : List Item). slice_get l k) (sym same) ∙ is
 
+-- what holds of a packet, if there is one, and is weaker
+weaker_if : {P Q : Packet → Type 0} (packet : Option Packet) → ((one : Packet) → P one → Q one) → IfSome packet P → IfSome packet Q
+weaker_if None weaker is = tt
+weaker_if (Some packet) weaker is = weaker packet is
+
 -- a pass that is as it was has seen what it had
 same_pass : {Rec : Type 0} (old new : Standing Rec) → new ≡ old → IsPrefix old.seen new.seen
 same_pass old new is = subst (λ (p : Standing _). IsPrefix old.seen p.seen) (sym is) (prefix_self old.seen)
 
+-- as the passes see more
+more_seen : {L : Type 0} (k : links.Ghosts L) (udc_opening : List Record) (centre_opening : List CentreRecord) (C : ℕ)
+    (old_udc udc : Standing Record) (old_centre centre : Standing CentreRecord) (down up : L) → IsPrefix old_udc.seen udc.seen
+    → IsPrefix old_centre.seen centre.seen → HoldRightPackets k udc_opening centre_opening C old_udc old_centre down up
+    → HoldRightPackets k udc_opening centre_opening C udc centre down up
+more_seen k udc_opening centre_opening C old_udc udc old_centre centre down up more_udc more_centre is = record {
+  down = λ bytes held packet ranges same own.
+      down_grows packet udc_opening old_udc.seen udc.seen more_udc (is.down bytes held packet ranges same own);
+  up = λ bytes held packet ranges same own.
+      up_grows packet centre_opening old_centre.seen centre.seen more_centre (is.up bytes held packet ranges same own);
+}
+
 module _ {L : Type 0} (k : links.Ghosts L) (udc_limits centre_limits : Limits) (udc_opening : List Record)
     (centre_opening : List CentreRecord) (C : ℕ)
-    (reads : (packet : Packet) → IsPacket packet → packet_of_bytes (packet_bytes packet) ≡ Some packet) where
-  abbrev Right : Round L → Type 0
-  Right round = HoldRightPackets k udc_opening centre_opening C round.udc round.centre round.down round.up
+    (reads : (packet : Packet) → IsPacket packet → packet_of_bytes (packet_bytes packet) ≡ Some packet)
+    (going_down going_up : Option Packet) where
+  -- all packets are right: those that the links may hold, and those that go next
+  pub record Right (round : Round L) : Type 0 where
+    pub held : HoldRightPackets k udc_opening centre_opening C round.udc round.centre round.down round.up
+    pub down : IfSome going_down (GoesDown (with_opening udc_opening round.udc.seen))
+    pub up : IfSome going_up (GoesUp (with_opening centre_opening round.centre.seen))
 
   -- bytes that spell a right packet spell no other
   spelled : (IsRight : Packet → Type 0) (packet : Packet) (bytes : List ℕ) → IsPacket packet → bytes ≡ packet_bytes packet
@@ -76,18 +98,22 @@ module _ {L : Type 0} (k : links.Ghosts L) (udc_limits centre_limits : Limits) (
       → k.may_hold old.up bytes ⊎ IsRightIfPacket C (GoesUp (with_opening centre_opening new.centre.seen)) bytes)
       → Right old → Right new
   moves old new udc centre down up is = record {
-    down = λ bytes held.
-        elim (down bytes held) [
-          | inl before ↦ λ packet ranges same own.
-              down_grows packet udc_opening old.udc.seen new.udc.seen udc (is.down bytes before packet ranges same own)
-          | inr right ↦ right
-        ];
-    up = λ bytes held.
-        elim (up bytes held) [
-          | inl before ↦ λ packet ranges same own.
-              up_grows packet centre_opening old.centre.seen new.centre.seen centre (is.up bytes before packet ranges same own)
-          | inr right ↦ right
-        ];
+    held = record {
+      down = λ bytes held.
+          elim (down bytes held) [
+            | inl before ↦ λ packet ranges same own.
+                down_grows packet udc_opening old.udc.seen new.udc.seen udc (is.held.down bytes before packet ranges same own)
+            | inr right ↦ right
+          ];
+      up = λ bytes held.
+          elim (up bytes held) [
+            | inl before ↦ λ packet ranges same own.
+                up_grows packet centre_opening old.centre.seen new.centre.seen centre (is.held.up bytes before packet ranges same own)
+            | inr right ↦ right
+          ];
+    };
+    down = weaker_if going_down (λ packet. down_grows packet udc_opening old.udc.seen new.udc.seen udc) is.down;
+    up = weaker_if going_up (λ packet. up_grows packet centre_opening old.centre.seen new.centre.seen centre) is.up;
   }
 
   -- a link that is as it was may hold what it held
@@ -162,7 +188,7 @@ module _ {L : Type 0} (k : links.Ghosts L) (udc_limits centre_limits : Limits) (
           → AnswersRecord (irc.ghosts (number C)) k centre_limits centre_opening C n result (record old { centre = is.0 }) new stop →
           Right new
       by (Ok told) applies answers =
-          let done = applied_answer C centre_limits centre_opening n rec old.centre is.0 told applies.comes.0 in
+          let done = applied_answer C centre_limits centre_opening n rec old.centre is.0 told applies.asks.prefix applies.comes.0 in
           gives_up (option_map (DownHeard C) (applied_by n told.reply)) (record old {
             centre = is.0;
             trip = trip_after_record told.reply
@@ -192,7 +218,7 @@ module _ {L : Type 0} (k : links.Ghosts L) (udc_limits centre_limits : Limits) (
       by : (result : Result (Told UdcReply) AskFault) → TakesItemUp udc.ghosts udc_limits udc_opening C number item old.udc is.0 result
           → AnswersItem udc.ghosts k udc_limits udc_opening C number result (record old { udc = is.0 }) new stop → Right new
       by (Ok told) takes answers =
-          let done = taken_answer C udc_limits udc_opening number item old.udc is.0 told takes.comes.0 in
+          let done = taken_answer C udc_limits udc_opening number item old.udc is.0 told takes.asks.prefix takes.comes.0 in
           gives_down (option_map (UpHeard C) (taken_by number told.reply)) (record old {
             udc = is.0;
             trip = trip_after_item told.reply
@@ -215,72 +241,26 @@ module _ {L : Type 0} (k : links.Ghosts L) (udc_limits centre_limits : Limits) (
   handles_up (Some (UpHeard centre count)) old new stop is holds = subst Right (sym is.0) holds
   handles_up None old new stop is holds = subst Right (sym is.0) holds
 
-  -- ---- packets are received
-
-  taken_by_way : (Handles : Option Packet → Round L → Round L → Option Stop → Type 0) (into : List ℕ) (result : Result (Option ℕ) Failed)
-      → ((packet : Option Packet) (old new : Round L) (stop : Option Stop) → Handles packet old new stop → Right old → Right new)
-      → (old new : Round L) (came : Result Bool Stop) → HandlesTaken k C Handles into result old new came → Right old → Right new
-  taken_by_way Handles into (Ok (Some n)) keeps old new came is holds = keeps is.0 old new is.1 is.3 holds
-  taken_by_way Handles into (Ok None) keeps old new came is holds = subst Right (sym is.0) holds
-  taken_by_way Handles into (Err fault) keeps old new came is holds = subst Right (sym is.0) holds
-
-  receives_down : (old new : Round L) (came : Result Bool Stop)
-      → ReceivesDown (irc.ghosts (number C)) k centre_limits centre_opening C old new came → Right old → Right new
-  receives_down old new came is holds =
-      taken_by_way (HandlesDown (irc.ghosts (number C)) k centre_limits centre_opening C) is.1 is.2 handles_down
-      (record old { down = is.0; trip = trip_after_take is.2 old.trip }) new came is.4
-      (moves old (record old { down = is.0; trip = trip_after_take is.2 old.trip }) (prefix_self old.udc.seen) (prefix_self
-      old.centre.seen) (λ bytes held. inl (is.3.only bytes held))
-      (λ bytes held. inl held) holds)
-
-  receives_up : (old new : Round L) (came : Result Bool Stop)
-      → ReceivesUp udc.ghosts k udc_limits udc_opening C old new came → Right old → Right new
-  receives_up old new came is holds =
-      taken_by_way (HandlesUp udc.ghosts k udc_limits udc_opening C) is.1 is.2 handles_up
-      (record old { up = is.0; trip = trip_after_take is.2 old.trip }) new came is.4
-      (moves old (record old { up = is.0; trip = trip_after_take is.2 old.trip }) (prefix_self old.udc.seen) (prefix_self
-      old.centre.seen) (λ bytes held. inl held)
-      (λ bytes held. inl (is.3.only bytes held)) holds)
-
-  next : (Receives : Round L → Round L → Result Bool Stop → Type 0)
-      → ((old new : Round L) (came : Result Bool Stop) → Receives old new came → Right old → Right new) → (came : Result Bool Stop)
-      (old new : Round L) (stop : Option Stop) → ReceivesNext Receives came old new stop → Right old → Right new
-  next Receives keeps (Ok true) old new stop is holds = keeps old new is.0 is.1 holds
-  next Receives keeps (Ok false) old new stop is holds = subst Right (sym is.0) holds
-  next Receives keeps (Err why) old new stop is holds = subst Right (sym is.0) holds
-
-  up_to_two : (Receives : Round L → Round L → Result Bool Stop → Type 0)
-      → ((old new : Round L) (came : Result Bool Stop) → Receives old new came → Right old → Right new)
-      → (old new : Round L) (stop : Option Stop) → UpToTwo Receives old new stop → Right old → Right new
-  up_to_two Receives keeps old new stop is holds = next Receives keeps is.1 is.0 new stop is.3 (keeps old is.0 is.1 is.2 holds)
-
   -- ---- the round
 
-  received : (old new : Round L) (stop : Option Stop)
-      → InTurn (UpToTwo (ReceivesDown (irc.ghosts (number C)) k centre_limits centre_opening C))
-      (UpToTwo (ReceivesUp udc.ghosts k udc_limits udc_opening C)) old new stop → Right old → Right new
-  received old new stop (inl is) holds = up_to_two _ receives_down old new (Some is.0) is.1 holds
-  received old new stop (inr is) holds = up_to_two _ receives_up is.0 new stop is.2 (up_to_two _ receives_down old is.0 None is.1 holds)
+  pub stages : EachStage k udc_limits centre_limits udc_opening centre_opening C going_down going_up (λ old new stop. Right old → Right new)
+  stages = record {
+    later = λ a b c stop one other holds. other (one holds);
+    gives_down = λ old new stop is holds. gives_down going_down old new stop holds.down is holds;
+    gives_up = λ old new stop is holds. gives_up going_up old new stop holds.up is holds;
+    takes_down = λ into result old link is holds.
+        moves old (record old { down = link; trip = trip_after_take result old.trip }) (prefix_self old.udc.seen)
+        (prefix_self old.centre.seen) (λ bytes held. inl (is.only bytes held)) (λ bytes held. inl held) holds;
+    takes_up = λ into result old link is holds.
+        moves old (record old { up = link; trip = trip_after_take result old.trip }) (prefix_self old.udc.seen)
+        (prefix_self old.centre.seen) (λ bytes held. inl held) (λ bytes held. inl (is.only bytes held)) holds;
+    handles_down = λ packet old new stop moved is holds. handles_down packet old new stop is holds;
+    handles_up = λ packet old new stop moved is holds. handles_up packet old new stop is holds;
+  }
 
-  given_up : (going : Option Packet) (old new : Round L) (stop : Option Stop)
-      → IfSome going (GoesUp (with_opening centre_opening old.centre.seen))
-      → InTurn (GivesUp k going) (InTurn (UpToTwo (ReceivesDown (irc.ghosts (number C)) k centre_limits centre_opening C))
-      (UpToTwo (ReceivesUp udc.ghosts k udc_limits udc_opening C))) old new stop → Right old → Right new
-  given_up going old new stop right (inl is) holds = gives_up going old new (Some is.0) right is.1 holds
-  given_up going old new stop right (inr is) holds = received is.0 new stop is.2 (gives_up going old is.0 None right is.1 holds)
-
-  carried : (going_down going_up : Option Packet) (old new : Round L) (stop : Option Stop)
-      → IfSome going_down (GoesDown (with_opening udc_opening old.udc.seen))
-      → IfSome going_up (GoesUp (with_opening centre_opening old.centre.seen))
-      → Carries udc.ghosts (irc.ghosts (number C)) k udc_limits centre_limits udc_opening centre_opening C going_down going_up old new stop
-      → Right old → Right new
-  carried going_down going_up old new stop down up (inl is) holds = gives_down going_down old new (Some is.0) down is.1 holds
-  carried going_down going_up old new stop down up (inr is) holds =
-      given_up going_up is.0 new stop
-      (subst (λ (p : Standing CentreRecord). IfSome going_up (GoesUp (with_opening centre_opening p.seen)))
-      (sym (ap (λ (r : Round L). r.centre) is.1.1)) up)
-      is.2 (gives_down going_down old is.0 None down is.1 holds)
-
+module _ {L : Type 0} (k : links.Ghosts L) (udc_limits centre_limits : Limits) (udc_opening : List Record)
+    (centre_opening : List CentreRecord) (C : ℕ)
+    (reads : (packet : Packet) → IsPacket packet → packet_of_bytes (packet_bytes packet) ≡ Some packet) where
   -- If all packets of the links are right before a round, they are right after it.
   pub stays_right : (old new : CarrierState) (old_down old_up new_down new_up : L) (end : Stop)
       → IsRound udc.ghosts (irc.ghosts (number C)) k udc_limits centre_limits udc_opening centre_opening C old old_down old_up new
@@ -290,20 +270,23 @@ module _ {L : Type 0} (k : links.Ghosts L) (udc_limits centre_limits : Limits) (
   stays_right old new old_down old_up new_down new_up end is holds =
       let first = is.first in
       let last = is.last in
-      let begun : Right first =
-      only_passes (record first { udc = old.udc; centre = old.centre; down = old_down; up = old_up }) first
-      is.looks_down.looks.prefix is.looks_up.looks.prefix is.old_links.0 is.old_links.1 holds in
-      let down : IfSome is.going_down (GoesDown (with_opening udc_opening first.udc.seen)) =
-      subst (λ (p : Option Packet). IfSome p (GoesDown (with_opening udc_opening first.udc.seen))) (sym is.looks_down.going_is)
-      (subst (λ (l : List Record). IfSome (down_packet C l (number_to_give old.sending first.trip.record_count)) (GoesDown (with_opening
-      udc_opening first.udc.seen)))
-      (sym is.looks_down.stands.stands) (next_down C (with_opening udc_opening first.udc.seen) (number_to_give old.sending
-      first.trip.record_count))) in
-      let up : IfSome is.going_up (GoesUp (with_opening centre_opening first.centre.seen)) =
-      subst (λ (p : Option Packet). IfSome p (GoesUp (with_opening centre_opening first.centre.seen))) (sym is.looks_up.going_is)
-      (next_up C is.looks_up.state.items (with_opening centre_opening first.centre.seen) (number_to_give old.posting first.trip.item_count)
-      (ap (λ (s : CentreState). s.items) is.looks_up.stands.stands)) in
-      only_passes last (record last { udc = new.udc; centre = new.centre; down = new_down; up = new_up })
-      (same_pass last.udc new.udc (ap (λ (s : CarrierState). s.udc) is.state))
-      (same_pass last.centre new.centre (ap (λ (s : CarrierState). s.centre) is.state)) is.new_links.0 is.new_links.1
-      (carried is.going_down is.going_up first last is.stop down up is.carries begun)
+      let looked : HoldRightPackets k udc_opening centre_opening C first.udc first.centre first.down first.up =
+      rw (is.old_links.0, is.old_links.1) (more_seen k udc_opening centre_opening C old.udc first.udc old.centre first.centre old_down old_up
+      is.looks_down.looks.prefix is.looks_up.looks.prefix holds) in
+      let carried = carried k udc_limits centre_limits udc_opening centre_opening C is.going_down is.going_up _
+      (stages k udc_limits centre_limits udc_opening centre_opening C reads is.going_down is.going_up) first last is.stop is.carries in
+      rw (is.state, is.new_links.0, is.new_links.1)
+      (carried (record {
+        held = looked;
+        down =
+            subst (λ (p : Option Packet). IfSome p (GoesDown (with_opening udc_opening first.udc.seen))) (sym is.looks_down.going_is)
+            (subst (λ (l : List Record). IfSome (down_packet C l (number_to_give old.sending first.trip.record_count)) (GoesDown (with_opening
+            udc_opening first.udc.seen)))
+            (sym is.looks_down.stands.stands) (next_down C (with_opening udc_opening first.udc.seen) (number_to_give old.sending
+            first.trip.record_count)));
+        up =
+            subst (λ (p : Option Packet). IfSome p (GoesUp (with_opening centre_opening first.centre.seen))) (sym is.looks_up.going_is)
+            (next_up C is.looks_up.state.items (with_opening centre_opening first.centre.seen) (number_to_give old.posting
+            first.trip.item_count)
+            (ap (λ (s : CentreState). s.items) is.looks_up.stands.stands));
+      })).held

@@ -1,11 +1,12 @@
 -- How a round ends, and what is known then.
-use Rattle.std.specs.Prelude.{◌≡◌, ◌⊎◌, ℕ, ◌+◌, ◌<◌, ◌≤◌, List, length, Option, None, IfSome}
+use Rattle.std.specs.Prelude.{◌≡◌, ◌⊎◌, ℕ, ◌+◌, ◌-◌, ◌<◌, ◌≤◌, List, length, Option, None, IfSome}
 use Rattle.pv_outside.specs.declared.limits.Limits.{Limits}
 use Rattle.pv_outside.specs.declared.link.Link as links
 use Rattle.pv_outside.specs.Counts.{Rose}
 use Rattle.pv_node.specs.declared.rules.Rules as rules
+use Rattle.pv_edits.specs.Edits.{taken_of}
 use Rattle.pv_edits.specs.declared.record.Record.{Record}
-use Rattle.pv_irc.specs.History.{CentreState, items_of}
+use Rattle.pv_irc.specs.History.{CentreState, applied_of, items_of}
 use Rattle.pv_irc.specs.declared.record.CentreRecord.{CentreRecord}
 use Rattle.pv_irc.specs.declared.reply.IrcReply.{IrcReply}
 use Rattle.pv_irc.specs.declared.request.IrcRequest.{IrcRequest}
@@ -26,6 +27,21 @@ IsTold old new count = (new.told ≡ old.told + count) × (new.failed ≡ old.fa
 -- a record of the pass was stored at this place, after all that it had seen before, and not published
 abbrev pub KeepsRecord : {Rec : Type 0} → List Rec → Standing Rec → Standing Rec → ℕ → Type 0
 KeepsRecord opening old new place = (old.told < new.told) × (length opening + length old.seen ≤ place)
+
+-- By what a pass has seen this count rose by as many records as the pass was told of, or by more.
+abbrev pub RisesByTold : {Rec : Type 0} → (List Rec → ℕ) → List Rec → Standing Rec → Standing Rec → Type 0
+RisesByTold count opening old new = count (with_opening opening old.seen) + (new.told - old.told) ≤ count (with_opening opening new.seen)
+
+-- The passes have seen what they were told of: the centre has applied as many records more as its pass was told of, or more, and the
+-- Update Centre has taken up as many items of the centre more as its pass was told of, or more.
+pub record HaveSeenTold (udc_opening : List Record) (centre_opening : List CentreRecord) (C : ℕ) (old new : CarrierState) : Type 0 where
+  pub applied : RisesByTold applied_of centre_opening old.centre new.centre
+  pub taken_up : RisesByTold (λ records. taken_of records C) udc_opening old.udc new.udc
+
+-- what a round has stored is published: it did not run out of memory
+abbrev pub HasPublished : Stop → Type 0
+HasPublished (stops.Memory stored) = ⊥
+HasPublished _ = Unit {0}
 
 module _ {L : Type 0} (k : links.Ghosts L) where
   -- a link was given a packet or handed one out

@@ -1,7 +1,7 @@
 ghost use Rattle.std.specs.Prelude.{◌≡◌, ◌≤◌};
 ghost use Rattle.pv_edits.specs.Taken.{IsCentre};
 ghost use Rattle.pv_link.specs.Sending.{new_end};
-ghost use Rattle.pv_ports.specs.Outcomes.{HasRoundCause};
+ghost use Rattle.pv_ports.specs.Outcomes.{HasRoundCause, HasPublished, HaveSeenTold};
 ghost use Rattle.pv_ports.specs.Rights.{HoldRightPackets};
 ghost use Rattle.pv_ports.specs.Round.{IsRound, round_stop};
 
@@ -98,6 +98,9 @@ impl<const C: u8, U: Run<Record>, N: Run<CentreRecord>> Carrier<C, U, N> {
             down.old up.old
             → HoldRightPackets ⟦<L as Link>⟧ U.opening N.opening C self.new.udc self.new.centre down.new
             up.new }
+
+        // Unless memory ran out, the passes have seen what they were told of.
+        ensures seen { HasPublished (round_stop result) → HaveSeenTold U.opening N.opening C self.old self.new }
     {
         a_packet_is_read_as_it_is_spelled();
         self.make_round(rt, udc, centre, down, up)
