@@ -31,13 +31,13 @@ use Rattle.pv_ports.proofs.Walking.{EachStage, received, after_down, carried}
 -- ---- an end that gives no number
 
 -- nothing is at a place: the list is no longer
-none_past : {X : Type 0} (xs : List X) (i : ℕ) → slice_get xs i ≡ None → length xs ≤ i
+pub none_past : {X : Type 0} (xs : List X) (i : ℕ) → slice_get xs i ≡ None → length xs ≤ i
 none_past [] i is = omega arith
 none_past (x ∷ xs) zero is = absurd cc
 none_past (x ∷ xs) (suc i) is = omega (arith, none_past xs i is)
 
 -- the number that is due is below the count
-due_below : (end : SendingEnd) (count : ℕ) → end.acknowledged < count → number_due end count < count
+pub due_below : (end : SendingEnd) (count : ℕ) → end.acknowledged < count → number_due end count < count
 due_below end count within = by (nat_le end.acknowledged end.next) (nat_lt end.next count) refl
   where
     by : (a b : Bool) → nat_lt end.next count ≡ b → (if a && b then end.next else end.acknowledged) < count

@@ -1,3 +1,4 @@
+mod Carrying
 mod Causing
 mod Counting
 mod Ending

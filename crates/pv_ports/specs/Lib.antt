@@ -1,3 +1,4 @@
+pub mod Cargo
 pub mod Ends
 pub mod Lines
 pub mod Outcomes

@@ -1,3 +1,4 @@
+use Rattle.pv_ports.proofs.Carrying.{has_carried}
 use Rattle.pv_ports.proofs.Ending.{ends_for}
 use Rattle.pv_ports.proofs.Righting.{stays_right}
 use Rattle.pv_ports.proofs.Seeing.{sees_told}
@@ -15,3 +16,7 @@ returns-clause-right g c =
 pub returns-clause-seen : goal.returns-clause-seen
 returns-clause-seen g c =
     sees_told g.L.Link g.U.Run.limits g.N.Run.limits g.U.Run.opening g.N.Run.opening g.row.C _ _ _ _ _ _ _ c.make_round.ensures
+
+pub returns-clause-carried : goal.returns-clause-carried
+returns-clause-carried g c =
+    has_carried g.L.Link g.U.Run.limits g.N.Run.limits g.U.Run.opening g.N.Run.opening g.row.C _ _ _ _ _ _ _ c.make_round.ensures
