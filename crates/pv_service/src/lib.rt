@@ -1,0 +1,38 @@
+//! The work of a server's threads: ports that serve the lines of their doors, and carriers beside them.
+//!
+//! - A [`CallerStand`] is a caller's port with its door. [`serve_callers`] accepts line after line, serves each by a
+//!   call, and gives it back to the door. An [`EditorStand`] is the same for editors, with [`serve_editors`].
+//! - A [`CarrierStand`] is a carrier with its two links. [`carry_rounds`] makes rounds until the ports are done and a
+//!   round has nothing more to bring.
+//! - [`Signals`] are what these threads tell each other: a bell for each centre, so that a carrier sleeps while there is
+//!   nothing to bring, and how many ports are at work.
+//!
+//! Each stand keeps a report of how its work ended ([`PortReport`], [`CarrierReport`]), so that a row of stands can be
+//! served side by side and read afterwards.
+//!
+//! ```text
+//! let signals = Signals::new(ports);
+//! let mut stand = CallerStand::new(port, door, calls);
+//! serve_callers(rt, &centre, &clock, &signals, &mut stand);
+//! stand.report.fault;    // None: all its lines were served
+//! ```
+//!
+//! What a stand has done is `HasServed` of `specs/Serving.antt`: the lines that were served, each by one call or session
+//! on what its pass had seen when the one before it ended. What a carrier has done is `HasCarried` of
+//! `specs/Rounds.antt`.
+#![tactic(auto)]
+
+mod after_round;
+mod caller_stand;
+mod carrier_report;
+mod carrier_stand;
+mod editor_stand;
+mod port_report;
+mod signals;
+
+pub use caller_stand::{CallerStand, MAX_ACCEPTED, serve_callers};
+pub use carrier_report::{CarrierFault, CarrierReport};
+pub use carrier_stand::{CarrierStand, carry_rounds};
+pub use editor_stand::{EditorStand, serve_editors};
+pub use port_report::{PortFault, PortReport};
+pub use signals::{MAX_SLEEP, Signals};

@@ -1,0 +1,19 @@
+use pv_outside::Disk;
+
+/// Why a port ended before all of its lines were served.
+#[derive(Drop)]
+pub enum PortFault<D: Disk> {
+    /// Its door let no line in.
+    Door,
+    /// A call of its node's disk failed.
+    Disk(D::Failure),
+}
+
+/// How a port's work has ended.
+#[derive(Drop)]
+pub struct PortReport<D: Disk> {
+    /// Whether a call or a session ended since no memory was found.
+    pub memory: bool,
+    /// Why it ended before all of its lines were served.
+    pub fault: Option<PortFault<D>>,
+}
