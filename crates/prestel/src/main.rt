@@ -1,11 +1,12 @@
 //! The program: `prestel play N` runs a script on a viewdata network of N retrieval centres, 1 to 4. `prestel gen N`
 //! writes the script that is made by rule for the number N, and `prestel evening N` plays it and sums it up. `prestel format`
-//! makes the disks of a network in a folder, and `prestel statement` writes a month's statement of an account from there.
+//! makes the disks of a network in a folder, `prestel tape` loads an information provider's pages there, and `prestel statement`
+//! writes a month's statement of an account from there.
 //!
 //! A script comes in by standard input, and what is written goes out by standard output; a fault is one
 //! line on standard error, and the exit status says which. All that the first three words do is
 //! [`program::run_program`], over the source and the writer that it is handed; `main` makes the real ones,
-//! and ends with the status. The other two are `pv_serve::run_format` and `pv_office::run_office`.
+//! and ends with the status. The others are `pv_serve::run_format` and `pv_office::run_office`.
 #![tactic(auto)]
 
 ghost use Rattle.std.specs.Prelude.{◌≡◌, drop};
@@ -61,7 +62,7 @@ fn end<R: Eprint>(rt: &R, status: Status, wrong: Option<WordsError<'_>>) -> Exit
 }
 
 /// Runs a word that works on files, and returns the number to end with. `None` if the first word is no such word.
-fn run_on_files<R: AllocGlobal + Files<File = File> + Print + Eprint>(
+fn run_on_files<R: AllocGlobal + Files<File = File> + Input + Print + Eprint>(
     rt: &R,
     words: &[String],
 ) -> Option<u8> {

@@ -1,3 +1,5 @@
+mod Counts
 mod Ends
 mod Facts
+mod Loads
 mod Words

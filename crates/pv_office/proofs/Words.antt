@@ -76,3 +76,14 @@ or_zero (Some p) = p
 pub pair_same : (one other : ℕ × ℕ) → Some one ≡ Some other → (one.0 ≡ other.0) × (one.1 ≡ other.1)
 pair_same one other is =
     (ap (λ (o : Option (ℕ × ℕ)). (or_zero o).0) is, ap (λ (o : Option (ℕ × ℕ)). (or_zero o).1) is)
+
+-- two words, one by one
+pub two_words : {X : Type 0} (text : X → List ℕ) (words : List X) (a b : X) → length words ≡ 2
+    → map text words ≡ text (get_or words 0 a) ∷ text (get_or words 1 b) ∷ []
+two_words text [] a b two = absurd cc
+two_words text (x ∷ []) a b two = absurd (omega (arith, two))
+two_words text (x ∷ y ∷ []) a b two = refl
+two_words text (x ∷ y ∷ z ∷ more) a b two = absurd (omega (arith, two))
+
+pub two_same : {a b a' b' : List ℕ} → a ≡ a' → b ≡ b' → a ∷ b ∷ [] ≡ a' ∷ b' ∷ []
+two_same p q = rw (p, q) refl

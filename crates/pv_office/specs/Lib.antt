@@ -1,4 +1,5 @@
 pub mod Options
 pub mod Statements
 pub mod Status
+pub mod Tapes
 pub use Rattle.pv_node.specs.Standing

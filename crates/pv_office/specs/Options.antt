@@ -20,3 +20,11 @@ pub record AreOptions (folder : List ℕ) (account year month : ℕ) (of_folder 
   pub account_is : account ≡ of_account
   pub year_is : year ≡ of_year
   pub month_is : month ≡ of_month
+
+-- the words are the command and a folder
+abbrev pub AskForTape : List (List ℕ) → List ℕ → Type 0
+AskForTape words folder = words ≡ codes "tape" ∷ folder ∷ []
+
+-- the words are not these of any folder
+abbrev pub AskNoTape : List (List ℕ) → Type 0
+AskNoTape words = (folder : List ℕ) → AskForTape words folder → ⊥

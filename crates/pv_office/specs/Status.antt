@@ -4,6 +4,8 @@ use Rattle.pv_node.specs.declared.fault.NodeFault.{NodeFault}
 use Rattle.pv_node.specs.declared.fault.NodeFault.TheVariants as faults
 use Rattle.pv_statement.specs.declared.fault.StatementFault.{StatementFault}
 use Rattle.pv_statement.specs.declared.fault.StatementFault.TheVariants as writing
+use Rattle.pv_tape.specs.declared.end.TapeEnd.{TapeEnd}
+use Rattle.pv_tape.specs.declared.end.TapeEnd.TheVariants as loading
 use Rattle.pv_office.specs.declared.status.OfficeStatus.{OfficeStatus}
 use Rattle.pv_office.specs.declared.status.OfficeStatus.TheVariants.{Done, Usage, BadLine, ReadFault, WriteFault, Memory, TooLong, DiskFault, Unopened, Full, NotKnown, Refused, NoAccount}
 
@@ -35,3 +37,15 @@ module _ {D F : Type 0} where
   statement_status (Ok lines) = Done
   statement_status (Err writing.NoAccount) = NoAccount
   statement_status (Err writing.WriteFault) = WriteFault
+
+  -- the end of `tape`, by that of the run of the tape, if what it writes then is written
+  abbrev pub tape_status : TapeEnd D F → OfficeStatus D F
+  tape_status (loading.Done stored skipped) = Done
+  tape_status loading.ReadFault = ReadFault
+  tape_status loading.TooLong = TooLong
+  tape_status (loading.BadTape line) = BadLine line
+  tape_status loading.NotKnown = NotKnown
+  tape_status (loading.Refused line code shown) = Refused line code shown
+  tape_status (loading.Full count) = Full count
+  tape_status (loading.DiskFault failure) = DiskFault failure
+  tape_status loading.Memory = Memory

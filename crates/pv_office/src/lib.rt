@@ -1,12 +1,15 @@
-//! The office of the viewdata network, as a word of the program: `statement` writes a month's statement of an account.
+//! The office of the viewdata network, as two words of the program: `statement` writes a month's statement of an account, and
+//! `tape` loads an information provider's pages.
 //!
-//! - [`statement_options`] reads the words of the command line.
-//! - [`statement_of`] writes the statement that they ask for, from the Update Centre's disk that is handed in.
-//! - [`OfficeStatus`] says how a program of the office ends. Those of its ends that are a tape's are not used yet.
-//! - [`run_office`] does all this over the real file, standard output and standard error.
+//! - [`statement_options`] and [`tape_folder`] read the words of the command line.
+//! - [`statement_of`] writes the statement that they ask for, from the Update Centre's disk that is handed in, and [`tape_of`]
+//!   loads a tape into such a disk.
+//! - [`OfficeStatus`] says how a program of the office ends.
+//! - [`run_office`] does all this over the real file, standard input, output and error.
 //!
 //! ```text
 //! let status = statement_of(alloc, &words, disk, &mut out);
+//! let (status, disk) = tape_of(alloc, &words, disk, &mut tape, &mut out);
 //! ```
 #![tactic(auto)]
 
@@ -15,12 +18,14 @@ mod options;
 mod real;
 mod statements;
 mod status;
+mod tapes;
 
 pub use month::month_of;
 pub use options::{StatementOptions, statement_options};
 pub use real::run_office;
 pub use statements::statement_of;
 pub use status::OfficeStatus;
+pub use tapes::{tape_folder, tape_of};
 
 #[cfg(test)]
 mod tests;

@@ -3,10 +3,12 @@
 use crate::options::statement_options;
 use crate::statements::statement_of;
 use crate::status::OfficeStatus;
-use pv_files::{FileDisk, NODE_FILES, OpenFault, StandardOutput};
+use crate::tapes::{tape_folder, tape_of};
+use pv_files::{FileDisk, NODE_FILES, OpenFault, StandardInput, StandardOutput};
+use pv_outside::Disk;
 use std::alloc::AllocGlobal;
 use std::fs::{File, Files};
-use std::io::{self, Eprint, Print};
+use std::io::{self, Eprint, Input, Print};
 
 /// How `statement` is used.
 const STATEMENT_HELP: &str = "usage: prestel statement DIR ACCOUNT YYYY-MM
@@ -26,24 +28,51 @@ Exit status:
   15 there is no such account
 ";
 
+/// How `tape` is used.
+const TAPE_HELP: &str = "usage: prestel tape DIR < TAPE
+
+Loads a tape into the Update Centre of the folder DIR: the pages of an
+information provider, as a text on standard input. Writes how many of its
+edits were stored, and how many had been before. A load that was cut is
+continued by running it again.
+
+Exit status:
+  0  everything was done
+  2  bad command line
+  3  a line of the tape is bad, and nothing was stored
+  4  standard input could not be read
+  5  standard output could not be written
+  6  out of memory
+  7  the tape is longer than 1048576 bytes
+  8  the file of the Update Centre could not be opened, or failed
+  9  the records of the Update Centre could not be read
+  12 the Update Centre is full
+  13 the tape's account is unknown, or its password is another
+  14 an edit was refused, and those before it are stored
+";
+
 /// Does what the words ask for, if their first is one of the office's, and returns the number that the process ends with.
 /// A fault is one line on standard error. `None` exactly when the first word is not one of the office's.
-pub fn run_office<R: AllocGlobal + Files<File = File> + Print + Eprint>(
+pub fn run_office<R: AllocGlobal + Files<File = File> + Input + Print + Eprint>(
     rt: &R,
     words: &[String],
 ) -> Option<u8> {
     match words {
         [first, later @ ..] if first.as_str() == "statement" => match later {
-            [word] if word.as_str() == "--help" => Some(write_help(rt)),
+            [word] if word.as_str() == "--help" => Some(write_help(rt, STATEMENT_HELP)),
             _ => Some(run_statement(rt, words)),
+        },
+        [first, later @ ..] if first.as_str() == "tape" => match later {
+            [word] if word.as_str() == "--help" => Some(write_help(rt, TAPE_HELP)),
+            _ => Some(run_tape(rt, words)),
         },
         _ => None,
     }
 }
 
-/// Writes how `statement` is used.
-fn write_help<R: Print>(rt: &R) -> u8 {
-    match print!(rt; "{STATEMENT_HELP}") {
+/// Writes how a word is used.
+fn write_help<R: Print>(rt: &R, text: &str) -> u8 {
+    match print!(rt; "{text}") {
         Ok(()) => 0,
         Err(_) => 5,
     }
@@ -60,42 +89,75 @@ fn run_statement<R: AllocGlobal + Files<File = File> + Print + Eprint>(
         );
         return 2;
     };
-    let alloc = rt.alloc();
-    let Ok(path) = format!(in alloc; "{}/{}", options.folder, NODE_FILES[0]) else {
-        return out_of_memory(rt);
+    let disk = match open_disk(rt, options.folder) {
+        Ok(disk) => disk,
+        Err(number) => return number,
     };
-    match FileDisk::open(rt, alloc, &path) {
-        Ok(disk) => write_statement(rt, words, disk),
-        Err(OpenFault::Memory) => out_of_memory(rt),
-        Err(fault) => {
-            let _ = eprintln!(rt; "prestel: {path}: {fault}");
-            8
-        }
-    }
-}
-
-/// Writes a statement from a disk.
-fn write_statement<R: AllocGlobal + Print + Eprint>(
-    rt: &R,
-    words: &[String],
-    disk: FileDisk<File>,
-) -> u8 {
     let alloc = rt.alloc();
     let Ok(mut out) = StandardOutput::new(alloc, io::writer(rt)) else {
         return out_of_memory(rt);
     };
     let status = statement_of(alloc, words, disk, &mut out);
-    let status = match status {
-        OfficeStatus::Done if out.flush().is_err() => OfficeStatus::WriteFault,
-        status => status,
+    let flushed = out.flush().is_ok();
+    end(rt, &status, flushed)
+}
+
+/// Loads a tape from standard input into the file of the Update Centre.
+fn run_tape<R: AllocGlobal + Files<File = File> + Input + Print + Eprint>(
+    rt: &R,
+    words: &[String],
+) -> u8 {
+    let Some(folder) = tape_folder(words) else {
+        let _ = eprintln!(rt; "prestel: usage: prestel tape DIR < TAPE; try prestel tape --help");
+        return 2;
     };
-    match status {
-        OfficeStatus::Done => {}
-        _ => {
-            let _ = eprintln!(rt; "prestel: {status}");
+    let disk = match open_disk(rt, folder) {
+        Ok(disk) => disk,
+        Err(number) => return number,
+    };
+    let alloc = rt.alloc();
+    let Ok(mut out) = StandardOutput::new(alloc, io::writer(rt)) else {
+        return out_of_memory(rt);
+    };
+    let mut tape = StandardInput::new(rt.reader());
+    let (status, _disk) = tape_of(alloc, words, disk, &mut tape, &mut out);
+    let flushed = out.flush().is_ok();
+    end(rt, &status, flushed)
+}
+
+/// Opens the disk of the Update Centre in a folder. If that fails it says why, and returns the number to end with.
+fn open_disk<R: AllocGlobal + Files<File = File> + Eprint>(
+    rt: &R,
+    folder: &str,
+) -> Result<FileDisk<File>, u8> {
+    let alloc = rt.alloc();
+    let Ok(path) = format!(in alloc; "{folder}/{}", NODE_FILES[0]) else {
+        return Err(out_of_memory(rt));
+    };
+    match FileDisk::open(rt, alloc, &path) {
+        Ok(disk) => Ok(disk),
+        Err(OpenFault::Memory) => Err(out_of_memory(rt)),
+        Err(fault) => {
+            let _ = eprintln!(rt; "prestel: {path}: {fault}");
+            Err(8)
         }
     }
-    status.number()
+}
+
+/// Says how a word ended, if not all was done, and returns its number. What was written is done only if it was flushed.
+fn end<D: Disk, R: Eprint>(rt: &R, status: &OfficeStatus<D>, flushed: bool) -> u8 {
+    match status {
+        OfficeStatus::Done if flushed => 0,
+        OfficeStatus::Done => {
+            let fault: OfficeStatus<D> = OfficeStatus::WriteFault;
+            let _ = eprintln!(rt; "prestel: {fault}");
+            fault.number()
+        }
+        status => {
+            let _ = eprintln!(rt; "prestel: {status}");
+            status.number()
+        }
+    }
 }
 
 /// Says that memory ran out.

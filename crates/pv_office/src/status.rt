@@ -1,9 +1,10 @@
 ghost use Rattle.std.specs.Prelude.{◌≡◌};
-ghost use Rattle.pv_office.specs.Status.{office_number, open_status, statement_status};
+ghost use Rattle.pv_office.specs.Status.{office_number, open_status, statement_status, tape_status};
 
 use pv_node::NodeFault;
 use pv_outside::Disk;
 use pv_statement::StatementFault;
+use pv_tape::TapeEnd;
 use std::fmt;
 
 /// How the programs `statement` and `tape` end.
@@ -83,6 +84,23 @@ impl<D: Disk> OfficeStatus<D> {
         }
     }
 
+    /// The end of `tape`, by that of the run of the tape.
+    pub(crate) fn of_tape(end: TapeEnd<D>) -> OfficeStatus<D>
+        ensures { result ≡ tape_status end }
+    {
+        match end {
+            TapeEnd::Done { .. } => OfficeStatus::Done,
+            TapeEnd::ReadFault => OfficeStatus::ReadFault,
+            TapeEnd::TooLong => OfficeStatus::TooLong,
+            TapeEnd::BadTape { line } => OfficeStatus::BadLine { line },
+            TapeEnd::NotKnown => OfficeStatus::NotKnown,
+            TapeEnd::Refused { line, code, shown } => OfficeStatus::Refused { line, code, shown },
+            TapeEnd::Full { count } => OfficeStatus::Full { count },
+            TapeEnd::DiskFault(failure) => OfficeStatus::DiskFault(failure),
+            TapeEnd::Memory => OfficeStatus::Memory,
+        }
+    }
+
     /// The end of `statement`, by what writing it came to.
     pub(crate) fn of_statement(written: Result<u32, StatementFault>) -> OfficeStatus<D>
         ensures { result ≡ statement_status written }
@@ -132,7 +150,7 @@ impl<D: Disk> fmt::Display for OfficeStatus<D> {
             ),
             OfficeStatus::NotKnown => write!(f, "the tape's account or its password is not known"),
             OfficeStatus::Refused { line, code, shown } => {
-                write!(f, "line {line}: refused with {code}, ")?;
+                write!(f, "line {line}: refused with {code}: ")?;
                 write_refusal(*code, *shown, f)
             }
             OfficeStatus::NoAccount => write!(f, "no such account"),
@@ -143,10 +161,10 @@ impl<D: Disk> fmt::Display for OfficeStatus<D> {
 /// Writes a refusal of the Update Centre in words.
 fn write_refusal<W: fmt::Write>(code: u8, shown: u64, f: &mut fmt::Formatter<W>) -> fmt::Result {
     match code {
-        2 => write!(f, "the page belongs to another account"),
-        3 => write!(f, "the account's next number is {shown}"),
-        4 => write!(f, "there is no such frame"),
-        5 => write!(f, "there are {shown} frames, the most there may be"),
+        2 => write!(f, "the page belongs to another"),
+        3 => write!(f, "the account's next edit has the number {shown}"),
+        4 => write!(f, "the name has no frame"),
+        5 => write!(f, "{shown} names have a frame, and this one has none"),
         _ => write!(f, "number {shown}"),
     }
 }

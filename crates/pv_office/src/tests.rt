@@ -1,6 +1,6 @@
-use crate::{OfficeStatus, statement_of, statement_options};
+use crate::{OfficeStatus, statement_of, statement_options, tape_of};
 use pv_journal::format;
-use pv_memory::{MemDisk, MemSink};
+use pv_memory::{MemDisk, MemSink, MemSource};
 use std::alloc::{AllocError, Global};
 use std::test::Fail;
 
@@ -84,6 +84,56 @@ fn statements_end_so(rt: HostRuntime) -> Result<(), Fail> {
             number,
             "{words}"
         );
+    }
+    Ok(())
+}
+
+/// The number with which each of these runs of a tape ends on one disk, one after the other, and what all of them write.
+fn ends_of(
+    alloc: Global,
+    words: &str,
+    tape: &[u8],
+    numbers: &[u8],
+    wanted: &[u8],
+) -> Result<(), Fail> {
+    let mut disk = MemDisk::new(alloc, 512, &[])?;
+    if format(&mut disk).is_err() {
+        return Err(Fail::from("not formatted"));
+    }
+    let texts = texts(alloc, words)?;
+    let mut out = MemSink::new(alloc, 100, &[])?;
+    for number in numbers {
+        let mut source = MemSource::new(alloc, tape, &[])?;
+        let (status, left) = tape_of(alloc, &texts, disk, &mut source, &mut out);
+        if status.number() != *number {
+            return Err(Fail::from("another end"));
+        }
+        disk = left;
+    }
+    if out.bytes() != wanted {
+        return Err(Fail::from("written otherwise"));
+    }
+    Ok(())
+}
+
+#[test]
+fn tapes_end_so(rt: HostRuntime) -> Result<(), Fail> {
+    let drops: &[u8] = b"TAPE 1 0000000000 0000\nDROP 1a\n";
+    let cases: [(&str, &[u8], &[u8], &[u8]); 6] = [
+        (
+            "tape d",
+            b"TAPE 7 0000000000 0000\n",
+            &[0, 0],
+            b"stored 0 skipped 0\nstored 0 skipped 0\n",
+        ),
+        ("tape d", drops, &[14], b""),
+        ("tape d", b"TAPE 1 0000000000 1111\n", &[13], b""),
+        ("tape d", b"", &[3, 3], b""),
+        ("tape", drops, &[2], b""),
+        ("tape d x", drops, &[2], b""),
+    ];
+    for (words, tape, numbers, written) in cases {
+        ends_of(rt.alloc(), words, tape, numbers, written)?;
     }
     Ok(())
 }

@@ -12,13 +12,13 @@ pub(crate) const LAST_FIRST: u32 = 4_000_000_000;
 
 /// What the first line of a tape says: `TAPE FIRST account password`.
 #[derive(Clone, Copy, Debug, PartialEq, Eq)]
-pub(crate) struct Head {
-    /// The number of the first edit among the account's, 1 to [`LAST_FIRST`].
-    pub(crate) first: u32,
+pub struct Head {
+    /// The number of the first edit among the account's, 1 to 4,000,000,000.
+    pub first: u32,
     /// Whose edits these are.
-    pub(crate) account: AccountNo,
+    pub account: AccountNo,
     /// The account's password, as typed.
-    pub(crate) password: [u8; PASSWORD_BYTES],
+    pub password: [u8; PASSWORD_BYTES],
 }
 
 /// The part that is the number of a tape's first edit.

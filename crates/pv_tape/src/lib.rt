@@ -13,7 +13,7 @@
 //!
 //! - [`run_tape`] reads a whole tape, checks it, and asks the Update Centre for its edits. A run that was cut is
 //!   continued by running the tape again.
-//! - [`TapeEnd`] says how a run ended.
+//! - [`TapeEnd`] says how a run ended, and [`Head`] is what the first line of a tape says.
 //! - [`runs_leave_each_edit_once`] is the law of any runs of one tape.
 //!
 //! ```text
@@ -40,6 +40,7 @@ mod progress;
 mod running;
 
 pub use end::TapeEnd;
+pub use head::Head;
 pub use law::runs_leave_each_edit_once;
 pub use running::run_tape;
 
