@@ -1,4 +1,4 @@
--- What the definitions come to, computed.
+-- What the definitions are, computed.
 use Rattle.std.proofs.Common.{◌≡◌, ◌*◌, refl}
 use Rattle.pv_input.specs.Reading.{longest_text}
 use Rattle.pv_input.specs.declared.text.TheConstants.{LONGEST_TEXT}

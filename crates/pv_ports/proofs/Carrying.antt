@@ -34,7 +34,7 @@ use Rattle.pv_packet.specs.declared.packet.Packet.TheVariants.{Down, Up, DownHea
 use Rattle.pv_udc.specs.Replies.{down_of}
 use Rattle.pv_udc.specs.contracts.rules.UdcRulesRules.TheImpl as udc
 use Rattle.pv_udc.specs.declared.reply.UdcReply.{UdcReply}
-use Rattle.pv_ports.specs.Cargo.{Arrival, Cargo, WentThrough, answers, MayBeAnswered, GivesAll, HandsOutPacket, HandsOutNone, TakesUpToTwo, GoesThroughLinks, CountsCargo, count_after, IsBroughtDown, IsBroughtUp, HasCarried}
+use Rattle.pv_ports.specs.Cargo.{Arrival, Cargo, WentThrough, acknowledgements, MayAnswer, GivesEach, HandsOutPacket, HandsOutNone, TakesUpToTwo, GoesThroughLinks, CountsCargo, count_after, IsBroughtDown, IsBroughtUp, HasBrought}
 use Rattle.pv_ports.specs.Parcels.{down_packet, up_packet}
 use Rattle.pv_ports.specs.Round.{CarrierState, Round, Stop, Gave, Took, InTurn, UpToTwo, ReceivesNext, GivesTo, GivesDown, GivesUp, HandlesDown, HandlesUp, HandlesTaken, ReceivesDown, ReceivesUp, IsReadAs, AnswersRecord, AnswersItem, AppliesRecord, TakesItemUp, Receives, CarriesUp, Carries, IsRound, applied_by, taken_by, trip_after_take, came_by, stop_in, end_of_trip}
 use Rattle.pv_ports.specs.Session.{AskFault}
@@ -104,20 +104,20 @@ if_brought P Q (Some packet) weaker is = weaker packet is
 
 module _ {L : Type 0} (k : links.Ghosts L) where
   -- one packet is given, if there is one, and then others
-  gives_then : (one : Option Packet) (more : List Packet) (a b c : L) → GivesAll k (option_to_list one) a b → GivesAll k more b c
-      → GivesAll k (cons_option one more) a c
-  gives_then None more a b c first later = subst (λ (l : L). GivesAll k more l c) first later
-  gives_then (Some packet) more a b c first later = (first.0, first.1, subst (λ (l : L). GivesAll k more l c) first.2 later)
+  gives_then : (one : Option Packet) (more : List Packet) (a b c : L) → GivesEach k (option_to_list one) a b → GivesEach k more b c
+      → GivesEach k (cons_option one more) a c
+  gives_then None more a b c first later = subst (λ (l : L). GivesEach k more l c) first later
+  gives_then (Some packet) more a b c first later = (first.0, first.1, subst (λ (l : L). GivesEach k more l c) first.2 later)
 
   -- a give that does not stop the round
   given : (packet : Option Packet) (old new : L) (trip after : Trip) (stop : Option Stop) → stop ≡ None
-      → GivesTo k packet old trip new after stop → GivesAll k (option_to_list packet) old new
+      → GivesTo k packet old trip new after stop → GivesEach k (option_to_list packet) old new
   given None old new trip after stop none is = is.0
   given (Some packet) old new trip after stop none is = by is.1 is.2 is.3
     where
       by : (result : Result (Unit {0}) Failed) → Gave k (packet_bytes packet) old new result
           → MatchResult result (λ _. (after ≡ record trip { moved = true }) × (stop ≡ None))
-          (λ _. (after ≡ trip) × (stop ≡ Some stops.LinkFault)) → GivesAll k (packet ∷ []) old new
+          (λ _. (after ≡ trip) × (stop ≡ Some stops.LinkFault)) → GivesEach k (packet ∷ []) old new
       by (Ok _) gave goes = (new, gave, refl)
       by (Err fault) gave goes = let fails = goes.1 in absurd cc
 
@@ -154,7 +154,7 @@ module _ {L : Type 0} (k : links.Ghosts L) (C : ℕ) (from to : Round L → L) (
   pub record CameOne (old new : Round L) : Type 0 where
     pub came : Arrival
     pub takes : HandsOutPacket k C came.packet (from old) (from new)
-    pub gives : GivesAll k (option_to_list came.answer) (to old) (to new)
+    pub gives : GivesEach k (option_to_list came.answer) (to old) (to new)
     pub at : At came new
     pub grows : Grows old new
 
@@ -172,7 +172,7 @@ module _ {L : Type 0} (k : links.Ghosts L) (C : ℕ) (from to : Round L → L) (
   pub record CameSome (old new : Round L) : Type 0 where
     pub came : List Arrival
     pub takes : TakesUpToTwo k C came (from old) (from new)
-    pub gives : GivesAll k (answers came) (to old) (to new)
+    pub gives : GivesEach k (acknowledgements came) (to old) (to new)
     pub between : All (Between old new) came
     pub grows : Grows old new
 
@@ -195,7 +195,7 @@ module _ {L : Type 0} (k : links.Ghosts L) (C : ℕ) (from to : Round L → L) (
   came_two old mid new one other = record {
     came = one.came ∷ other.came ∷ [];
     takes = (from mid, one.takes, other.takes);
-    gives = gives_then k one.came.answer (answers (other.came ∷ [])) (to old) (to mid) (to new) one.gives
+    gives = gives_then k one.came.answer (acknowledgements (other.came ∷ [])) (to old) (to mid) (to new) one.gives
         (gives_then k other.came.answer [] (to mid) (to new) (to new) other.gives refl);
     between = All-cons (Midway old new) one.came (other.came ∷ []) (mid, one.grows, one.at, other.grows)
         (All-cons (Midway old new) other.came [] (new, later old mid new one.grows other.grows, other.at, stays new)
@@ -234,14 +234,14 @@ module _ {L : Type 0} (k : links.Ghosts L) (C : ℕ) (from to : Round L → L) (
 
 -- ---- counts
 
--- so many more, and then so many
+-- one number more, and then another
 count_on : (m n count : ℕ) → count_after (m + n) count ≡ count_after n (count_after m count)
 count_on zero n count = let none : zero + n ≡ n = omega arith in ap (λ all. count_after all count) none
 count_on (suc m) n count =
     let more : suc m + n ≡ suc (m + n) = omega arith in ap (λ all. count_after all count) more ∙ count_on m n (one_more count)
 
 module _ {L : Type 0} (k : links.Ghosts L) where
-  gives_count : (packets : List Packet) (old new : L) → GivesAll k packets old new
+  gives_count : (packets : List Packet) (old new : L) → GivesEach k packets old new
       → (k.given new ≡ count_after (length packets) (k.given old)) × (k.taken new ≡ k.taken old)
   gives_count [] old new is = (ap k.given is, ap k.taken is)
   gives_count (packet ∷ later) old new is =
@@ -285,22 +285,22 @@ module _ {L : Type 0} (k : links.Ghosts L) (centre_limits : Limits) (udc_opening
         let down = is.down in
         let down_given = gives_count k _ old_down down.0 down.2 in
         let down_taken = takes_count k C cargo.down down.0 down.1 down.3 in
-        let down_answered = gives_count k (answers cargo.up) down.1 new_down down.4 in
+        let down_answered = gives_count k (acknowledgements cargo.up) down.1 new_down down.4 in
         let up = is.up in
         let up_given = gives_count k _ old_up up.0 up.2 in
-        let up_answered = gives_count k (answers cargo.down) up.0 up.1 up.3 in
+        let up_answered = gives_count k (acknowledgements cargo.down) up.0 up.1 up.3 in
         let up_taken = takes_count k C cargo.up up.1 new_up up.4 in
         record {
           given_down =
               down_answered.0
-              ∙ ap (λ n. count_after (length (answers cargo.up)) n) (down_taken.1 ∙ down_given.0
+              ∙ ap (λ n. count_after (length (acknowledgements cargo.up)) n) (down_taken.1 ∙ down_given.0
               ∙ ap (λ n. count_after n (k.given old_down)) (as_many (λ n rec. Down C n (down_of rec)) records old.sending))
-              ∙ sym (count_on _ (length (answers cargo.up)) (k.given old_down));
+              ∙ sym (count_on _ (length (acknowledgements cargo.up)) (k.given old_down));
           given_up =
               up_taken.1 ∙ up_answered.0
-              ∙ ap (λ n. count_after (length (answers cargo.down)) n) (up_given.0
+              ∙ ap (λ n. count_after (length (acknowledgements cargo.down)) n) (up_given.0
               ∙ ap (λ n. count_after n (k.given old_up)) (as_many (λ n item. Up C n item) items old.posting))
-              ∙ sym (count_on _ (length (answers cargo.down)) (k.given old_up));
+              ∙ sym (count_on _ (length (acknowledgements cargo.down)) (k.given old_up));
           taken_down = down_answered.1 ∙ down_taken.0 ∙ ap (λ n. count_after (length cargo.down) n) down_given.1;
           taken_up = up_taken.0 ∙ ap (λ n. count_after (length cargo.up) n) (up_answered.1 ∙ up_given.1);
         }
@@ -333,12 +333,12 @@ module _ {L : Type 0} (k : links.Ghosts L) (udc_limits centre_limits : Limits) (
   abbrev AtDown : Arrival → Round L → Type 0
   AtDown came round =
       let records = with_opening centre_opening round.centre.seen in
-      MayBeAnswered came.packet came.answer × IfSome came.packet (IsBroughtDown C centre_limits records records)
+      MayAnswer came.packet came.answer × IfSome came.packet (IsBroughtDown C centre_limits records records)
 
   abbrev AtUp : Arrival → Round L → Type 0
   AtUp came round =
       let records = with_opening udc_opening round.udc.seen in
-      MayBeAnswered came.packet came.answer × IfSome came.packet (IsBroughtUp C records records)
+      MayAnswer came.packet came.answer × IfSome came.packet (IsBroughtUp C records records)
 
   abbrev OneDown : Round L → Round L → Type 0
   OneDown old new = CameOne k C (λ r. r.down) (λ r. r.up) Grows AtDown old new
@@ -370,12 +370,12 @@ module _ {L : Type 0} (k : links.Ghosts L) (udc_limits centre_limits : Limits) (
   }
 
   heard_down : (centre n : ℕ) (rec : DownRecord) (count : Option ℕ) → centre ≡ C
-      → MayBeAnswered (Some (Down centre n rec)) (option_map (DownHeard C) count)
+      → MayAnswer (Some (Down centre n rec)) (option_map (DownHeard C) count)
   heard_down centre n rec None same = tt
   heard_down centre n rec (Some count) same = sym same
 
   heard_up : (centre number : ℕ) (item : Item) (count : Option ℕ) → centre ≡ C
-      → MayBeAnswered (Some (Up centre number item)) (option_map (UpHeard C) count)
+      → MayAnswer (Some (Up centre number item)) (option_map (UpHeard C) count)
   heard_up centre number item None same = tt
   heard_up centre number item (Some count) same = sym same
 
@@ -532,7 +532,7 @@ module _ {L : Type 0} (k : links.Ghosts L) (udc_limits centre_limits : Limits) (
   pub has_carried : (old new : CarrierState) (old_down old_up new_down new_up : L) (end : Stop)
       → IsRound udc.ghosts (irc.ghosts (number C)) k udc_limits centre_limits udc_opening centre_opening C old old_down old_up new
       new_down new_up end
-      → WentThrough end → HasCarried k centre_limits udc_opening centre_opening C old old_down old_up new new_down new_up
+      → WentThrough end → HasBrought k centre_limits udc_opening centre_opening C old old_down old_up new new_down new_up
   has_carried old new old_down old_up new_down new_up end is went =
       rw (is.state, is.new_links.0, is.new_links.1, ← is.old_links.0, ← is.old_links.1)
       (by (subst (λ (s : Option Stop). Carries udc.ghosts (irc.ghosts (number C)) k udc_limits centre_limits udc_opening centre_opening C
@@ -566,7 +566,7 @@ module _ {L : Type 0} (k : links.Ghosts L) (udc_limits centre_limits : Limits) (
 
       by : Carries udc.ghosts (irc.ghosts (number C)) k udc_limits centre_limits udc_opening centre_opening C is.going_down is.going_up
           is.first is.last None
-          → HasCarried k centre_limits udc_opening centre_opening C old is.first.down is.first.up
+          → HasBrought k centre_limits udc_opening centre_opening C old is.first.down is.first.up
           (record { udc = is.last.udc; centre = is.last.centre; sending = is.last.trip.sending; posting = is.last.trip.posting })
           is.last.down is.last.up
       by carries =
@@ -589,10 +589,10 @@ module _ {L : Type 0} (k : links.Ghosts L) (udc_limits centre_limits : Limits) (
             down = (
               b.0.down,
               c.0.down,
-              subst (λ (l : L). GivesAll k (option_to_list (down_packet C (with_opening udc_opening first.udc.seen)
+              subst (λ (l : L). GivesEach k (option_to_list (down_packet C (with_opening udc_opening first.udc.seen)
                   (number_to_give old.sending (length (with_opening udc_opening first.udc.seen))))) first.down l)
                   (sym (ap (λ (r : Round L). r.down) b.1.1))
-                  (subst (λ (p : Option Packet). GivesAll k (option_to_list p) first.down a.0.down) down_is
+                  (subst (λ (p : Option Packet). GivesEach k (option_to_list p) first.down a.0.down) down_is
                   (given k is.going_down first.down a.0.down first.trip a.0.trip None refl a.1.0)),
               down.takes,
               up.gives,
@@ -600,18 +600,18 @@ module _ {L : Type 0} (k : links.Ghosts L) (udc_limits centre_limits : Limits) (
             up = (
               b.0.up,
               c.0.up,
-              subst (λ (l : L). GivesAll k (option_to_list (up_packet C (items_of (with_opening centre_opening first.centre.seen))
+              subst (λ (l : L). GivesEach k (option_to_list (up_packet C (items_of (with_opening centre_opening first.centre.seen))
                   (number_to_give old.posting (length (items_of (with_opening centre_opening first.centre.seen)))))) l b.0.up)
                   (ap (λ (r : Round L). r.up) a.1.1)
-                  (subst (λ (p : Option Packet). GivesAll k (option_to_list p) a.0.up b.0.up) up_is
+                  (subst (λ (p : Option Packet). GivesEach k (option_to_list p) a.0.up b.0.up) up_is
                   (given k is.going_up a.0.up b.0.up a.0.trip b.0.trip None refl b.1.0)),
               down.gives,
               up.takes,
             );
             answered = (
-              All-weaker (Between k C (λ r. r.down) (λ r. r.up) Grows AtDown b.0 c.0) (λ came. MayBeAnswered came.packet came.answer)
+              All-weaker (Between k C (λ r. r.down) (λ r. r.up) Grows AtDown b.0 c.0) (λ came. MayAnswer came.packet came.answer)
                   (λ came between. between.2.0) down.came down.between,
-              All-weaker (Between k C (λ r. r.up) (λ r. r.down) Grows AtUp c.0 last) (λ came. MayBeAnswered came.packet came.answer)
+              All-weaker (Between k C (λ r. r.up) (λ r. r.down) Grows AtUp c.0 last) (λ came. MayAnswer came.packet came.answer)
                   (λ came between. between.2.0) up.came up.between,
             );
           } in

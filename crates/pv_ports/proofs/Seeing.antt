@@ -1,4 +1,4 @@
--- A round's passes have seen what they were told of, unless it ran out of memory.
+-- A round's passes have seen what was stored for them, unless it ran out of memory.
 use Rattle.std.proofs.Common.{◌≡◌, ℕ, ◌+◌, ◌-◌, ◌≤◌, List, Option, Some, None, Result, Ok, Err, refl, ap, sym, ◌∙◌, subst, arith}
 use Rattle.std.specs.Prelude.{IfSome, option_map, unwrap_or}
 use mathlib.Core.List.{IsPrefix}
@@ -25,7 +25,7 @@ use Rattle.pv_packet.specs.declared.packet.Packet.TheVariants.{Down, Up, DownHea
 use Rattle.pv_udc.specs.contracts.rules.UdcRulesRules.TheImpl as udc
 use Rattle.pv_udc.specs.declared.reply.UdcReply.{UdcReply}
 use Rattle.pv_udc.specs.declared.request.UdcRequest.TheVariants.{TakeUp}
-use Rattle.pv_ports.specs.Outcomes.{RisesByTold, HaveSeenTold, HasPublished}
+use Rattle.pv_ports.specs.Outcomes.{RisesByTold, HaveSeenTold, HasMemory}
 use Rattle.pv_ports.specs.Round.{CarrierState, Round, Stop, GivesDown, GivesUp, HandlesDown, HandlesUp, AnswersRecord, AnswersItem, AppliesRecord, TakesItemUp, IsRound, trip_after_take, ask_stop, end_of_trip, centre_node}
 use Rattle.pv_ports.specs.Session.{AskFault}
 use Rattle.pv_ports.specs.Talk.{PassLooks}
@@ -35,7 +35,7 @@ use Rattle.pv_ports.proofs.Judging.{applied_answer, taken_answer}
 use Rattle.pv_ports.proofs.Walking.{carried, stop_at_take}
 
 module _ {Rec : Type 0} (count : List Rec → ℕ) (opening : List Rec) where
-  -- a pass that was told of nothing has seen as much as before
+  -- a pass for which nothing was stored has seen as much as before, or more
   rises_untold : ((one other : List (Entry Rec)) → IsPrefix one other
       → count (with_opening opening one) ≤ count (with_opening opening other))
       → (old new : Standing Rec) → new.told ≡ old.told → IsPrefix old.seen new.seen → RisesByTold count opening old new
@@ -47,9 +47,9 @@ module _ {Rec : Type 0} (count : List Rec → ℕ) (opening : List Rec) where
   rises_same : (old new : Standing Rec) → new ≡ old → RisesByTold count opening old new
   rises_same old new same = subst (λ (p : Standing Rec). RisesByTold count opening old p) (sym same) (omega arith)
 
--- an ask with a fault was told of no record, unless memory ran out
+-- an ask with a fault has stored no record, unless memory ran out
 untold : {S State Request Rec Reply : Type 0} (r : rules.Ghosts S State Request Rec Reply) (limits : Limits) (opening : List Rec)
-    (node : ℕ) (request : Request) (old new : Standing Rec) (fault : AskFault) → HasPublished (ask_stop node fault)
+    (node : ℕ) (request : Request) (old new : Standing Rec) (fault : AskFault) → HasMemory (ask_stop node fault)
     → HasFailed r limits opening request old new fault → new.told ≡ old.told
 untold r limits opening node request old new (faults.Memory stored) published is = absurd published
 untold r limits opening node request old new (faults.Disk failure) published is = is.0
@@ -65,7 +65,7 @@ module _ {L : Type 0} (k : links.Ghosts L) (udc_limits centre_limits : Limits) (
 
   -- both passes have seen what stages told them, if all is published
   abbrev Sees : Round L → Round L → Option Stop → Type 0
-  Sees old new stop = IfSome stop HasPublished → Centre old.centre new.centre × Udc old.udc new.udc
+  Sees old new stop = IfSome stop HasMemory → Centre old.centre new.centre × Udc old.udc new.udc
 
   centre_same : (old new : Standing CentreRecord) → new ≡ old → Centre old new
   centre_same = rises_same applied_of centre_opening
@@ -92,7 +92,7 @@ module _ {L : Type 0} (k : links.Ghosts L) (udc_limits centre_limits : Limits) (
       → HandlesDown (irc.ghosts (number C)) k centre_limits centre_opening C packet old new stop → Sees old new stop
   handles_down (Some (Down centre n rec)) old new stop is = λ published. by published is.1 is.2 is.3
     where
-      by : IfSome stop HasPublished → (result : Result (Told IrcReply) AskFault)
+      by : IfSome stop HasMemory → (result : Result (Told IrcReply) AskFault)
           → AppliesRecord (irc.ghosts (number C)) centre_limits centre_opening C n rec old.centre is.0 result
           → AnswersRecord (irc.ghosts (number C)) k centre_limits centre_opening C n result (record old { centre = is.0 }) new stop
           → Centre old.centre new.centre × Udc old.udc new.udc
@@ -103,7 +103,7 @@ module _ {L : Type 0} (k : links.Ghosts L) (udc_limits centre_limits : Limits) (
           centre_asked old new is.0 (ap (λ (r : Round L). r.centre) answers.0) (ap (λ (r : Round L). r.udc) answers.0)
           (rises_untold applied_of centre_opening (applied_grows centre_opening) old.centre is.0
           (untold (irc.ghosts (number C)) centre_limits centre_opening (centre_node C) (Apply n rec) old.centre is.0 fault
-          (subst (λ (s : Option Stop). IfSome s HasPublished) answers.1 published) applies.comes) applies.asks.prefix)
+          (subst (λ (s : Option Stop). IfSome s HasMemory) answers.1 published) applies.comes) applies.asks.prefix)
   handles_down (Some (UpHeard centre count)) old new stop is =
       stays old new stop (ap (λ (r : Round L). r.centre) is.0) (ap (λ (r : Round L). r.udc) is.0)
   handles_down (Some (Up centre number item)) old new stop is =
@@ -116,7 +116,7 @@ module _ {L : Type 0} (k : links.Ghosts L) (udc_limits centre_limits : Limits) (
       → HandlesUp udc.ghosts k udc_limits udc_opening C packet old new stop → Sees old new stop
   handles_up (Some (Up centre number item)) old new stop is = λ published. by published is.1 is.2 is.3
     where
-      by : IfSome stop HasPublished → (result : Result (Told UdcReply) AskFault)
+      by : IfSome stop HasMemory → (result : Result (Told UdcReply) AskFault)
           → TakesItemUp udc.ghosts udc_limits udc_opening C number item old.udc is.0 result
           → AnswersItem udc.ghosts k udc_limits udc_opening C number result (record old { udc = is.0 }) new stop
           → Centre old.centre new.centre × Udc old.udc new.udc
@@ -127,7 +127,7 @@ module _ {L : Type 0} (k : links.Ghosts L) (udc_limits centre_limits : Limits) (
           udc_asked old new is.0 (ap (λ (r : Round L). r.udc) answers.0) (ap (λ (r : Round L). r.centre) answers.0)
           (rises_untold (λ records. taken_of records C) udc_opening (taken_grows C udc_opening) old.udc is.0
           (untold udc.ghosts udc_limits udc_opening 0 (TakeUp C number item) old.udc is.0 fault
-          (subst (λ (s : Option Stop). IfSome s HasPublished) answers.1 published) takes.comes) takes.asks.prefix)
+          (subst (λ (s : Option Stop). IfSome s HasMemory) answers.1 published) takes.comes) takes.asks.prefix)
   handles_up (Some (DownHeard centre count)) old new stop is =
       stays old new stop (ap (λ (r : Round L). r.centre) is.0) (ap (λ (r : Round L). r.udc) is.0)
   handles_up (Some (Down centre n rec)) old new stop is =
@@ -136,11 +136,11 @@ module _ {L : Type 0} (k : links.Ghosts L) (udc_limits centre_limits : Limits) (
       stays old new stop (ap (λ (r : Round L). r.centre) is.0) (ap (λ (r : Round L). r.udc) is.0)
   handles_up None old new stop is = stays old new stop (ap (λ (r : Round L). r.centre) is.0) (ap (λ (r : Round L). r.udc) is.0)
 
-  -- Unless the round ran out of memory, the passes have seen what they were told of.
+  -- Unless the round ran out of memory, the passes have seen what was stored for them.
   pub sees_told : (old new : CarrierState) (old_down old_up new_down new_up : L) (end : Stop)
       → IsRound udc.ghosts (irc.ghosts (number C)) k udc_limits centre_limits udc_opening centre_opening C old old_down old_up new
       new_down new_up end
-      → HasPublished end → HaveSeenTold udc_opening centre_opening C old new
+      → HasMemory end → HaveSeenTold udc_opening centre_opening C old new
   sees_told old new old_down old_up new_down new_up end is published =
       let first = is.first in
       let last = is.last in
@@ -173,6 +173,6 @@ module _ {L : Type 0} (k : links.Ghosts L) (udc_limits centre_limits : Limits) (
             (ap (λ (p : Standing Record). p.told) is.looks_down.looks.same) is.looks_down.looks.prefix) seen.1);
       }
     where
-      all : (stop : Option Stop) → end ≡ unwrap_or stop (end_of_trip is.last.trip) → IfSome stop HasPublished
+      all : (stop : Option Stop) → end ≡ unwrap_or stop (end_of_trip is.last.trip) → IfSome stop HasMemory
       all None ends = tt
-      all (Some why) ends = subst HasPublished ends published
+      all (Some why) ends = subst HasMemory ends published

@@ -34,15 +34,15 @@ pub record Arrival : Type 0 where
   pub answer : Option Packet
 
 -- the acknowledgements that were given, in order
-abbrev pub answers : List Arrival → List Packet
-answers came = filter_map (λ (arrival : Arrival). arrival.answer) came
+abbrev pub acknowledgements : List Arrival → List Packet
+acknowledgements came = filter_map (λ (arrival : Arrival). arrival.answer) came
 
 -- A record is acknowledged by a count of records, an item by a count of items, or they are not; nothing else is.
-abbrev pub MayBeAnswered : Option Packet → Option Packet → Type 0
-MayBeAnswered (Some (Down centre n rec)) (Some (DownHeard other count)) = other ≡ centre
-MayBeAnswered (Some (Up centre number item)) (Some (UpHeard other count)) = other ≡ centre
-MayBeAnswered packet (Some answer) = ⊥
-MayBeAnswered packet None = Unit {0}
+abbrev pub MayAnswer : Option Packet → Option Packet → Type 0
+MayAnswer (Some (Down centre n rec)) (Some (DownHeard other count)) = other ≡ centre
+MayAnswer (Some (Up centre number item)) (Some (UpHeard other count)) = other ≡ centre
+MayAnswer packet (Some answer) = ⊥
+MayAnswer packet None = Unit {0}
 
 -- what a round carries: what the passes had seen at its looks, and what came down and up, in order
 pub record Cargo : Type 0 where
@@ -55,9 +55,9 @@ pub record Cargo : Type 0 where
 
 module _ {L : Type 0} (k : links.Ghosts L) where
   -- these packets are given to a link, in order
-  abbrev pub GivesAll : List Packet → L → L → Type 0
-  GivesAll [] old new = new ≡ old
-  GivesAll (packet ∷ later) old new = (mid : L) × Gave k (packet_bytes packet) old mid (Ok tt) × GivesAll later mid new
+  abbrev pub GivesEach : List Packet → L → L → Type 0
+  GivesEach [] old new = new ≡ old
+  GivesEach (packet ∷ later) old new = (mid : L) × Gave k (packet_bytes packet) old mid (Ok tt) × GivesEach later mid new
 
   -- a link hands out bytes that spell this packet of the centre, or none of it
   abbrev pub HandsOutPacket : ℕ → Option Packet → L → L → Type 0
@@ -106,27 +106,27 @@ module _ {L : Type 0} (k : links.Ghosts L) (centre_limits : Limits) (udc_opening
     -- what came up. The link up is given the item that is due, then acknowledgements of what came down; then it hands out packets.
     pub record GoesThroughLinks (old : CarrierState) (old_down old_up : L) (cargo : Cargo) (new_down new_up : L) : Type 0 where
       pub down : (given taken : L)
-          × GivesAll k (option_to_list (down_packet C (with_opening udc_opening cargo.udc.seen) (record_due cargo old.sending))) old_down given
-          × TakesUpToTwo k C cargo.down given taken × GivesAll k (answers cargo.up) taken new_down
+          × GivesEach k (option_to_list (down_packet C (with_opening udc_opening cargo.udc.seen) (record_due cargo old.sending))) old_down given
+          × TakesUpToTwo k C cargo.down given taken × GivesEach k (acknowledgements cargo.up) taken new_down
       pub up : (given answered : L)
-          × GivesAll k (option_to_list (up_packet C (items_of (with_opening centre_opening cargo.centre.seen)) (item_due cargo old.posting)))
+          × GivesEach k (option_to_list (up_packet C (items_of (with_opening centre_opening cargo.centre.seen)) (item_due cargo old.posting)))
           old_up given
-          × GivesAll k (answers cargo.down) given answered × TakesUpToTwo k C cargo.up answered new_up
-      pub answered : All (λ (came : Arrival). MayBeAnswered came.packet came.answer) cargo.down
-          × All (λ (came : Arrival). MayBeAnswered came.packet came.answer) cargo.up
+          × GivesEach k (acknowledgements cargo.down) given answered × TakesUpToTwo k C cargo.up answered new_up
+      pub answered : All (λ (came : Arrival). MayAnswer came.packet came.answer) cargo.down
+          × All (λ (came : Arrival). MayAnswer came.packet came.answer) cargo.up
 
     -- What the links count. The link down was given a packet if a record was due, and one for each item that was acknowledged; the link up one
     -- if an item was due, and one for each record that was acknowledged. Each handed out what came.
     pub record CountsCargo (old : CarrierState) (old_down old_up : L) (cargo : Cargo) (new_down new_up : L) : Type 0 where
       pub given_down : k.given new_down
-          ≡ count_after (length (option_to_list (record_due cargo old.sending)) + length (answers cargo.up)) (k.given old_down)
+          ≡ count_after (length (option_to_list (record_due cargo old.sending)) + length (acknowledgements cargo.up)) (k.given old_down)
       pub given_up : k.given new_up
-          ≡ count_after (length (option_to_list (item_due cargo old.posting)) + length (answers cargo.down)) (k.given old_up)
+          ≡ count_after (length (option_to_list (item_due cargo old.posting)) + length (acknowledgements cargo.down)) (k.given old_up)
       pub taken_down : k.taken new_down ≡ count_after (length cargo.down) (k.taken old_down)
       pub taken_up : k.taken new_up ≡ count_after (length cargo.up) (k.taken old_up)
 
     -- What a round has carried that went to its end, and that each record and item that came is stored which was due.
-    pub record HasCarried (old : CarrierState) (old_down old_up : L) (new : CarrierState) (new_down new_up : L) : Type 0 where
+    pub record HasBrought (old : CarrierState) (old_down old_up : L) (new : CarrierState) (new_down new_up : L) : Type 0 where
       pub cargo : Cargo
       pub looks : PassLooks old.udc cargo.udc × PassLooks old.centre cargo.centre
       pub seen : IsPrefix cargo.udc.seen new.udc.seen × IsPrefix cargo.centre.seen new.centre.seen

@@ -28,20 +28,20 @@ IsTold old new count = (new.told ≡ old.told + count) × (new.failed ≡ old.fa
 abbrev pub KeepsRecord : {Rec : Type 0} → List Rec → Standing Rec → Standing Rec → ℕ → Type 0
 KeepsRecord opening old new place = (old.told < new.told) × (length opening + length old.seen ≤ place)
 
--- By what a pass has seen this count rose by as many records as the pass was told of, or by more.
+-- this count, of what a pass has seen, rose by the number of records that were stored for the pass, or by more
 abbrev pub RisesByTold : {Rec : Type 0} → (List Rec → ℕ) → List Rec → Standing Rec → Standing Rec → Type 0
 RisesByTold count opening old new = count (with_opening opening old.seen) + (new.told - old.told) ≤ count (with_opening opening new.seen)
 
--- The passes have seen what they were told of: the centre has applied as many records more as its pass was told of, or more, and the
--- Update Centre has taken up as many items of the centre more as its pass was told of, or more.
+-- The passes have seen what was stored for them. The centre has applied at least that many records more, and the Update Centre has taken
+-- up at least that many items of the centre more.
 pub record HaveSeenTold (udc_opening : List Record) (centre_opening : List CentreRecord) (C : ℕ) (old new : CarrierState) : Type 0 where
   pub applied : RisesByTold applied_of centre_opening old.centre new.centre
   pub taken_up : RisesByTold (λ records. taken_of records C) udc_opening old.udc new.udc
 
 -- what a round has stored is published: it did not run out of memory
-abbrev pub HasPublished : Stop → Type 0
-HasPublished (stops.Memory stored) = ⊥
-HasPublished _ = Unit {0}
+abbrev pub HasMemory : Stop → Type 0
+HasMemory (stops.Memory stored) = ⊥
+HasMemory _ = Unit {0}
 
 module _ {L : Type 0} (k : links.Ghosts L) where
   -- a link was given a packet or handed one out

@@ -1,8 +1,8 @@
 ghost use Rattle.std.specs.Prelude.{◌≡◌, ◌≤◌};
 ghost use Rattle.pv_edits.specs.Taken.{IsCentre};
 ghost use Rattle.pv_link.specs.Sending.{new_end};
-ghost use Rattle.pv_ports.specs.Cargo.{WentThrough, HasCarried};
-ghost use Rattle.pv_ports.specs.Outcomes.{HasRoundCause, HasPublished, HaveSeenTold};
+ghost use Rattle.pv_ports.specs.Cargo.{WentThrough, HasBrought};
+ghost use Rattle.pv_ports.specs.Outcomes.{HasRoundCause, HasMemory, HaveSeenTold};
 ghost use Rattle.pv_ports.specs.Rights.{HoldRightPackets};
 ghost use Rattle.pv_ports.specs.Round.{IsRound, round_stop};
 
@@ -100,12 +100,13 @@ impl<const C: u8, U: Run<Record>, N: Run<CentreRecord>> Carrier<C, U, N> {
             → HoldRightPackets ⟦<L as Link>⟧ U.opening N.opening C self.new.udc self.new.centre down.new
             up.new }
 
-        // A round that went to its end has given and taken what its links count, and what came and was due is stored.
-        ensures carried { WentThrough (round_stop result) → HasCarried ⟦<L as Link>⟧ N.limits U.opening
+        // A round that went to its end has given and taken what its links count. What came and was due is
+        // stored.
+        ensures carried { WentThrough (round_stop result) → HasBrought ⟦<L as Link>⟧ N.limits U.opening
             N.opening C self.old down.old up.old self.new down.new up.new }
 
-        // Unless memory ran out, the passes have seen what they were told of.
-        ensures seen { HasPublished (round_stop result) → HaveSeenTold U.opening N.opening C self.old self.new }
+        // Unless memory ran out, the passes have seen what was stored for them.
+        ensures seen { HasMemory (round_stop result) → HaveSeenTold U.opening N.opening C self.old self.new }
     {
         a_packet_is_read_as_it_is_spelled();
         self.make_round(rt, udc, centre, down, up)

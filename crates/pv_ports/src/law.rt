@@ -16,8 +16,8 @@ use pv_node::Rules;
 use pv_session::{a_call_owes_what_is_its_own, a_caller_stays_who_he_is};
 use pv_udc::UdcRules;
 
-/// A law: each charge that a call had stored is among the records that its pass has seen, and the pass was told of as
-/// many records as the call had stored.
+/// A law: each charge that a call had stored is among the records that its pass has seen, and the pass has counted as
+/// many stored records as the call had.
 #[tactic(auto, using(crate::proofs::Laws::told_all, crate::proofs::Laws::all_kept))]
 pub fn charges_are_stored_first<const C: u8>()
     ensures told { (limits : Limits) (opening : List CentreRecord) (shown : Option ℕ)
@@ -42,8 +42,8 @@ pub fn charges_are_the_calls_own<const C: u8>()
     a_caller_stays_who_he_is();
 }
 
-/// A law: the pass of a session was told of as many records as its edits stored, and as many of its asks failed on the
-/// disk as the session has.
+/// A law: the pass of a session has counted as many stored records as the session's edits, and as many of its asks
+/// failed on the disk as the session has.
 pub fn edits_are_counted()
     ensures told { (limits : Limits) (opening : List Record) (happened : List Exchange)
         (start pass : Standing Record) (seat : EditorSeat) (said : Traffic)

@@ -27,7 +27,7 @@
 //! A call is a chain of happenings (`IsTalk` of `specs/Talk.antt`), and a session a list of exchanges (`IsSession` of
 //! `specs/Session.antt`). A round is `IsRound` of `specs/Round.antt`. `EndsAs` of `specs/Ends.antt` and of
 //! `specs/SessionEnds.antt` say why a call or a session ended, and `HasRoundCause` of `specs/Outcomes.antt` why a round did.
-//! `HasCarried` of `specs/Cargo.antt` says what a round has carried.
+//! `HasBrought` of `specs/Cargo.antt` says what a round has carried.
 #![tactic(auto)]
 
 mod answering;

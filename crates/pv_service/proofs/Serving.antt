@@ -3,7 +3,7 @@ use Rattle.std.proofs.Common.{◌≡◌, ℕ, ◌+◌, ◌<◌, ◌≤◌, Bool,
 use Rattle.std.specs.Prelude.{◌||◌}
 use Rattle.std.specs.Option.{option_map}
 use Rattle.pv_service.specs.Chain.{IsChain}
-use Rattle.pv_service.specs.Doors.{DoorState, GivesBack, LetsNoneIn}
+use Rattle.pv_service.specs.Doors.{DoorReport, GivesBack, LetsNoneIn}
 use Rattle.pv_service.specs.Serving.{Served, lines_in, ServesNext, HasServedSome, HasServed}
 use Rattle.pv_service.specs.declared.port_report.PortFault.TheVariants as faults
 use Rattle.pv_service.specs.declared.port_report.PortReport.{PortReport}
@@ -21,7 +21,7 @@ back_same None = refl
 back_same (Some before) = ap Some (sym (append-nil before))
 
 -- no line was given back yet
-no_lines : {L : Type 0} (door : DoorState L) → GivesBack [] door door
+no_lines : {L : Type 0} (door : DoorReport L) → GivesBack [] door door
 no_lines door = record {
   back = back_same door.lines;
   accepted = omega arith;
@@ -30,7 +30,7 @@ no_lines door = record {
 }
 
 -- one more was
-line_more : {L : Type 0} (lines : List L) (line : L) (old mid new : DoorState L) → GivesBack lines old mid
+line_more : {L : Type 0} (lines : List L) (line : L) (old mid new : DoorReport L) → GivesBack lines old mid
     → GivesBack (line ∷ []) mid new → GivesBack (lines ++ line ∷ []) old new
 line_more {L} lines line old mid new earlier last = record {
   back = last.back ∙ ap (option_map (λ (b : List L). b ++ line ∷ [])) earlier.back ∙ back_more old.lines lines line;
@@ -40,7 +40,7 @@ line_more {L} lines line old mid new earlier last = record {
 }
 
 -- none was, since the door failed
-line_none : {L : Type 0} (lines : List L) (old mid new : DoorState L) → GivesBack lines old mid → LetsNoneIn mid new
+line_none : {L : Type 0} (lines : List L) (old mid new : DoorReport L) → GivesBack lines old mid → LetsNoneIn mid new
     → GivesBack lines old new
 line_none lines old mid new earlier last = record {
   back = last.back ∙ earlier.back;
@@ -57,7 +57,7 @@ length-lines_in (last ∷ earlier) =
 
 module _ {P L E F : Type 0} (Serves : P → Served L E → P → Type 0) (failure_in : E → Option F) (lacked_memory : E → Bool) where
   -- none was served yet
-  pub serves_none : (now : P) (door : DoorState L) → HasServedSome Serves failure_in lacked_memory 0 now door now door false
+  pub serves_none : (now : P) (door : DoorReport L) → HasServedSome Serves failure_in lacked_memory 0 now door now door false
   serves_none now door = record {
     served = [];
     serves = refl;
@@ -67,14 +67,14 @@ module _ {P L E F : Type 0} (Serves : P → Served L E → P → Type 0) (failur
     counted = refl;
   }
 
-  module _ (n : ℕ) (old : P) (old_door : DoorState L) (mid : P) (mid_door : DoorState L) (memory : Bool)
+  module _ (n : ℕ) (old : P) (old_door : DoorReport L) (mid : P) (mid_door : DoorReport L) (memory : Bool)
       (some : HasServedSome Serves failure_in lacked_memory n old old_door mid mid_door memory) where
     -- a door has accepted as many more as were served
     pub accepted_so : mid_door.accepted ≡ old_door.accepted + n
     accepted_so = omega (arith, some.door.accepted, length-lines_in some.served, some.counted)
 
     -- one more was served
-    pub serves_more : (new : P) (new_door : DoorState L) (end : E) (now : Bool) → ServesNext Serves mid mid_door new new_door end
+    pub serves_more : (new : P) (new_door : DoorReport L) (end : E) (now : Bool) → ServesNext Serves mid mid_door new new_door end
         → failure_in end ≡ None → now ≡ (memory || lacked_memory end)
         → HasServedSome Serves failure_in lacked_memory (n + 1) old old_door new new_door now
     serves_more new new_door end now next none noted = record {
@@ -98,7 +98,7 @@ module _ {P L E F : Type 0} (Serves : P → Served L E → P → Type 0) (failur
         ends = (some.counted ∙ all, some.goes_on);
       }
 
-      module _ (left : n < calls) (new : P) (new_door : DoorState L) where
+      module _ (left : n < calls) (new : P) (new_door : DoorReport L) where
         -- the door let none in
         pub ends_at_door : new ≡ mid → LetsNoneIn mid_door new_door
             → HasServed Serves failure_in lacked_memory {D = D} calls old old_door new new_door

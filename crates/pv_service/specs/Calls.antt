@@ -11,7 +11,7 @@ use Rattle.pv_live.specs.Pass.{Standing}
 use Rattle.pv_ports.specs.Ends.{LineState, IsServedCall}
 use Rattle.pv_ports.specs.declared.end.CallEnd.{CallEnd}
 use Rattle.pv_ports.specs.declared.end.CallEnd.TheVariants.{DiskFault, Memory}
-use Rattle.pv_service.specs.Doors.{DoorState}
+use Rattle.pv_service.specs.Doors.{DoorReport}
 use Rattle.pv_service.specs.Serving.{Served, ServesNext, HasServed}
 use Rattle.pv_service.specs.declared.port_report.PortReport.{PortReport}
 
@@ -35,9 +35,9 @@ module _ {S L D F : Type 0} (r : rules.Ghosts S CentreState IrcRequest CentreRec
     pub call : IsServedCall r limits opening shown {D = D} {F = F} old (report_of accepted) new marks (report_of served.line) served.end
 
   -- the next caller was served
-  abbrev pub ServesNextCall : Standing CentreRecord → DoorState L → Standing CentreRecord → DoorState L → CallEnd D F → Type 0
+  abbrev pub ServesNextCall : Standing CentreRecord → DoorReport L → Standing CentreRecord → DoorReport L → CallEnd D F → Type 0
   ServesNextCall = ServesNext ServesCall
 
   -- callers were served until there were this many, or there was a fault
-  abbrev pub HasServedCalls : ℕ → Standing CentreRecord → DoorState L → Standing CentreRecord → DoorState L → PortReport D F → Type 0
+  abbrev pub HasServedCalls : ℕ → Standing CentreRecord → DoorReport L → Standing CentreRecord → DoorReport L → PortReport D F → Type 0
   HasServedCalls = HasServed ServesCall call_failure call_lacked_memory

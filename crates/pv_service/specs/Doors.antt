@@ -5,14 +5,14 @@ use Rattle.pv_outside.specs.Counts.{Rose}
 
 -- a door: the lines that were given back, if it can report them, and how many lines it has accepted, how many were given back, and how
 -- often an accept has failed
-pub record DoorState (L : Type 0) : Type 0 where
+pub record DoorReport (L : Type 0) : Type 0 where
   pub lines : Option (List L)
   pub accepted : ℕ
   pub finished : ℕ
   pub faults : ℕ
 
 -- what a door reports, by what each of its reports is
-abbrev pub door_of : {O L : Type 0} → (O → Option (List L)) → (O → ℕ) → (O → ℕ) → (O → ℕ) → O → DoorState L
+abbrev pub door_of : {O L : Type 0} → (O → Option (List L)) → (O → ℕ) → (O → ℕ) → (O → ℕ) → O → DoorReport L
 door_of lines accepted finished faults door = record {
   lines = lines door;
   accepted = accepted door;
@@ -21,14 +21,14 @@ door_of lines accepted finished faults door = record {
 }
 
 -- these lines came in and were given back, in this order
-pub record GivesBack {L : Type 0} (lines : List L) (old new : DoorState L) : Type 0 where
+pub record GivesBack {L : Type 0} (lines : List L) (old new : DoorReport L) : Type 0 where
   pub back : new.lines ≡ option_map (λ before. before ++ lines) old.lines
   pub accepted : new.accepted ≡ old.accepted + length lines
   pub finished : new.finished ≡ old.finished + length lines
   pub faults : old.faults ≤ new.faults
 
 -- no line came in: an accept failed
-pub record LetsNoneIn {L : Type 0} (old new : DoorState L) : Type 0 where
+pub record LetsNoneIn {L : Type 0} (old new : DoorReport L) : Type 0 where
   pub back : new.lines ≡ old.lines
   pub accepted : new.accepted ≡ old.accepted
   pub finished : new.finished ≡ old.finished

@@ -12,7 +12,7 @@ use Rattle.pv_ports.specs.Ends.{LineState}
 use Rattle.pv_ports.specs.SessionEnds.{IsServedSession}
 use Rattle.pv_ports.specs.declared.edit_end.EditEnd.{EditEnd}
 use Rattle.pv_ports.specs.declared.edit_end.EditEnd.TheVariants.{DiskFault, Memory}
-use Rattle.pv_service.specs.Doors.{DoorState}
+use Rattle.pv_service.specs.Doors.{DoorReport}
 use Rattle.pv_service.specs.Serving.{Served, ServesNext, HasServed}
 use Rattle.pv_service.specs.declared.port_report.PortReport.{PortReport}
 
@@ -36,9 +36,9 @@ module _ {S L D F : Type 0} (r : rules.Ghosts S EditList UdcRequest Record UdcRe
     pub session : IsServedSession r limits opening {D = D} {F = F} old (report_of accepted) new marks (report_of served.line) served.end
 
   -- the next editor was served
-  abbrev pub ServesNextSession : Standing Record → DoorState L → Standing Record → DoorState L → EditEnd D F → Type 0
+  abbrev pub ServesNextSession : Standing Record → DoorReport L → Standing Record → DoorReport L → EditEnd D F → Type 0
   ServesNextSession = ServesNext ServesSession
 
   -- editors were served until there were this many, or there was a fault
-  abbrev pub HasServedSessions : ℕ → Standing Record → DoorState L → Standing Record → DoorState L → PortReport D F → Type 0
+  abbrev pub HasServedSessions : ℕ → Standing Record → DoorReport L → Standing Record → DoorReport L → PortReport D F → Type 0
   HasServedSessions = HasServed ServesSession session_failure session_lacked_memory
