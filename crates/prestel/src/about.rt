@@ -1,5 +1,5 @@
-ghost use Rattle.std.specs.Prelude.{◌≡◌, ◌↔◌, ◌∷◌, ◌++◌, [], map, Some, string_bytes};
-ghost use Rattle.prestel.specs.About.{about_words, about_text, topic_words};
+ghost use Rattle.std.specs.Prelude.{◌≡◌, ◌↔◌, ◌∷◌, ◌++◌, [], map, None, Some, string_bytes};
+ghost use Rattle.prestel.specs.About.{about_words, about_text, help_text, topic_words};
 
 use crate::task::Task;
 use std::fmt;
@@ -12,30 +12,32 @@ const HELP: &str = "usage: prestel play N < SCRIPT
        prestel gen N > SCRIPT
        prestel evening N
        prestel format DIR N
+       prestel tape DIR < TAPE
        prestel statement DIR ACCOUNT YYYY-MM
        prestel --help
        prestel --version
 
-play runs the script on standard input on a viewdata network of N retrieval
-centres, 1 to 4, and writes an answer to each event.
-gen writes the script that is made by rule for the number N, 1 to 999.
-evening plays that script on one centre, and writes what came of it in one
-line: the records of the Update Centre, the screens, the charge lines, and
-the pence of the bill.
-format makes the disks of a network of N centres in the folder DIR.
-statement writes what an account was charged in a month, from that folder.
-Each of the five has a --help of its own.
+play runs a script on a network of N centres, 1 to 4, and answers each event.
+gen writes the script that is made by rule for N, 1 to 999.
+evening plays it, and sums up in one line what came of it.
+format makes the disks of N centres in a folder.
+tape loads the pages of an information provider there.
+statement writes what an account was charged in a month.
+Each of the six has a --help of its own.
 
 Exit status:
   0  everything was done
   2  bad command line
-  3  a line of the script is not a valid command
+  3  a line of the script or tape is not valid
   4  standard input could not be read
   5  standard output could not be written
   6  out of memory
-  7  the script is longer than 1048576 bytes
+  7  the script or tape is longer than 1048576 bytes
   8  a file could not be made or opened, is in use, or failed
   9  the records of a file could not be read
+  12 the Update Centre is full
+  13 the tape's account or password is not known
+  14 an edit of the tape was refused
   15 there is no such account
 ";
 
@@ -106,13 +108,20 @@ impl About {
         ensures { result.now ≡ about_text self }
     {
         match self {
-            About::Help(None) => HELP,
+            About::Help(None) => overview(),
             About::Help(Some(Task::Play)) => PLAY_HELP,
             About::Help(Some(Task::Generate)) => GENERATE_HELP,
             About::Help(Some(Task::Evening)) => EVENING_HELP,
             About::Version(_) => VERSION,
         }
     }
+}
+
+/// How the program is used. A function of its own, since the search for a proof goes through each text that it sees.
+fn overview() -> &'static str
+    ensures { result.now ≡ help_text None }
+{
+    HELP
 }
 
 impl fmt::Display for About {
