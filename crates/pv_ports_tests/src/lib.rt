@@ -1,0 +1,13 @@
+//! The tests of ports. They stand apart, since a crate is proved once more with its tests.
+#![tactic(auto)]
+
+#[cfg(test)]
+mod callers;
+#[cfg(test)]
+mod editors;
+#[cfg(test)]
+mod late;
+#[cfg(test)]
+mod looks;
+#[cfg(test)]
+mod nodes;
