@@ -3,6 +3,8 @@
 The bytes of the files are those that checks/model.py spells apart from the program.
 """
 import fcntl
+import os
+import pty
 import struct
 import subprocess
 import tempfile
@@ -128,6 +130,24 @@ def taped(program):
         yield "tape: the example again", at.run("tape", "net", text=example.read_bytes()) == ("stored 0 skipped 3\n", "", 0)
 
 
+def watched(program):
+    """A line for a long tape: a terminal on standard error is shown each 1,000 edits, and a pipe nothing."""
+    text = b"TAPE 1 0000000000 0000\nNEW 1a\n" + b"STORE\n" * 2001
+    memory = Path("/dev/shm")
+    with tempfile.TemporaryDirectory(dir=memory if memory.is_dir() else None) as folder:
+        at = Place(program, folder)
+        at.run("format", "net", "1")
+        ours, theirs = pty.openpty()
+        with open(ours, "rb", buffering=0) as terminal:
+            run = subprocess.run([program, "tape", "net"], input=text, stdout=subprocess.PIPE, stderr=theirs, cwd=folder, timeout=60)
+            os.close(theirs)
+            shown = terminal.read(4096).decode()
+        lines = "".join(f"prestel: {count} edits are stored\r\n" for count in (1000, 2000))
+        yield "tape: how far it is, on a terminal", (run.stdout, run.returncode, shown) == (b"stored 2001 skipped 0\n", 0, lines)
+        at.run("format", "net", "1")
+        yield "tape: and not on a pipe", at.run("tape", "net", text=text) == ("stored 2001 skipped 0\n", "", 0)
+
+
 def stated(program):
     """A line for each thing that `statement` writes from a folder, or says of it."""
     bought = [(2, "1980-01-01 00:00:00"), (3, "1980-02-01 00:00:00"), (5, "1980-01-31 23:59:59"), (99, "2099-12-31 23:59:59")]
@@ -163,7 +183,7 @@ def stated(program):
 
 def folders(program):
     """A line for each of these, and for the help of both words."""
-    yield from (*formatted(program), *taped(program), *stated(program))
+    yield from (*formatted(program), *taped(program), *watched(program), *stated(program))
     for word in ("format", "tape", "statement"):
         run = subprocess.run([program, word, "--help"], capture_output=True, timeout=60)
         yield f"{word}: its help", run.stdout.startswith(f"usage: prestel {word} ".encode()) and (run.stderr, run.returncode) == (b"", 0)

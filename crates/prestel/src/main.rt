@@ -41,10 +41,11 @@ fn main(rt: HostRuntime) -> ExitCode {
         Err(status) => return end(&rt, status, Some(WordsError::NotText)),
     };
     let words = words_of(&args);
-    if let Some(number) = run_on_files(&rt, words) {
+    let is_seen = rt.stderr().is_terminal();
+    if let Some(number) = run_on_files(&rt, words, is_seen) {
         return ExitCode::from(number);
     }
-    let status = run(&rt, words, rt.stderr().is_terminal());
+    let status = run(&rt, words, is_seen);
     end(&rt, status, error_of(words))
 }
 
@@ -61,14 +62,16 @@ fn end<R: Eprint>(rt: &R, status: Status, wrong: Option<WordsError<'_>>) -> Exit
     ExitCode::from(status.number())
 }
 
-/// Runs a word that works on files, and returns the number to end with. `None` if the first word is no such word.
+/// Runs a word that works on files, and returns the number to end with. `None` if the first word is no such word. Long work says
+/// on standard error how far it is, if that is seen.
 fn run_on_files<R: AllocGlobal + Files<File = File> + Input + Print + Eprint>(
     rt: &R,
     words: &[String],
+    is_seen: bool,
 ) -> Option<u8> {
     match run_format(rt, words) {
         Some(number) => Some(number),
-        None => run_office(rt, words),
+        None => run_office(rt, words, is_seen),
     }
 }
 

@@ -19,6 +19,7 @@ mod real;
 mod statements;
 mod status;
 mod tapes;
+mod watched;
 
 pub use month::month_of;
 pub use options::{StatementOptions, statement_options};

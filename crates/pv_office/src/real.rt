@@ -4,6 +4,7 @@ use crate::options::statement_options;
 use crate::statements::statement_of;
 use crate::status::OfficeStatus;
 use crate::tapes::{tape_folder, tape_of};
+use crate::watched::Watched;
 use pv_files::{FileDisk, NODE_FILES, OpenFault, StandardInput, StandardOutput};
 use pv_outside::Disk;
 use std::alloc::AllocGlobal;
@@ -52,10 +53,12 @@ Exit status:
 ";
 
 /// Does what the words ask for, if their first is one of the office's, and returns the number that the process ends with.
-/// A fault is one line on standard error. `None` exactly when the first word is not one of the office's.
+/// A fault is one line on standard error, and so is how far long work is, if that is seen. `None` exactly when the first word is
+/// not one of the office's.
 pub fn run_office<R: AllocGlobal + Files<File = File> + Input + Print + Eprint>(
     rt: &R,
     words: &[String],
+    is_seen: bool,
 ) -> Option<u8> {
     match words {
         [first, later @ ..] if first.as_str() == "statement" => match later {
@@ -64,7 +67,7 @@ pub fn run_office<R: AllocGlobal + Files<File = File> + Input + Print + Eprint>(
         },
         [first, later @ ..] if first.as_str() == "tape" => match later {
             [word] if word.as_str() == "--help" => Some(write_help(rt, TAPE_HELP)),
-            _ => Some(run_tape(rt, words)),
+            _ => Some(run_tape(rt, words, is_seen)),
         },
         _ => None,
     }
@@ -99,13 +102,14 @@ fn run_statement<R: AllocGlobal + Files<File = File> + Print + Eprint>(
     };
     let status = statement_of(alloc, words, disk, &mut out);
     let flushed = out.flush().is_ok();
-    end(rt, &status, flushed)
+    end(rt, status, flushed)
 }
 
 /// Loads a tape from standard input into the file of the Update Centre.
 fn run_tape<R: AllocGlobal + Files<File = File> + Input + Print + Eprint>(
     rt: &R,
     words: &[String],
+    is_seen: bool,
 ) -> u8 {
     let Some(folder) = tape_folder(words) else {
         let _ = eprintln!(rt; "prestel: usage: prestel tape DIR < TAPE; try prestel tape --help");
@@ -120,9 +124,10 @@ fn run_tape<R: AllocGlobal + Files<File = File> + Input + Print + Eprint>(
         return out_of_memory(rt);
     };
     let mut tape = StandardInput::new(rt.reader());
+    let disk = Watched::new(rt, disk, is_seen);
     let (status, _disk) = tape_of(alloc, words, disk, &mut tape, &mut out);
     let flushed = out.flush().is_ok();
-    end(rt, &status, flushed)
+    end(rt, status, flushed)
 }
 
 /// Opens the disk of the Update Centre in a folder. If that fails it says why, and returns the number to end with.
@@ -145,7 +150,7 @@ fn open_disk<R: AllocGlobal + Files<File = File> + Eprint>(
 }
 
 /// Says how a word ended, if not all was done, and returns its number. What was written is done only if it was flushed.
-fn end<D: Disk, R: Eprint>(rt: &R, status: &OfficeStatus<D>, flushed: bool) -> u8 {
+fn end<D: Disk, R: Eprint>(rt: &R, status: OfficeStatus<D>, flushed: bool) -> u8 {
     match status {
         OfficeStatus::Done if flushed => 0,
         OfficeStatus::Done => {
