@@ -117,8 +117,9 @@ def taped(program):
         yield "tape: a load that was cut after any edit is continued", all(cuts)
         others = journal([Account(0, 1, CALLER, "ABCD")])
         file.write_bytes(others)
-        text = TAPE.replace(b"0000000000 0000", f"{CALLER} ABCD".encode())
-        yield "tape: another's page", at.run("tape", "net", text=text) == ("", "prestel: line 4: refused with 2: the page belongs to another\n", 14) and file.read_bytes() == others
+        refused = ("", "prestel: line 4: refused with 2: the page belongs to another\n", 14)
+        texts = [TAPE.replace(b"TAPE 1 0000000000 0000", f"TAPE {first} {CALLER} ABCD".encode()) for first in (1, 3)]
+        yield "tape: another's page", all(at.run("tape", "net", text=text) == refused for text in texts) and file.read_bytes() == others
         file.write_bytes(EMPTY)
         with open("/dev/full", "wb") as full:
             yield "tape: a full device", at.run("tape", "net", text=TAPE, stdout=full) == ("", "prestel: the output could not be written\n", 5) and file.read_bytes() == journal(LOADED)

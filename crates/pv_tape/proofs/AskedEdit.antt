@@ -27,7 +27,7 @@ use Rattle.pv_udc.proofs.CallerLemmas.{is_his, IsAnswered, is_answered, last_edi
 use Rattle.pv_journal.specs.Journal.{LeavesOnly}
 use Rattle.pv_journal.proofs.Moments.{only_weaker}
 use Rattle.pv_editor.specs.Say.{number_of_last}
-use Rattle.pv_tape.specs.Loading.{LeavesPrefix}
+use Rattle.pv_tape.specs.Loading.{LeavesPrefix, IsToStore, CanAsk}
 
 -- the reply that was returned, or this
 abbrev told_or : {F : Type 0} → Told UdcReply → Result (Told UdcReply) F → Told UdcReply
@@ -45,12 +45,17 @@ module _ {S D : Type 0} (r : rules.Ghosts S EditList UdcRequest Record UdcReply)
   abbrev decided : Decision Record UdcReply
   decided = judge old.state.limits old.state.records (Edit editor q wish)
 
+  -- what was to be stored could be asked for
+  can_ask : (edit : Record) (reply : UdcReply) → decided ≡ Store edit reply → CanAsk old editor q wish
+  can_ask edit reply is = subst (λ (d : Decision Record UdcReply). IsToStore d) (sym is) tt
+
   -- ---- it was stored
 
   pub record WasStored : Type 0 where
     pub gains : Gains r g old new asked
     pub hand : new.hand ≡ None
     pub last : number_of_last (last_edit new.state.records editor) ≡ q
+    pub to_store : CanAsk old editor q wish
 
   pub was_stored : (F : Type 0) (d : Decision Record UdcReply) (told : Told UdcReply) (place : ℕ) → decided ≡ d
       → CarriesOut r g {F = F} d old new (Ok told) → told.reply ≡ replies.Stored place → WasStored
@@ -68,6 +73,7 @@ module _ {S D : Type 0} (r : rules.Ghosts S EditList UdcRequest Record UdcReply)
         hand = carried.1.hand;
         last = ap (λ (l : List Record). number_of_last (last_edit l editor)) records
             ∙ ap number_of_last (last_edit-his old.state.records edit editor q his.his his.numbered);
+        to_store = can_ask edit reply is;
       }
 
   -- ---- it was refused
@@ -120,19 +126,21 @@ module _ {S D : Type 0} (r : rules.Ghosts S EditList UdcRequest Record UdcReply)
   -- ---- there was no room
 
   pub was_full : (F : Type 0) → ((state : EditList) → r.limits_of state ≡ state.limits) → (d : Decision Record UdcReply) (count : ℕ)
-      → decided ≡ d → CarriesOut r g {F = F} d old new (Err (Full count)) → (new ≡ old) × (count ≡ old.state.limits.records)
+      → decided ≡ d → CarriesOut r g {F = F} d old new (Err (Full count))
+      → (new ≡ old) × (count ≡ old.state.limits.records) × CanAsk old editor q wish
   was_full F limits (Answer reply) count is carried = absurd (let no = carried.0 in cc)
   was_full F limits (Store edit reply) count is carried =
-      (carried.same, carried.limit ∙ ap (λ (l : Limits). l.records) (limits old.state))
+      (carried.same, carried.limit ∙ ap (λ (l : Limits). l.records) (limits old.state), can_ask edit reply is)
 
   -- ---- a call of the disk failed
 
   pub was_taken : {F : Type 0} (d : Decision Record UdcReply) (failure : F) → decided ≡ d
-      → CarriesOut r g {F = F} d old new (Err (Disk failure)) → KeepsAll r g old new × (new.hand ≡ Some asked)
+      → CarriesOut r g {F = F} d old new (Err (Disk failure))
+      → KeepsAll r g old new × (new.hand ≡ Some asked) × CanAsk old editor q wish
   was_taken (Answer reply) failure is carried = absurd (let no = carried.0 in cc)
   was_taken (Store edit reply) failure is carried =
       let same : asked ≡ edit = (is_done old.state.limits old.state.records editor q wish edit reply is).edit_is in
-      (carried.records, carried.hand ∙ ap Some (sym same))
+      (carried.records, carried.hand ∙ ap Some (sym same), can_ask edit reply is)
 
   -- what is answered at once is a refusal
   pub only_refused : number_of_last (last_edit old.state.records editor) < q → (reply : UdcReply) → decided ≡ Answer reply

@@ -1,3 +1,4 @@
+mod Ahead
 mod AskedEdit
 mod Facts
 mod Going

@@ -173,6 +173,7 @@ module _ {S D : Type 0} (r : rules.Ghosts S EditList UdcRequest Record UdcReply)
       ended = (
         stop.1 ∙ ap (λ (n : Parts D EditList Record). n.state.limits.records) (sym stop.0),
         ap (λ (n : Parts D EditList Record). n.hand) stop.0 ∙ hand,
+        rw (stop.0, ← going.numbered.next) stop.2,
       );
     }
     by_wish (Some wish) (DiskFault failure) is stop = record {

@@ -1,19 +1,26 @@
 -- A run after a settling: what is stored after the record that was in hand, or after none.
-use Rattle.std.proofs.Common.{◌≡◌, inl, inr, ℕ, ◌≤◌, List, [], ◌∷◌, ◌++◌, take, Option, Some, None, refl, sym, ap, subst, ◌∙◌}
+use Rattle.std.proofs.Common.{◌≡◌, inl, inr, ℕ, ◌<◌, ◌≤◌, true, List, [], ◌∷◌, ◌++◌, take, Option, Some, None, refl, sym, ap, subst, ◌∙◌}
+use Rattle.std.specs.Prelude.{is_some}
 use Rattle.std.proofs.lemmas.List.{append-nil}
 use Rattle.pv_outside.specs.declared.reports.Reports as reports
 use Rattle.pv_journal.specs.Journal.{LeavesOnly}
 use Rattle.pv_journal.proofs.Moments.{only_weaker, only_then}
+use Rattle.pv_account.specs.Profile.{Profile}
+use Rattle.pv_edits.specs.Edits.{account_at}
+use Rattle.pv_edits.specs.Room.{has_editor}
 use Rattle.pv_edits.specs.declared.record.Record.{Record}
+use Rattle.pv_edits.proofs.CallerLemmas.{account_stays}
 use Rattle.pv_node.specs.Asking.{IsSettled, records_with}
 use Rattle.pv_node.specs.Parts.{Parts}
 use Rattle.pv_node.specs.Standing.{Stands, StandsEither, StandsFor}
 use Rattle.pv_node.specs.declared.rules.Rules as rules
 use Rattle.pv_udc.specs.EditList.{EditList, with_record}
+use Rattle.pv_udc.specs.Judgement.{next_number}
 use Rattle.pv_udc.specs.declared.reply.UdcReply.{UdcReply}
 use Rattle.pv_udc.specs.declared.request.UdcRequest.{UdcRequest}
-use Rattle.pv_tape.specs.Loading.{wanted_records, GainsAll, LeavesPrefix, IsLoadEnd, IsEditEnd, IsStoppedAt}
-use Rattle.pv_tape.specs.Running.{IsFromHand, LeavesPart, GainsAfter, IsSettledEnd, IsEditsEnd}
+use Rattle.pv_tape.specs.Loading.{wanted_records, GainsAll, LeavesPrefix, IsLoadEnd, IsEditEnd, IsStoppedAt, IsTooHigh}
+use Rattle.pv_editor.specs.Say.{is_password}
+use Rattle.pv_tape.specs.Running.{IsFromHand, is_known, LeavesPart, GainsAfter, IsSettledEnd, IsEditsEnd}
 use Rattle.pv_tape.specs.Tape.{TapeEdit}
 use Rattle.pv_tape.specs.declared.end.TapeEnd.{TapeEnd}
 use Rattle.pv_tape.specs.declared.end.TapeEnd.TheVariants.{Done, ReadFault, TooLong, BadTape, NotKnown, Refused, Full, DiskFault, Memory}
@@ -34,6 +41,16 @@ module _ {S D : Type 0} (r : rules.Ghosts S EditList UdcRequest Record UdcReply)
       → settled.state.records ≡ records_with old.state.records stored
   settled_records None is = ap (λ (s : EditList). s.records) is.state
   settled_records (Some rec) is = ap (λ (s : EditList). s.records) (is.state ∙ after old.state rec old.journal.count)
+
+  -- an account stays one
+  pub account_settled : (stored : Option Record) → IsSettled r g old settled stored → has_editor old.state.records head.account ≡ true
+      → has_editor settled.state.records head.account ≡ true
+  account_settled stored is has =
+      subst (λ (l : List Record). has_editor l head.account ≡ true) (sym (settled_records stored is)) (by stored)
+    where
+      by : (part : Option Record) → has_editor (records_with old.state.records part) head.account ≡ true
+      by None = has
+      by (Some rec) = account_stays old.state.records rec head.account has
 
   settled_stands : (stored : Option Record) → IsSettled r g old settled stored → (records : List Record) → StandsFor r g old records
       → StandsFor r g settled (records_with records stored)
@@ -138,21 +155,36 @@ module _ {S D : Type 0} (r : rules.Ghosts S EditList UdcRequest Record UdcReply)
       load_since NotKnown stopped = stopped_since NotKnown stopped
       load_since Memory stopped = stopped_since Memory stopped
 
-      settled_end : {F : Type 0} (end : TapeEnd D F) → FromSettled end → IsSettledEnd r g old new head edits end
-      settled_end end loaded = (
+      -- a first number that is above the account's next then
+      abbrev AheadOf : {F : Type 0} → List Record → TapeEnd D F → Type 0
+      AheadOf records end = next_number records head.account < head.first → IsTooHigh records head edits end
+
+      settled_end : {F : Type 0} (end : TapeEnd D F) → FromSettled end → AheadOf settled.state.records end
+          → IsSettledEnd r g old new head edits end
+      settled_end end loaded ahead = (
         stored,
         of_hand stored is,
         subst (λ (l : List Record). FromRecords l end) (settled_records stored is) (load_since end loaded),
+        subst (λ (l : List Record). AheadOf l end) (settled_records stored is) ahead,
       )
 
       -- how it ends
-      pub run_ends : {F : Type 0} (end : TapeEnd D F) → FromSettled end → IsEditsEnd r g old new head edits end
-      run_ends {F = F} (DiskFault failure) loaded = inr (settled_end {F = F} (DiskFault failure) loaded)
-      run_ends {F = F} (Done done skipped) loaded = settled_end {F = F} (Done done skipped) loaded
-      run_ends {F = F} (Refused line code shown) loaded = settled_end {F = F} (Refused line code shown) loaded
-      run_ends {F = F} (Full count) loaded = settled_end {F = F} (Full count) loaded
-      run_ends {F = F} ReadFault loaded = settled_end {F = F} ReadFault loaded
-      run_ends {F = F} TooLong loaded = settled_end {F = F} TooLong loaded
-      run_ends {F = F} (BadTape line) loaded = settled_end {F = F} (BadTape line) loaded
-      run_ends {F = F} NotKnown loaded = settled_end {F = F} NotKnown loaded
-      run_ends {F = F} Memory loaded = settled_end {F = F} Memory loaded
+      pub run_ends : {F : Type 0} (end : TapeEnd D F) → FromSettled end → AheadOf settled.state.records end
+          → IsEditsEnd r g old new head edits end
+      run_ends {F = F} (DiskFault failure) loaded ahead = inr (settled_end {F = F} (DiskFault failure) loaded ahead)
+      run_ends {F = F} (Done done skipped) loaded ahead = settled_end {F = F} (Done done skipped) loaded ahead
+      run_ends {F = F} (Refused line code shown) loaded ahead = settled_end {F = F} (Refused line code shown) loaded ahead
+      run_ends {F = F} (Full count) loaded ahead = settled_end {F = F} (Full count) loaded ahead
+      run_ends {F = F} ReadFault loaded ahead = settled_end {F = F} ReadFault loaded ahead
+      run_ends {F = F} TooLong loaded ahead = settled_end {F = F} TooLong loaded ahead
+      run_ends {F = F} (BadTape line) loaded ahead = settled_end {F = F} (BadTape line) loaded ahead
+      run_ends {F = F} NotKnown loaded ahead = settled_end {F = F} NotKnown loaded ahead
+      run_ends {F = F} Memory loaded ahead = settled_end {F = F} Memory loaded ahead
+
+-- whoever is known with his password is an account
+pub known_account : (records : List Record) (head : Head) → is_known records head ≡ true → has_editor records head.account ≡ true
+known_account records head known = by (account_at records head.account) known
+  where
+    by : (account : Option Profile) → is_password account head.password ≡ true → is_some account ≡ true
+    by None known = absurd cc
+    by (Some account) known = refl

@@ -1,18 +1,24 @@
 -- Which edits of a tape a run asks for, and how their asking ends.
-use Rattle.std.specs.Prelude.{◌≡◌, ◌⊎◌, ℕ, ◌+◌, ◌-◌, ◌≤◌, nat_le, List, [], ◌∷◌, ◌++◌, length, take, drop, Option, Some, None}
+use Rattle.std.specs.Prelude.{◌≡◌, ◌⊎◌, ℕ, ◌+◌, ◌-◌, ◌<◌, ◌≤◌, ◌==◌, nat_le, List, [], ◌∷◌, ◌++◌, length, take, drop, Option, Some, None}
 use Rattle.std.specs.Prelude.{if◌then◌else◌}
 use Rattle.pv_outside.specs.Counts.{Rose}
 use Rattle.pv_outside.specs.declared.reports.Reports as reports
 use Rattle.pv_journal.specs.Journal.{LeavesOnly}
 use Rattle.pv_edits.specs.declared.record.Record.{Record}
+use Rattle.pv_edits.specs.Owner.{owner_of}
 use Rattle.pv_edits.specs.declared.wish.EditWish.{EditWish}
+use Rattle.pv_edits.specs.declared.wish.EditWish.TheVariants as wishes
 use Rattle.pv_node.specs.Parts.{Parts}
 use Rattle.pv_node.specs.Standing.{Stands, StandsFor, KeepsAll}
-use Rattle.pv_node.specs.declared.decision.Decision.TheVariants.{Answer}
+use Rattle.pv_node.specs.declared.decision.Decision.{Decision}
+use Rattle.pv_node.specs.declared.decision.Decision.TheVariants.{Answer, Store}
 use Rattle.pv_node.specs.declared.rules.Rules as rules
 use Rattle.pv_udc.specs.EditList.{EditList}
-use Rattle.pv_udc.specs.Judgement.{last_edit, judge}
+use Rattle.pv_udc.specs.Codes.{code_number, shown_number}
+use Rattle.pv_udc.specs.Judgement.{last_edit, next_number, judge}
 use Rattle.pv_udc.specs.Requests.{edit_of}
+use Rattle.pv_udc.specs.declared.refusal.Refusal.{Refusal}
+use Rattle.pv_udc.specs.declared.refusal.Refusal.TheVariants.{NotOwner, BadNumber}
 use Rattle.pv_udc.specs.declared.reply.UdcReply.{UdcReply}
 use Rattle.pv_udc.specs.declared.reply.UdcReply.TheVariants as replies
 use Rattle.pv_udc.specs.declared.request.UdcRequest.{UdcRequest}
@@ -44,6 +50,14 @@ records_above last account q edits = drop (last + 1 - q) (edit_records account q
 -- what a run of a tape asks for at these records: the edits whose numbers are above the account's last
 abbrev pub wanted_records : List Record → Head → List TapeEdit → List Record
 wanted_records records head edits = records_above (last_number_of records head.account) head.account head.first edits
+
+-- why an edit is refused whose number is above the account's next: its page is another's, or the number is not the next
+abbrev pub refusal_ahead : List Record → ℕ → EditWish → Refusal
+refusal_ahead records account (wishes.Put name frame) =
+    if owner_of records name.page == account then BadNumber (next_number records account) else NotOwner
+refusal_ahead records account (wishes.Drop name) =
+    if owner_of records name.page == account then BadNumber (next_number records account) else NotOwner
+refusal_ahead records account wish = BadNumber (next_number records account)
 
 -- ---- one line
 
@@ -86,6 +100,15 @@ pub record IsLineOn (old new : Progress) : Type 0 where
 
 -- ---- the node
 
+-- the judgement is that something is stored
+abbrev pub IsToStore : {Rec Reply : Type 0} → Decision Rec Reply → Type 0
+IsToStore (Answer reply) = ⊥
+IsToStore (Store rec reply) = Unit {0}
+
+-- the edit under this number is to be stored at a node
+abbrev pub CanAsk : {D : Type 0} → Parts D EditList Record → ℕ → ℕ → EditWish → Type 0
+CanAsk node account q wish = IsToStore (judge node.state.limits node.state.records (Edit account q wish))
+
 module _ {S D : Type 0} (r : rules.Ghosts S EditList UdcRequest Record UdcReply) (g : reports.Ghosts D)
     (old new : Parts D EditList Record) where
   -- whatever records the node stood for, it stands for these after them now
@@ -102,10 +125,16 @@ module _ {S D : Type 0} (r : rules.Ghosts S EditList UdcRequest Record UdcReply)
   abbrev pub IsAskEnd : {F : Type 0} → ℕ → ℕ → ℕ → EditWish → TapeEnd D F → Type 0
   IsAskEnd account line q wish (Refused refused code shown) = (new ≡ old) × (refused ≡ line)
       × (judge old.state.limits old.state.records (Edit account q wish) ≡ Answer (replies.Refused (record { code = code; shown = shown })))
-  IsAskEnd account line q wish (Full count) = (new ≡ old) × (count ≡ old.state.limits.records)
+  IsAskEnd account line q wish (Full count) = (new ≡ old) × (count ≡ old.state.limits.records) × CanAsk old account q wish
   IsAskEnd account line q wish (DiskFault failure) = KeepsAll r g old new × (new.hand ≡ Some (edit_of account q wish))
-      × Rose (g.faults old.journal.disk) (g.faults new.journal.disk)
+      × Rose (g.faults old.journal.disk) (g.faults new.journal.disk) × CanAsk old account q wish
   IsAskEnd account line q wish _ = ⊥
+
+  -- A line was done that asked for this, if for anything: without an edit the node is as it was, and an edit that was asked for was
+  -- to be stored.
+  abbrev pub IsLineDone : ℕ → Numbers → Option EditWish → Type 0
+  IsLineDone account n None = new ≡ old
+  IsLineDone account n (Some wish) = n.last < n.next → CanAsk old account n.next wish
 
   -- a line that asks for nothing is never in vain
   abbrev pub IsLineStop : {F : Type 0} → ℕ → ℕ → Numbers → Option EditWish → TapeEnd D F → Type 0
@@ -115,13 +144,13 @@ module _ {S D : Type 0} (r : rules.Ghosts S EditList UdcRequest Record UdcReply)
 -- ---- all lines
 
 module _ {D : Type 0} (g : reports.Ghosts D) (disk : D) (new : Parts D EditList Record) where
-  -- Why this edit of a tape, under its number, is not stored: it was refused; there are as many records as the limit; or a call of
-  -- the disk failed, the count of whose faults has risen since this disk, and the edit is in hand.
+  -- Why this edit of a tape, under its number, is not stored: it was refused; it was to be stored and there are as many records as
+  -- the limit; or a call of the disk failed, the count of whose faults has risen since this disk, and the edit is in hand.
   abbrev pub IsEditEnd : {F : Type 0} → ℕ → ℕ → TapeEdit → TapeEnd D F → Type 0
   IsEditEnd account q edit (Refused line code shown) = (line ≡ edit.line) × (new.hand ≡ None)
       × (judge new.state.limits new.state.records (Edit account q edit.wish)
       ≡ Answer (replies.Refused (record { code = code; shown = shown })))
-  IsEditEnd account q edit (Full count) = (count ≡ new.state.limits.records) × (new.hand ≡ None)
+  IsEditEnd account q edit (Full count) = (count ≡ new.state.limits.records) × (new.hand ≡ None) × CanAsk new account q edit.wish
   IsEditEnd account q edit (DiskFault failure) =
       (new.hand ≡ Some (edit_of account q edit.wish)) × Rose (g.faults disk) (g.faults new.journal.disk)
   IsEditEnd account q edit _ = ⊥
@@ -149,3 +178,10 @@ module _ {D : Type 0} (g : reports.Ghosts D) (disk : D) (new : Parts D EditList 
     abbrev pub IsLoadEnd : {F : Type 0} → List TapeEdit → TapeEnd D F → Type 0
     IsLoadEnd edits (Done stored skipped) = IsLoaded edits stored skipped
     IsLoadEnd edits end = IsStoppedAt edits end
+
+-- How a tape ends whose first number is above the account's next: its first edit, if it has one, is refused.
+abbrev pub IsTooHigh : {D F : Type 0} → List Record → Head → List TapeEdit → TapeEnd D F → Type 0
+IsTooHigh records head [] end = end ≡ Done 0 0
+IsTooHigh records head (edit ∷ later) end =
+    let refusal = refusal_ahead records head.account edit.wish in
+    end ≡ Refused edit.line (code_number refusal) (shown_number refusal)

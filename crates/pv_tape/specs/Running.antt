@@ -1,5 +1,5 @@
 -- How a run of a tape ends, and what a crash at any moment of it leaves.
-use Rattle.std.specs.Prelude.{◌≡◌, ◌⊎◌, ℕ, ◌+◌, ◌≤◌, Bool, true, false, List, [], ◌++◌, length, take, Option, None}
+use Rattle.std.specs.Prelude.{◌≡◌, ◌⊎◌, ℕ, ◌+◌, ◌<◌, ◌≤◌, Bool, true, false, List, [], ◌++◌, length, take, Option, None}
 use Rattle.pv_outside.specs.Counts.{Rose}
 use Rattle.pv_outside.specs.declared.reports.Reports as reports
 use Rattle.pv_journal.specs.Journal.{LeavesOnly}
@@ -10,11 +10,12 @@ use Rattle.pv_node.specs.Parts.{Parts}
 use Rattle.pv_node.specs.Standing.{Stands, StandsFor}
 use Rattle.pv_node.specs.declared.rules.Rules as rules
 use Rattle.pv_udc.specs.EditList.{EditList}
+use Rattle.pv_udc.specs.Judgement.{next_number}
 use Rattle.pv_udc.specs.declared.reply.UdcReply.{UdcReply}
 use Rattle.pv_udc.specs.declared.request.UdcRequest.{UdcRequest}
 use Rattle.pv_editor.specs.Say.{is_password}
 use Rattle.pv_input.specs.Reading.{IsReadWhole}
-use Rattle.pv_tape.specs.Loading.{wanted_records, IsLoadEnd}
+use Rattle.pv_tape.specs.Loading.{wanted_records, IsLoadEnd, IsTooHigh}
 use Rattle.pv_tape.specs.Tape.{TapeEdit, IsTape, IsBadAt}
 use Rattle.pv_tape.specs.declared.end.TapeEnd.{TapeEnd}
 use Rattle.pv_tape.specs.declared.end.TapeEnd.TheVariants.{ReadFault, TooLong, BadTape, NotKnown, DiskFault, Memory}
@@ -42,10 +43,13 @@ module _ {S D : Type 0} (r : rules.Ghosts S EditList UdcRequest Record UdcReply)
   abbrev pub GainsAfter : Option Record → List Record → Type 0
   GainsAfter part more = (records : List Record) → StandsFor r g old records → StandsFor r g new (records_with records part ++ more)
 
-  -- The record that was in hand was settled: it is stored, or it is not. The asking for the edits of a tape began after that.
+  -- The record that was in hand was settled: it is stored, or it is not. The asking for the edits of a tape began after that. If the
+  -- tape's first number is above the account's next then, its first edit is refused.
   abbrev pub IsSettledEnd : {F : Type 0} → Head → List TapeEdit → TapeEnd D F → Type 0
   IsSettledEnd head edits end = (part : Option Record) × IsFromHand old.hand part
       × IsLoadEnd g old.journal.disk new (GainsAfter part) (records_with old.state.records part) head edits end
+      × (next_number (records_with old.state.records part) head.account < head.first
+      → IsTooHigh (records_with old.state.records part) head edits end)
 
   -- how a run of the edits of a tape ends: a call of the disk may also fail in the settling
   abbrev pub IsEditsEnd : {F : Type 0} → Head → List TapeEdit → TapeEnd D F → Type 0

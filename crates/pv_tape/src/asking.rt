@@ -1,6 +1,6 @@
 ghost use Rattle.std.specs.Prelude.{◌≡◌, ◌<◌, ◌≤◌, ◌∷◌, [], None, OnOk, IfErr};
 ghost use Rattle.pv_udc.specs.Requests.{edit_of};
-ghost use Rattle.pv_tape.specs.Loading.{last_number_of, GainsAll, LeavesPrefix, IsAskEnd};
+ghost use Rattle.pv_tape.specs.Loading.{last_number_of, GainsAll, LeavesPrefix, CanAsk, IsAskEnd};
 
 use crate::end::TapeEnd;
 use pv_edits::EditWish;
@@ -20,14 +20,17 @@ pub(crate) fn ask_edit<D: Disk>(
     requires hand { node.old.hand ≡ None }
     requires above { last_number_of node.old.state.records editor < q }
 
-    // The edit is stored after the records, and is the editor's last. Or it is not, for the reason that is returned.
+    // The edit was to be stored, is stored after the records, and is the editor's last.
+    ensures judged { OnOk result (CanAsk node.old editor q wish) }
     ensures stored { OnOk result (GainsAll ⟦<UdcRules as Rules>⟧ D.Reports node.old node.new
         (edit_of editor q wish ∷ [])) }
     ensures last { OnOk result (last_number_of node.new.state.records editor ≡ q) }
     ensures hand { OnOk result (node.new.hand ≡ None) }
-    ensures limits { node.new.state.limits ≡ node.old.state.limits }
+
+    // Or it is not stored, for the reason that is returned. The limits stay.
     ensures stopped { IfErr result
         (IsAskEnd ⟦<UdcRules as Rules>⟧ D.Reports node.old node.new editor line q wish) }
+    ensures limits { node.new.state.limits ≡ node.old.state.limits }
 
     // A crash at any moment leaves the records, perhaps with the edit. The disk's count of faults never falls.
     ensures moments { LeavesPrefix ⟦<UdcRules as Rules>⟧ D.Reports node.old node.new

@@ -1,8 +1,10 @@
 //! The lines of a tape that was checked, one by one.
-ghost use Rattle.std.specs.Prelude.{◌≡◌, ◌+◌, ◌^◌, ◌-◌, ◌<◌, ◌≤◌, List, length, None, OnOk, IfErr};
+ghost use Rattle.std.specs.Prelude.{◌≡◌, ◌+◌, ◌^◌, ◌-◌, ◌<◌, ◌≤◌, List, length, None, true, OnOk, IfErr};
+ghost use Rattle.pv_edits.specs.Room.{has_editor};
+ghost use Rattle.pv_udc.specs.Judgement.{next_number};
 ghost use Rattle.pv_words.specs.Lines.{lines_of};
 ghost use Rattle.pv_tape.specs.Lines.{IsTapeLine};
-ghost use Rattle.pv_tape.specs.Loading.{last_number_of, wanted_records, asked_records, asked_by_line, asked_by_wish, numbers_after_edit, numbers_after_wish, progress_after, GainsAll, LeavesPrefix, IsAskEnd, IsLineOn, IsLineStop, IsLoadEnd};
+ghost use Rattle.pv_tape.specs.Loading.{last_number_of, wanted_records, asked_records, asked_by_line, asked_by_wish, numbers_after_edit, numbers_after_wish, progress_after, GainsAll, LeavesPrefix, CanAsk, IsAskEnd, IsLineOn, IsLineDone, IsLineStop, IsLoadEnd, IsTooHigh};
 ghost use Rattle.pv_tape.specs.Tape.{TapeEdit, AreGood, IsTape, second_line, wish_on_line};
 ghost use Rattle.pv_tape.specs.declared.head.TheConstants.{LAST_FIRST};
 ghost use Rattle.pv_tape.specs.declared.line.TapeLine.{TapeLine};
@@ -36,6 +38,12 @@ pub(crate) fn load<D: Disk>(node: &mut Node<UdcRules, D>, head: &Head, text: &[u
     ensures moments { (edits : List TapeEdit) → IsTape text.now head.now edits
         → LeavesPrefix ⟦<UdcRules as Rules>⟧ D.Reports node.old node.new
         (wanted_records node.old.state.records head.now edits) }
+
+    // If the first number is above the account's next, the first edit is refused.
+    ensures ahead { (edits : List TapeEdit) → IsTape text.now head.now edits
+        → has_editor node.old.state.records head.now.account ≡ true
+        → next_number node.old.state.records head.now.account < head.now.first
+        → IsTooHigh node.old.state.records head.now edits result }
 {
     let (_, rest) = first_line(text);
     load_lines(node, head, rest)
@@ -46,12 +54,18 @@ fn load_lines<D: Disk>(node: &mut Node<UdcRules, D>, head: &Head, text: &[u8]) -
     requires hand { node.old.hand ≡ None }
     requires within { length text.now ≤ LONGEST_TEXT }
     requires first { head.now.first ≤ LAST_FIRST }
+
+    // The asking ends so, and a crash at any moment of it leaves a prefix of what is asked for.
     ensures ends { (edits : List TapeEdit) → AreGood None second_line (lines_of text.now) edits
         → IsLoadEnd D.Reports node.old.journal.disk node.new
         (GainsAll ⟦<UdcRules as Rules>⟧ D.Reports node.old node.new) node.old.state.records head.now edits result }
     ensures moments { (edits : List TapeEdit) → AreGood None second_line (lines_of text.now) edits
         → LeavesPrefix ⟦<UdcRules as Rules>⟧ D.Reports node.old node.new
         (wanted_records node.old.state.records head.now edits) }
+    ensures ahead { (edits : List TapeEdit) → AreGood None second_line (lines_of text.now) edits
+        → has_editor node.old.state.records head.now.account ≡ true
+        → next_number node.old.state.records head.now.account < head.now.first
+        → IsTooHigh node.old.state.records head.now edits result }
 {
     let mut progress = first_progress(node.state(), head);
     let mut rest = text;
@@ -134,6 +148,10 @@ fn load_line<D: Disk>(
     ensures hand { OnOk result (node.new.hand ≡ None) }
     ensures last { OnOk result (progress.new.numbers.last ≡ last_number_of node.new.state.records account) }
 
+    // An edit that was asked for was to be stored.
+    ensures done { OnOk result (IsLineDone ⟦<UdcRules as Rules>⟧ D.Reports node.old node.new account
+        progress.old.numbers (wish_on_line progress.old.working line.now)) }
+
     // Or it is not, for the reason that is returned.
     ensures stopped { IfErr result
         (IsLineStop ⟦<UdcRules as Rules>⟧ D.Reports node.old node.new account progress.old.line
@@ -171,6 +189,8 @@ fn load_wish<D: Disk>(
         (asked_by_wish account numbers.old wish)) }
     ensures hand { OnOk result (node.new.hand ≡ None) }
     ensures last { OnOk result (numbers.new.last ≡ last_number_of node.new.state.records account) }
+    ensures done { OnOk result (IsLineDone ⟦<UdcRules as Rules>⟧ D.Reports node.old node.new account
+        numbers.old wish) }
 
     // Or it is not, for the reason that is returned.
     ensures stopped { IfErr result (IsLineStop ⟦<UdcRules as Rules>⟧ D.Reports node.old node.new account
@@ -207,6 +227,8 @@ fn load_edit<D: Disk>(
         (asked_records account numbers.old wish)) }
     ensures hand { OnOk result (node.new.hand ≡ None) }
     ensures last { OnOk result (numbers.new.last ≡ last_number_of node.new.state.records account) }
+    ensures judged { OnOk result (numbers.old.last < numbers.old.next
+        → CanAsk node.old account numbers.old.next wish) }
 
     // Or it is not, for the reason that is returned.
     ensures stopped { IfErr result (IsAskEnd ⟦<UdcRules as Rules>⟧ D.Reports node.old node.new account

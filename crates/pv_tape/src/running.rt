@@ -1,5 +1,6 @@
 //! The run of a tape: it is read and checked whole, and then its edits are asked for in order.
-ghost use Rattle.std.specs.Prelude.{◌≡◌, ℕ, ◌<◌, ◌≤◌, List, length};
+ghost use Rattle.std.specs.Prelude.{◌≡◌, ℕ, ◌<◌, ◌≤◌, List, length, true};
+ghost use Rattle.pv_edits.specs.Room.{has_editor};
 ghost use Rattle.pv_input.specs.Reading.{HasRead};
 ghost use Rattle.pv_input.specs.declared.text.TheConstants.{LONGEST_TEXT};
 ghost use Rattle.pv_tape.specs.Running.{is_known, IsEditsEnd, IsTextRun, IsTapeRun, LeavesPart};
@@ -65,6 +66,10 @@ fn run_edits<D: Disk>(node: &mut Node<UdcRules, D>, head: &Head, text: &[u8]) ->
     requires some { 0 < length text.now }
     requires within { length text.now ≤ LONGEST_TEXT }
     requires first { head.now.first ≤ LAST_FIRST }
+    requires known { has_editor node.old.state.records head.now.account ≡ true }
+
+    // The run ends so. A crash at any moment leaves the records, perhaps with the one in hand, and then a prefix of what
+    // is asked for.
     ensures ends { (edits : List TapeEdit) → IsTape text.now head.now edits
         → IsEditsEnd ⟦<UdcRules as Rules>⟧ D.Reports node.old node.new head.now edits result }
     ensures moments { (edits : List TapeEdit) → IsTape text.now head.now edits

@@ -17,6 +17,12 @@ returns-in-Stored-clause-last g c =
     (λ state edit place. refl) g.row.D-Failure.Denot _ c.in-Ok.told c.in-Stored.field-0 refl
     (c.in-Ok.ensures.answers c.requires.hand) c.in-Stored.is).last
 
+pub returns-in-Stored-clause-judged : goal.returns-in-Stored-clause-judged
+returns-in-Stored-clause-judged g c =
+    (was_stored udc.ghosts g.D.Reports c.args.node.now c.ask.new.self c.args.editor c.args.q c.args.wish (λ state. refl)
+    (λ state edit place. refl) g.row.D-Failure.Denot _ c.in-Ok.told c.in-Stored.field-0 refl
+    (c.in-Ok.ensures.answers c.requires.hand) c.in-Stored.is).to_store
+
 pub returns-in-Stored-clause-moments : goal.returns-in-Stored-clause-moments
 returns-in-Stored-clause-moments g c =
     asked_leaves udc.ghosts g.D.Reports c.args.node.now c.ask.new.self c.args.editor c.args.q c.args.wish (λ state. refl)
@@ -63,7 +69,7 @@ returns-in-Err-Disk-clause-stopped g c =
     (λ state edit place. refl) _ c.in-Err-Disk.failure refl
     (rw c.in-Err-Disk.field-0-is at (c.in-Err-Disk.ensures.answers c.requires.hand)) in
     let spends = rw c.in-Err-Disk.field-0-is at c.in-Err-Disk.ensures.spends in
-    (was.0, was.1, spends.spends.failed tt)
+    (was.0, was.1, spends.spends.failed tt, was.2)
 
 pub returns-in-Err-Disk-clause-moments : goal.returns-in-Err-Disk-clause-moments
 returns-in-Err-Disk-clause-moments g c =

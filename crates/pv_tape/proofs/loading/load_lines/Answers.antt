@@ -1,10 +1,11 @@
-use Rattle.std.proofs.Common.{◌≡◌, None, length, refl, ap, ◌∙◌, arith, rules}
+use Rattle.std.proofs.Common.{◌≡◌, None, length, refl, ap, subst, ◌∙◌, arith, rules}
 use Rattle.pv_udc.specs.EditList.{EditList}
 use Rattle.pv_udc.specs.contracts.rules.UdcRulesRules.TheImpl as udc
 use Rattle.pv_words.specs.Lines.{lines_of}
 use Rattle.pv_tape.specs.Loading.{last_number_of}
 use Rattle.pv_tape.specs.Tape.{second_line}
 use Rattle.pv_tape.specs.declared.progress.Progress.{Progress}
+use Rattle.pv_tape.proofs.Ahead.{IsWaiting, waits_first, waits_on, stops_ahead, none_ahead}
 use Rattle.pv_tape.proofs.Loaded.{going_at, going_first, going_last, line_done, line_leaves, line_stopped, none_leaves, no_lines}
 use Rattle.pv_tape.proofs.loading.load_lines.Goals as goal
 
@@ -28,6 +29,8 @@ loop-rest-init g c =
       numbers = (let next = ap (λ (p : Progress). p.numbers.next) is in omega (arith, next, c.requires.within, c.requires.first));
       stored = (let next = ap (λ (p : Progress). p.numbers.next) is in let stored = ap (λ (p : Progress). p.numbers.stored) is in
           omega (arith, next, stored));
+      waiting = λ has ahead.
+          waits_first udc.ghosts g.D.Reports c.args.head.now c.args.node.now (lines_of c.args.text.now) c.first_progress-progress.result is;
       counted = omega arith;
     }
 
@@ -49,6 +52,13 @@ loop-rest-preserved g c =
       lines = omega (arith, inv.lines, on.line, c.first_line.ensures.shorter);
       numbers = omega (arith, inv.numbers, on.next, c.first_line.ensures.shorter);
       stored = omega (arith, inv.stored, on.next, on.stored);
+      waiting = λ has ahead.
+          waits_on udc.ghosts g.D.Reports c.args.head.now c.args.node.now (lines_of c.args.text.now) has ahead c.loop-rest.node
+          c.loop-rest.progress c.first_line.result.0.now (lines_of c.first_line.result.1.now)
+          (subst (IsWaiting udc.ghosts g.D.Reports c.args.head.now c.args.node.now (lines_of c.args.text.now) c.loop-rest.node
+          c.loop-rest.progress) c.first_line.ensures.line (inv.waiting has ahead))
+          c.load_line.new.node c.load_line.new.progress c.checked_line-line.result c.checked_line-line.ensures c.in-Ok.ensures.ok
+          c.in-Ok.ensures.done;
       counted = omega (arith, inv.counted, c.load_line.ensures.counted);
     }
 
@@ -72,6 +82,14 @@ returns-in-Err-clause-moments g c = λ edits good.
     c.first_line.result.0.now (lines_of c.first_line.result.1.now) was c.checked_line-line.result
     (c.checked_line-line.ensures was.good.0 was.good.2) c.load_line.ensures.moments
 
+pub returns-in-Err-clause-ahead : goal.returns-in-Err-clause-ahead
+returns-in-Err-clause-ahead g c = λ edits good has ahead.
+    stops_ahead udc.ghosts g.D.Reports c.args.head.now c.args.node.now (lines_of c.args.text.now) has ahead c.loop-rest.node
+    c.loop-rest.progress c.first_line.result.0.now (lines_of c.first_line.result.1.now)
+    (subst (IsWaiting udc.ghosts g.D.Reports c.args.head.now c.args.node.now (lines_of c.args.text.now) c.loop-rest.node
+    c.loop-rest.progress) c.first_line.ensures.line (c.loop-rest.invariant.waiting has ahead))
+    c.load_line.new.node c.checked_line-line.result c.in-Err.end c.checked_line-line.ensures c.in-Err.ensures.stopped edits good
+
 -- no line is left
 pub returns-clause-ends : goal.returns-clause-ends
 returns-clause-ends g c = λ edits good.
@@ -83,3 +101,11 @@ returns-clause-ends g c = λ edits good.
 
 pub returns-clause-moments : goal.returns-clause-moments
 returns-clause-moments g c = λ edits good. (c.loop-rest.invariant.going edits good).moments
+
+pub returns-clause-ahead : goal.returns-clause-ahead
+returns-clause-ahead g c = λ edits good has ahead.
+    let none : length c.loop-rest.rest.now ≡ 0 = search rules in
+    none_ahead udc.ghosts g.D.Reports c.args.head.now c.args.node.now (lines_of c.args.text.now) g.row.D-Failure.Denot c.loop-rest.node
+    c.loop-rest.progress
+    (subst (IsWaiting udc.ghosts g.D.Reports c.args.head.now c.args.node.now (lines_of c.args.text.now) c.loop-rest.node
+    c.loop-rest.progress) (no_lines c.loop-rest.rest.now none) (c.loop-rest.invariant.waiting has ahead)) edits good

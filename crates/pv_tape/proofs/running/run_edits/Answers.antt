@@ -1,6 +1,6 @@
 use Rattle.std.proofs.Common.{refl, inl}
 use Rattle.pv_udc.specs.contracts.rules.UdcRulesRules.TheImpl as udc
-use Rattle.pv_tape.proofs.Settled.{run_ends, run_leaves, settling_leaves}
+use Rattle.pv_tape.proofs.Settled.{account_settled, run_ends, run_leaves, settling_leaves}
 use Rattle.pv_tape.proofs.running.run_edits.Goals as goal
 
 -- the node was settled
@@ -9,6 +9,8 @@ returns-in-Ok-clause-ends g c = λ edits is.
     run_ends udc.ghosts g.D.Reports (λ state records stands. stands) (λ state edit place. refl) c.args.head.now edits c.args.node.now
     c.settle.new.self c.load.new.node c.in-Ok.field-0 c.in-Ok.ensures.settled c.settle.ensures.reads_only.spends.counted c.load.result
     (c.load.ensures.ends edits is)
+    (c.load.ensures.ahead edits is (account_settled udc.ghosts g.D.Reports (λ state records stands. stands) (λ state edit place. refl)
+    c.args.head.now edits c.args.node.now c.settle.new.self c.in-Ok.field-0 c.in-Ok.ensures.settled c.requires.known))
 
 pub returns-in-Ok-clause-moments : goal.returns-in-Ok-clause-moments
 returns-in-Ok-clause-moments g c = λ edits is.
