@@ -1,8 +1,7 @@
 -- What a crash leaves while a disk is opened and a tape is loaded into it, and after it.
-use Rattle.std.proofs.Common.{◌≡◌, ◌⊎◌, inl, inr, ℕ, Bool, List, [], ◌++◌, take, Option, Some, None, IsSome, IfSome}
+use Rattle.std.proofs.Common.{◌≡◌, inl, inr, ℕ, Bool, List, ◌++◌, length, Option, Some, None, IsSome, IfSome}
 use Rattle.std.proofs.Common.{refl, sym, ap, subst, ◌∙◌}
 use Rattle.std.proofs.lemmas.List.{append-nil}
-use Rattle.std.specs.Io.KnownBytes.{Appends}
 use Rattle.pv_outside.specs.declared.reports.Reports as reports
 use Rattle.pv_journal.specs.Journal.{EachImage, LeavesOnly}
 use Rattle.pv_journal.proofs.Moments.{only_weaker, only_then}
@@ -14,14 +13,16 @@ use Rattle.pv_node.specs.declared.rules.Rules as rules
 use Rattle.pv_udc.specs.EditList.{EditList}
 use Rattle.pv_udc.specs.declared.reply.UdcReply.{UdcReply}
 use Rattle.pv_udc.specs.declared.request.UdcRequest.{UdcRequest}
+use Rattle.pv_tape.specs.Laws.{lone_run, records_after_run}
 use Rattle.pv_tape.specs.Loading.{wanted_records}
 use Rattle.pv_tape.specs.Running.{IsFromHand, IsTapeRun, LeavesPart}
 use Rattle.pv_tape.specs.Tape.{TapeEdit, IsTape}
 use Rattle.pv_tape.specs.declared.end.TapeEnd.{TapeEnd}
 use Rattle.pv_tape.specs.declared.end.TapeEnd.TheVariants as loading
 use Rattle.pv_tape.specs.declared.head.Head.{Head}
+use Rattle.pv_tape.proofs.CallerLemmas.{after_run, after_whole_run, whole_run}
 use Rattle.pv_office.specs.Status.{tape_status}
-use Rattle.pv_office.specs.Tapes.{HasStoredAll, EndsProgram, LeavesTape, KeepsTape}
+use Rattle.pv_office.specs.Tapes.{HasStoredAll, EndsProgram, KeepsTape}
 use Rattle.pv_office.specs.declared.status.OfficeStatus.{OfficeStatus}
 
 -- a run that ended otherwise than with all edits stored ends the program with its own status, and nothing is written
@@ -64,15 +65,19 @@ module _ {S D : Type 0} (r : rules.Ghosts S EditList UdcRequest Record UdcReply)
   module _ (head : Head) (edits : List TapeEdit) where
     -- these records and a prefix of what the tape asks for
     abbrev Left : List Record → List ℕ → Type 0
-    Left records image = (n : ℕ) × Stands r image (records ++ take n (wanted_records records head edits))
+    Left records image = (n : ℕ) × Stands r image (records_after_run head edits records (lone_run n))
+
+    none_left : (records : List Record) (image : List ℕ) → Stands r image records → Left records image
+    none_left records image stands =
+        (0, subst (λ (l : List Record). Stands r image l) (sym (append-nil records) ∙ after_run head edits records 0) stands)
 
     left_of_part : (records : List Record) (image : List ℕ) → (part : Option Record) × IsFromHand opened.hand part × (n : ℕ)
-        × Stands r image (records_with records part ++ take n (wanted_records (records_with records part) head edits))
+        × Stands r image (records_after_run head edits (records_with records part) (lone_run n))
         → Left records image
     left_of_part records image (part, from, n, stands) = (
       n,
-      subst (λ (p : Option Record). Stands r image
-          (records_with records p ++ take n (wanted_records (records_with records p) head edits))) (without_hand part from) stands,
+      subst (λ (p : Option Record). Stands r image (records_after_run head edits (records_with records p) (lone_run n)))
+          (without_hand part from) stands,
     )
 
     -- from the opening to the end of the run
@@ -82,11 +87,10 @@ module _ {S D : Type 0} (r : rules.Ghosts S EditList UdcRequest Record UdcReply)
         → LeavesOnly g disk loaded.journal.disk (Left others)
     opened_leaves records stands opening leaves others each =
         let first = only_weaker g {old = disk} {new = opened.journal.disk} {P = g.may_leave disk} {Q = Left others}
-        (λ known image left.
-        (0, subst (λ (l : List Record). Stands r image l) (sym (append-nil others)) (each known image left))) opening in
+        (λ known image left. none_left others image (each known image left)) opening in
         let second = only_weaker g {old = opened.journal.disk} {new = loaded.journal.disk}
         {P = λ image. (part : Option Record) × IsFromHand opened.hand part × (n : ℕ)
-        × Stands r image (records_with records part ++ take n (wanted_records (records_with records part) head edits))}
+        × Stands r image (records_after_run head edits (records_with records part) (lone_run n))}
         {Q = Left others}
         (λ known image left.
         subst (λ (l : List Record). Left l image)
@@ -110,19 +114,24 @@ module _ {S D : Type 0} (r : rules.Ghosts S EditList UdcRequest Record UdcReply)
           head,
           edits,
           run.1.2,
-          λ records each known image is_image.
-              let reported = opening.time.reported ((leaves head edits run.1.2 first stands_first).time.reported known) in
-              let stands = found records (disk_stands records each reported) in
-              let gained = settled.2.gained records stands in
-              let same : records_with opened.state.records part ≡ records_with records part =
-              ap (λ (l : List Record). records_with l part) (stood opened.state records stands.state) in
-              let either = gained.images known image is_image in
-              let alone = subst (λ (hand : Option Record). StandsEither r
-              (records_with records part ++ wanted_records (records_with opened.state.records part) head edits) hand image)
-              settled.2.hand either in
-              let those = subst (λ (l : List Record). Stands r image (records_with records part ++ wanted_records l head edits)) same alone in
-              subst (λ (p : Option Record). Stands r image (records_with records p ++ wanted_records (records_with records p) head edits))
-              none those,
+          λ records each. (
+            length (wanted_records records head edits),
+            whole_run head edits records,
+            λ known image is_image.
+                let reported = opening.time.reported ((leaves head edits run.1.2 first stands_first).time.reported known) in
+                let stands = found records (disk_stands records each reported) in
+                let gained = settled.2.gained records stands in
+                let same : records_with opened.state.records part ≡ records_with records part =
+                ap (λ (l : List Record). records_with l part) (stood opened.state records stands.state) in
+                let either = gained.images known image is_image in
+                let alone = subst (λ (hand : Option Record). StandsEither r
+                (records_with records part ++ wanted_records (records_with opened.state.records part) head edits) hand image)
+                settled.2.hand either in
+                let those = subst (λ (l : List Record). Stands r image (records_with records part ++ wanted_records l head edits)) same alone in
+                let all = subst (λ (p : Option Record). Stands r image
+                (records_with records p ++ wanted_records (records_with records p) head edits)) none those in
+                subst (λ (l : List Record). Stands r image l) (after_whole_run head edits records) all,
+          ),
         )
     opened_keeps left ended before now loading.ReadFault run done = absurd done
     opened_keeps left ended before now loading.TooLong run done = absurd done

@@ -15,7 +15,7 @@ use Rattle.pv_udc.specs.EditList.{EditList}
 use Rattle.pv_udc.specs.declared.reply.UdcReply.{UdcReply}
 use Rattle.pv_udc.specs.declared.request.UdcRequest.{UdcRequest}
 use Rattle.pv_input.specs.Reading.{HasRead}
-use Rattle.pv_tape.specs.Loading.{wanted_records}
+use Rattle.pv_tape.specs.Laws.{lone_run, IsWhole, records_after_run}
 use Rattle.pv_tape.specs.Running.{IsTapeRun, LeavesPart}
 use Rattle.pv_tape.specs.Tape.{TapeEdit, IsTape}
 use Rattle.pv_tape.specs.declared.end.TapeEnd.{TapeEnd}
@@ -69,17 +69,17 @@ module _ {S D : Type 0} (r : rules.Ghosts S EditList UdcRequest Record UdcReply)
     abbrev StoodFor : List Record → Type 0
     StoodFor records = EachImage g disk (λ image. Stands r image records)
 
-    -- If the disk stood for these records, a crash at any moment leaves them, and after them a prefix of what the tape asks for. These
-    -- are its edits whose numbers are above the account's last.
+    -- If the disk stood for these records, a crash at any moment leaves what the law of runs speaks of: the records, and after them a
+    -- prefix of the edits. These are the tape's whose numbers are above the account's last.
     abbrev pub LeavesTape : List ℕ → Type 0
     LeavesTape text = (head : Head) (edits : List TapeEdit) (records : List Record) → IsTape text head edits → StoodFor records
-        → LeavesOnly g disk new (λ image. (n : ℕ) × Stands r image (records ++ take n (wanted_records records head edits)))
+        → LeavesOnly g disk new (λ image. (n : ℕ) × Stands r image (records_after_run head edits records (lone_run n)))
 
-    -- and once all is done, a crash leaves them all
+    -- and once all is done, a crash leaves those of a whole run
     abbrev pub KeepsTape : List ℕ → Type 0
     KeepsTape text = (head : Head) × (edits : List TapeEdit) × IsTape text head edits
-        × ((records : List Record) → StoodFor records
-        → EachImage g new (λ image. Stands r image (records ++ wanted_records records head edits)))
+        × ((records : List Record) → StoodFor records → (n : ℕ) × IsWhole head edits records (lone_run n)
+        × EachImage g new (λ image. Stands r image (records_after_run head edits records (lone_run n))))
 
     -- the disk was opened as a node, and this one ran the tape
     pub record LoadsFrom {F : Type 0} (s : Streams) (status : OfficeStatus D F) (text : List ℕ) : Type 0 where

@@ -1,5 +1,6 @@
 mod Ahead
 mod AskedEdit
+pub mod CallerLemmas
 mod Facts
 mod Going
 mod Loaded

@@ -14,8 +14,8 @@ use Rattle.pv_udc.specs.Requests.{edit_of}
 use Rattle.pv_udc.specs.Judgement.{last_edit}
 use Rattle.pv_udc.proofs.CallerLemmas.{last_edit-his, last_edit-others, last_edit-there}
 use Rattle.pv_editor.specs.Say.{number_of_last}
-use Rattle.pv_tape.specs.Laws.{Run, IsWhole, records_after_run, records_after_runs, HasNoEdits, HasOnlyOthers, is_from, edits_from}
-use Rattle.pv_tape.specs.Loading.{last_number_of, edit_records}
+use Rattle.pv_tape.specs.Laws.{Run, lone_run, IsWhole, records_after_run, records_after_runs, HasNoEdits, HasOnlyOthers, is_from, edits_from}
+use Rattle.pv_tape.specs.Loading.{last_number_of, edit_records, wanted_records}
 use Rattle.pv_tape.specs.Tape.{TapeEdit}
 use Rattle.pv_tape.specs.declared.head.Head.{Head}
 use Rattle.pv_tape.proofs.Progressing.{length_drop}
@@ -58,6 +58,26 @@ take_all zero [] over = refl
 take_all zero (y ∷ ys) over = absurd (omega (arith, over))
 take_all (suc k) [] over = refl
 take_all (suc k) (y ∷ ys) over = ap (λ (l : List _). y ∷ l) (take_all k ys (omega (arith, over)))
+
+-- ---- a run alone
+
+-- before which nothing else was stored: what is left of it is the records and the edits that are stored
+pub after_run : (head : Head) (edits : List TapeEdit) (records : List Record) (n : ℕ)
+    → records ++ take n (wanted_records records head edits) ≡ records_after_run head edits records (lone_run n)
+after_run head edits records n =
+    ap (λ (l : List Record). l ++ take n (wanted_records l head edits)) (sym (append-nil records))
+
+-- all of them are, if it is whole
+pub whole_run : (head : Head) (edits : List TapeEdit) (records : List Record)
+    → IsWhole head edits records (lone_run (length (wanted_records records head edits)))
+whole_run head edits records = ap (λ (l : List Record). length (wanted_records l head edits)) (sym (append-nil records))
+
+pub after_whole_run : (head : Head) (edits : List TapeEdit) (records : List Record)
+    → records ++ wanted_records records head edits
+    ≡ records_after_run head edits records (lone_run (length (wanted_records records head edits)))
+after_whole_run head edits records =
+    ap (λ (l : List Record). records ++ l) (sym (take_all _ (wanted_records records head edits) (omega arith)))
+    ∙ after_run head edits records (length (wanted_records records head edits))
 
 -- ---- an edit of the tape
 

@@ -18,6 +18,7 @@ use Rattle.pv_udc.specs.EditList.{EditList, with_record}
 use Rattle.pv_udc.specs.Judgement.{next_number}
 use Rattle.pv_udc.specs.declared.reply.UdcReply.{UdcReply}
 use Rattle.pv_udc.specs.declared.request.UdcRequest.{UdcRequest}
+use Rattle.pv_tape.specs.Laws.{lone_run, records_after_run}
 use Rattle.pv_tape.specs.Loading.{wanted_records, GainsAll, LeavesPrefix, IsLoadEnd, IsEditEnd, IsStoppedAt, IsTooHigh}
 use Rattle.pv_editor.specs.Say.{is_password}
 use Rattle.pv_tape.specs.Running.{IsFromHand, is_known, LeavesPart, GainsAfter, IsSettledEnd, IsEditsEnd}
@@ -26,6 +27,7 @@ use Rattle.pv_tape.specs.declared.end.TapeEnd.{TapeEnd}
 use Rattle.pv_tape.specs.declared.end.TapeEnd.TheVariants.{Done, ReadFault, TooLong, BadTape, NotKnown, Refused, Full, DiskFault, Memory}
 use Rattle.pv_tape.specs.declared.head.Head.{Head}
 use Rattle.pv_tape.proofs.Loaded.{rose_since}
+use Rattle.pv_tape.proofs.Runs.{after_run}
 
 module _ {S D : Type 0} (r : rules.Ghosts S EditList UdcRequest Record UdcReply) (g : reports.Ghosts D)
     (stood : (state : EditList) (records : List Record) → r.stands state records → state.records ≡ records)
@@ -60,16 +62,19 @@ module _ {S D : Type 0} (r : rules.Ghosts S EditList UdcRequest Record UdcReply)
   -- the records, perhaps with the one in hand, are a beginning of what the run leaves
   abbrev Left : List Record → List ℕ → Type 0
   Left records image = (part : Option Record) × IsFromHand old.hand part × (n : ℕ)
-      × Stands r image (records_with records part ++ take n (wanted_records (records_with records part) head edits))
+      × Stands r image (records_after_run head edits (records_with records part) (lone_run n))
+
+  none_stored : (records : List Record) (image : List ℕ) → Stands r image records
+      → Stands r image (records_after_run head edits records (lone_run 0))
+  none_stored records image stands =
+      subst (λ (l : List Record). Stands r image l) (sym (append-nil records) ∙ after_run head edits records 0) stands
 
   either_left : (hand : Option Record) → old.hand ≡ hand → (records : List Record) (image : List ℕ)
       → StandsEither r records hand image → Left records image
-  either_left None is records image stands =
-      (None, inl refl, 0, subst (λ (l : List Record). Stands r image l) (sym (append-nil records)) stands)
-  either_left (Some rec) is records image (inl stands) =
-      (None, inl refl, 0, subst (λ (l : List Record). Stands r image l) (sym (append-nil records)) stands)
+  either_left None is records image stands = (None, inl refl, 0, none_stored records image stands)
+  either_left (Some rec) is records image (inl stands) = (None, inl refl, 0, none_stored records image stands)
   either_left (Some rec) is records image (inr stands) =
-      (Some rec, inr (sym is), 0, subst (λ (l : List Record). Stands r image l) (sym (append-nil (records ++ rec ∷ []))) stands)
+      (Some rec, inr (sym is), 0, none_stored (records ++ rec ∷ []) image stands)
 
   -- while it is settled
   pub settling_leaves : ((records : List Record) → StandsFor r g old records
@@ -96,8 +101,9 @@ module _ {S D : Type 0} (r : rules.Ghosts S EditList UdcRequest Record UdcReply)
           stored,
           of_hand stored is,
           left.0,
-          subst (λ (l : List Record). Stands r image (records_with records stored ++ take left.0 (wanted_records l head edits)))
-              same left.1,
+          subst (λ (l : List Record). Stands r image l) (after_run head edits (records_with records stored) left.0)
+              (subst (λ (l : List Record). Stands r image (records_with records stored ++ take left.0 (wanted_records l head edits)))
+              same left.1),
         )) now in
         only_then g {first = old.journal.disk} {second = settled.journal.disk} {third = new.journal.disk}
         (settling_leaves settling records stands) weaker.time weaker.now

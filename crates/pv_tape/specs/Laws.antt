@@ -13,6 +13,10 @@ pub record Run : Type 0 where
   pub others : List Record
   pub stored : ℕ
 
+-- the run of which this many edits are stored, and before which nothing else was
+abbrev pub lone_run : ℕ → Run
+lone_run stored = record { others = []; stored = stored }
+
 -- what a run asks for
 abbrev pub wanted_in_run : Head → List TapeEdit → List Record → Run → List Record
 wanted_in_run head edits records run = wanted_records (records ++ run.others) head edits

@@ -1,5 +1,5 @@
 -- How a run of a tape ends, and what a crash at any moment of it leaves.
-use Rattle.std.specs.Prelude.{◌≡◌, ◌⊎◌, ℕ, ◌+◌, ◌<◌, ◌≤◌, Bool, true, false, List, [], ◌++◌, length, take, Option, None}
+use Rattle.std.specs.Prelude.{◌≡◌, ◌⊎◌, ℕ, ◌+◌, ◌<◌, ◌≤◌, Bool, true, false, List, [], ◌++◌, length, Option, None}
 use Rattle.pv_outside.specs.Counts.{Rose}
 use Rattle.pv_outside.specs.declared.reports.Reports as reports
 use Rattle.pv_journal.specs.Journal.{LeavesOnly}
@@ -15,7 +15,8 @@ use Rattle.pv_udc.specs.declared.reply.UdcReply.{UdcReply}
 use Rattle.pv_udc.specs.declared.request.UdcRequest.{UdcRequest}
 use Rattle.pv_editor.specs.Say.{is_password}
 use Rattle.pv_input.specs.Reading.{IsReadWhole}
-use Rattle.pv_tape.specs.Loading.{wanted_records, IsLoadEnd, IsTooHigh}
+use Rattle.pv_tape.specs.Laws.{lone_run, records_after_run}
+use Rattle.pv_tape.specs.Loading.{IsLoadEnd, IsTooHigh}
 use Rattle.pv_tape.specs.Tape.{TapeEdit, IsTape, IsBadAt}
 use Rattle.pv_tape.specs.declared.end.TapeEnd.{TapeEnd}
 use Rattle.pv_tape.specs.declared.end.TapeEnd.TheVariants.{ReadFault, TooLong, BadTape, NotKnown, DiskFault, Memory}
@@ -32,12 +33,12 @@ is_known records head = is_password (account_at records head.account) head.passw
 
 module _ {S D : Type 0} (r : rules.Ghosts S EditList UdcRequest Record UdcReply) (g : reports.Ghosts D)
     (old new : Parts D EditList Record) where
-  -- A crash at any moment of the run leaves the records that there were, perhaps with the one that was in hand. After them it leaves
-  -- a prefix of those edits of the tape whose numbers are above the account's last.
+  -- A crash at any moment of the run leaves what the law of runs speaks of: the records that there were, perhaps with the one that was
+  -- in hand, and after them a prefix of the edits. These are the tape's whose numbers are above the account's last.
   abbrev pub LeavesPart : Head → List TapeEdit → Type 0
   LeavesPart head edits = (records : List Record) → StandsFor r g old records
       → LeavesOnly g old.journal.disk new.journal.disk (λ image. (part : Option Record) × IsFromHand old.hand part × (n : ℕ)
-      × Stands r image (records_with records part ++ take n (wanted_records (records_with records part) head edits)))
+      × Stands r image (records_after_run head edits (records_with records part) (lone_run n)))
 
   -- the node stands for the records that there were, with this one, and for these after them
   abbrev pub GainsAfter : Option Record → List Record → Type 0
