@@ -187,20 +187,20 @@ module _ {S D : Type 0} (r : rules.Ghosts S EditList UdcRequest Record UdcReply)
               let refusal = refusal_ahead old.state.records head.account wish in
               let judged = judged_ahead old.state.limits old.state.records head.account p.numbers.next (rw waiting.next ahead)
               wish has in
-              let said = rw waiting.state at stopped.2 in
+              let said = rw waiting.state at stopped.1.2 in
               let codes : record { code = code; shown = shown } ≡ code_of refusal = ap code_in (sym said ∙ judged) in
               let code_is : code ≡ code_number refusal = ap (λ (c : Code). c.code) codes in
               let shown_is : shown ≡ shown_number refusal = ap (λ (c : Code). c.shown) codes in
               subst (λ (l : List TapeEdit). IsTooHigh {D = D} {F = F} old.state.records head l (ends.Refused at_line code shown))
-              (sym (first_edit wish some)) (rw (stopped.1, code_is, shown_is) refl)
-          by (Some wish) (ends.Full count) some stopped = absurd (cannot_ask wish stopped.2)
-          by (Some wish) (ends.DiskFault failure) some stopped = absurd (cannot_ask wish stopped.3)
-          by (Some wish) (ends.Done stored skipped) some stopped = absurd stopped
-          by (Some wish) ends.ReadFault some stopped = absurd stopped
-          by (Some wish) ends.TooLong some stopped = absurd stopped
-          by (Some wish) (ends.BadTape line) some stopped = absurd stopped
-          by (Some wish) ends.NotKnown some stopped = absurd stopped
-          by (Some wish) ends.Memory some stopped = absurd stopped
+              (sym (first_edit wish some)) (rw (stopped.1.1, code_is, shown_is) refl)
+          by (Some wish) (ends.Full count) some stopped = absurd (cannot_ask wish stopped.1.2)
+          by (Some wish) (ends.DiskFault failure) some stopped = absurd (cannot_ask wish stopped.1.3)
+          by (Some wish) (ends.Done stored skipped) some stopped = absurd stopped.1
+          by (Some wish) ends.ReadFault some stopped = absurd stopped.1
+          by (Some wish) ends.TooLong some stopped = absurd stopped.1
+          by (Some wish) (ends.BadTape line) some stopped = absurd stopped.1
+          by (Some wish) ends.NotKnown some stopped = absurd stopped.1
+          by (Some wish) ends.Memory some stopped = absurd stopped.1
 
   -- before the first line
   abbrev first_progress : Progress

@@ -1,3 +1,4 @@
+mod AfterRun
 mod Ahead
 mod AskedEdit
 pub mod CallerLemmas

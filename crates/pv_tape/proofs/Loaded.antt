@@ -1,5 +1,5 @@
 -- A run begins, ends after its last line, or stops at one.
-use Rattle.std.proofs.Common.{◌≡◌, ◌⊎◌, inl, inr, ℕ, ◌+◌, ◌-◌, ◌≤◌, List, [], ◌∷◌, ◌++◌, length, take, Option, Some, None, refl, sym, ap}
+use Rattle.std.proofs.Common.{◌≡◌, ◌⊎◌, inl, inr, ℕ, ◌+◌, ◌-◌, ◌<◌, ◌≤◌, List, [], ◌∷◌, ◌++◌, length, take, Option, Some, None, refl, sym, ap}
 use Rattle.std.proofs.Common.{subst, ◌∙◌, arith}
 use Rattle.std.proofs.lemmas.List.{append-nil}
 use Rattle.std.proofs.Math.Seq.{drop-nil}
@@ -152,6 +152,10 @@ module _ {S D : Type 0} (r : rules.Ghosts S EditList UdcRequest Record UdcReply)
     gained_still same = subst (λ (n : Parts D EditList Record). GainsAll r g old n (wanted_records old.state.records head going.before))
         (sym same) going.gained
 
+    -- the number of an edit that was asked for is above the account's last at first
+    asked_now : p.numbers.last < p.numbers.next → last < head.first + length going.before
+    asked_now above = omega (arith, above, going.numbered.next, going.numbered.ahead)
+
     by_wish : {F : Type 0} (wish : Option EditWish) (end : TapeEnd D F)
         → going.later ≡ edits_with p.line wish going.good.1 → IsLineStop r g node new head.account p.line p.numbers wish end
         → LoadEnd new end
@@ -161,19 +165,21 @@ module _ {S D : Type 0} (r : rules.Ghosts S EditList UdcRequest Record UdcReply)
       edit = at wish;
       later = going.good.1;
       edits_are = edits_then wish is;
-      gained = gained_still stop.0;
-      ended = (stop.1, ap (λ (n : Parts D EditList Record). n.hand) stop.0 ∙ hand, rw (stop.0, ← going.numbered.next) stop.2);
+      asked = asked_now stop.0;
+      gained = gained_still stop.1.0;
+      ended = (stop.1.1, ap (λ (n : Parts D EditList Record). n.hand) stop.1.0 ∙ hand, rw (stop.1.0, ← going.numbered.next) stop.1.2);
     }
     by_wish (Some wish) (Full count) is stop = record {
       before = going.before;
       edit = at wish;
       later = going.good.1;
       edits_are = edits_then wish is;
-      gained = gained_still stop.0;
+      asked = asked_now stop.0;
+      gained = gained_still stop.1.0;
       ended = (
-        stop.1 ∙ ap (λ (n : Parts D EditList Record). n.state.limits.records) (sym stop.0),
-        ap (λ (n : Parts D EditList Record). n.hand) stop.0 ∙ hand,
-        rw (stop.0, ← going.numbered.next) stop.2,
+        stop.1.1 ∙ ap (λ (n : Parts D EditList Record). n.state.limits.records) (sym stop.1.0),
+        ap (λ (n : Parts D EditList Record). n.hand) stop.1.0 ∙ hand,
+        rw (stop.1.0, ← going.numbered.next) stop.1.2,
       );
     }
     by_wish (Some wish) (DiskFault failure) is stop = record {
@@ -181,18 +187,19 @@ module _ {S D : Type 0} (r : rules.Ghosts S EditList UdcRequest Record UdcReply)
       edit = at wish;
       later = going.good.1;
       edits_are = edits_then wish is;
-      gained = λ records stands. stop.0 _ (going.gained records stands);
+      asked = asked_now stop.0;
+      gained = λ records stands. stop.1.0 _ (going.gained records stands);
       ended = (
-        stop.1 ∙ ap (λ (q : ℕ). Some (edit_of head.account q wish)) going.numbered.next,
-        rose_since _ _ _ counted stop.2,
+        stop.1.1 ∙ ap (λ (q : ℕ). Some (edit_of head.account q wish)) going.numbered.next,
+        rose_since _ _ _ counted stop.1.2,
       );
     }
-    by_wish (Some wish) (Done stored skipped) is stop = absurd stop
-    by_wish (Some wish) ReadFault is stop = absurd stop
-    by_wish (Some wish) TooLong is stop = absurd stop
-    by_wish (Some wish) (BadTape line) is stop = absurd stop
-    by_wish (Some wish) NotKnown is stop = absurd stop
-    by_wish (Some wish) Memory is stop = absurd stop
+    by_wish (Some wish) (Done stored skipped) is stop = absurd stop.1
+    by_wish (Some wish) ReadFault is stop = absurd stop.1
+    by_wish (Some wish) TooLong is stop = absurd stop.1
+    by_wish (Some wish) (BadTape line) is stop = absurd stop.1
+    by_wish (Some wish) NotKnown is stop = absurd stop.1
+    by_wish (Some wish) Memory is stop = absurd stop.1
 
     pub line_stopped : {F : Type 0} (end : TapeEnd D F) (line : TapeLine) → line ≡ going.good.0
         → IsLineStop r g node new head.account p.line p.numbers (wish_on_line p.working line) end → LoadEnd new end

@@ -67,7 +67,7 @@ module _ (account : ℕ) where
   length_records q [] = refl
   length_records q (edit ∷ later) = ap suc (length_records (q + 1) later)
 
-  records_append : (q : ℕ) (x y : List TapeEdit)
+  pub records_append : (q : ℕ) (x y : List TapeEdit)
       → edit_records account q (x ++ y) ≡ edit_records account q x ++ edit_records account (q + length x) y
   records_append q [] y = let same : q ≡ q + 0 = omega arith in ap (λ (n : ℕ). edit_records account n y) same
   records_append q (edit ∷ x) y =

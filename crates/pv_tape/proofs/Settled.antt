@@ -140,6 +140,7 @@ module _ {S D : Type 0} (r : rules.Ghosts S EditList UdcRequest Record UdcReply)
         edit = stopped.edit;
         later = stopped.later;
         edits_are = stopped.edits_are;
+        asked = stopped.asked;
         gained = gained_after _ stopped.gained;
         ended = ended_since _ stopped.edit end stopped.ended;
       }
@@ -165,7 +166,7 @@ module _ {S D : Type 0} (r : rules.Ghosts S EditList UdcRequest Record UdcReply)
       abbrev AheadOf : {F : Type 0} → List Record → TapeEnd D F → Type 0
       AheadOf records end = next_number records head.account < head.first → IsTooHigh records head edits end
 
-      settled_end : {F : Type 0} (end : TapeEnd D F) → FromSettled end → AheadOf settled.state.records end
+      pub settled_end : {F : Type 0} (end : TapeEnd D F) → FromSettled end → AheadOf settled.state.records end
           → IsSettledEnd r g old new head edits end
       settled_end end loaded ahead = (
         stored,

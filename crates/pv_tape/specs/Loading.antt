@@ -136,10 +136,10 @@ module _ {S D : Type 0} (r : rules.Ghosts S EditList UdcRequest Record UdcReply)
   IsLineDone account n None = new ≡ old
   IsLineDone account n (Some wish) = n.last < n.next → CanAsk old account n.next wish
 
-  -- a line that asks for nothing is never in vain
+  -- a line that asks for nothing is never in vain, and one with an edit only if its number is above the account's last
   abbrev pub IsLineStop : {F : Type 0} → ℕ → ℕ → Numbers → Option EditWish → TapeEnd D F → Type 0
   IsLineStop account line n None end = ⊥
-  IsLineStop account line n (Some wish) end = IsAskEnd account line n.next wish end
+  IsLineStop account line n (Some wish) end = (n.last < n.next) × IsAskEnd account line n.next wish end
 
 -- ---- all lines
 
@@ -165,12 +165,14 @@ module _ {D : Type 0} (g : reports.Ghosts D) (disk : D) (new : Parts D EditList 
       pub hand : new.hand ≡ None
       pub reached : (length edits ≡ 0) ⊎ (head.first + length edits ≤ last_number_of new.state.records head.account + 1)
 
-    -- One edit of a tape is not stored. Of those before it, the ones that were asked for are.
+    -- One edit of a tape, which was asked for as its number is above the account's last at these records, is not stored. Of those
+    -- before it, the ones that were asked for are.
     pub record IsStoppedAt {F : Type 0} (edits : List TapeEdit) (end : TapeEnd D F) : Type 0 where
       pub before : List TapeEdit
       pub edit : TapeEdit
       pub later : List TapeEdit
       pub edits_are : edits ≡ before ++ edit ∷ later
+      pub asked : last_number_of records head.account < head.first + length before
       pub gained : Gained (wanted_records records head before)
       pub ended : IsEditEnd head.account (head.first + length before) edit end
 

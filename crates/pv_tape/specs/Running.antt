@@ -40,6 +40,13 @@ module _ {S D : Type 0} (r : rules.Ghosts S EditList UdcRequest Record UdcReply)
       → LeavesOnly g old.journal.disk new.journal.disk (λ image. (part : Option Record) × IsFromHand old.hand part × (n : ℕ)
       × Stands r image (records_after_run head edits (records_with records part) (lone_run n)))
 
+  -- What the node stands for after the run is what the law of runs speaks of, whether the record that is in hand then is found stored
+  -- or not.
+  abbrev pub StandsAfterRun : Head → List TapeEdit → Type 0
+  StandsAfterRun head edits = (records : List Record) → StandsFor r g old records → (now : List Record) × StandsFor r g new now
+      × ((later : Option Record) → IsFromHand new.hand later → (part : Option Record) × IsFromHand old.hand part × (n : ℕ)
+      × (records_with now later ≡ records_after_run head edits (records_with records part) (lone_run n)))
+
   -- the node stands for the records that there were, with this one, and for these after them
   abbrev pub GainsAfter : Option Record → List Record → Type 0
   GainsAfter part more = (records : List Record) → StandsFor r g old records → StandsFor r g new (records_with records part ++ more)

@@ -1,10 +1,10 @@
 //! The lines of a tape that was checked, one by one.
-ghost use Rattle.std.specs.Prelude.{◌≡◌, ◌+◌, ◌^◌, ◌-◌, ◌<◌, ◌≤◌, List, length, None, true, OnOk, IfErr};
+ghost use Rattle.std.specs.Prelude.{◌≡◌, ◌+◌, ◌^◌, ◌-◌, ◌<◌, ◌≤◌, List, length, Some, None, true, OnOk, IfErr};
 ghost use Rattle.pv_edits.specs.Room.{has_editor};
 ghost use Rattle.pv_udc.specs.Judgement.{next_number};
 ghost use Rattle.pv_words.specs.Lines.{lines_of};
 ghost use Rattle.pv_tape.specs.Lines.{IsTapeLine};
-ghost use Rattle.pv_tape.specs.Loading.{last_number_of, wanted_records, asked_records, asked_by_line, asked_by_wish, numbers_after_edit, numbers_after_wish, progress_after, GainsAll, LeavesPrefix, CanAsk, IsAskEnd, IsLineOn, IsLineDone, IsLineStop, IsLoadEnd, IsTooHigh};
+ghost use Rattle.pv_tape.specs.Loading.{last_number_of, wanted_records, asked_records, asked_by_line, asked_by_wish, numbers_after_edit, numbers_after_wish, progress_after, GainsAll, LeavesPrefix, CanAsk, IsLineOn, IsLineDone, IsLineStop, IsLoadEnd, IsTooHigh};
 ghost use Rattle.pv_tape.specs.Tape.{TapeEdit, AreGood, IsTape, second_line, wish_on_line};
 ghost use Rattle.pv_tape.specs.declared.head.TheConstants.{LAST_FIRST};
 ghost use Rattle.pv_tape.specs.declared.line.TapeLine.{TapeLine};
@@ -231,8 +231,8 @@ fn load_edit<D: Disk>(
         → CanAsk node.old account numbers.old.next wish) }
 
     // Or it is not, for the reason that is returned.
-    ensures stopped { IfErr result (IsAskEnd ⟦<UdcRules as Rules>⟧ D.Reports node.old node.new account
-        line numbers.old.next wish) }
+    ensures stopped { IfErr result (IsLineStop ⟦<UdcRules as Rules>⟧ D.Reports node.old node.new account
+        line numbers.old (Some wish)) }
 
     // A crash at any moment leaves the records, perhaps with it. The limits stay.
     ensures moments { LeavesPrefix ⟦<UdcRules as Rules>⟧ D.Reports node.old node.new

@@ -3,7 +3,7 @@ ghost use Rattle.std.specs.Prelude.{◌≡◌, ℕ, ◌<◌, ◌≤◌, List, le
 ghost use Rattle.pv_edits.specs.Room.{has_editor};
 ghost use Rattle.pv_input.specs.Reading.{HasRead};
 ghost use Rattle.pv_input.specs.declared.text.TheConstants.{LONGEST_TEXT};
-ghost use Rattle.pv_tape.specs.Running.{is_known, IsEditsEnd, IsTextRun, IsTapeRun, LeavesPart};
+ghost use Rattle.pv_tape.specs.Running.{is_known, IsEditsEnd, IsTextRun, IsTapeRun, LeavesPart, StandsAfterRun};
 ghost use Rattle.pv_tape.specs.Tape.{TapeEdit, IsTape};
 ghost use Rattle.pv_tape.specs.declared.head.Head.{Head};
 ghost use Rattle.pv_tape.specs.declared.head.TheConstants.{LAST_FIRST};
@@ -27,13 +27,15 @@ pub fn run_tape<S: Source, D: Disk>(
     tape: &mut S,
 ) -> TapeEnd<D>
     // What was read is a text, and the run of that text came to this end. A crash at any moment leaves the records,
-    // perhaps with the one in hand, and then a prefix of what the tape asks for.
+    // perhaps with the one in hand, and then a prefix of what the tape asks for. So does the run, if it is not cut.
     ensures runs { (text : List ℕ)
         × HasRead (S.taken tape.old) (S.taken tape.new) (S.left tape.old) (S.left tape.new) text
         × IsTapeRun ⟦<UdcRules as Rules>⟧ D.Reports node.old node.new text (S.left tape.old)
         (S.ended tape.new) (S.read_faults tape.old) (S.read_faults tape.new) result
         × ((head : Head) (edits : List TapeEdit) → IsTape text head edits
-        → LeavesPart ⟦<UdcRules as Rules>⟧ D.Reports node.old node.new head edits) }
+        → LeavesPart ⟦<UdcRules as Rules>⟧ D.Reports node.old node.new head edits)
+        × ((head : Head) (edits : List TapeEdit) → IsTape text head edits
+        → StandsAfterRun ⟦<UdcRules as Rules>⟧ D.Reports node.old node.new head edits) }
     ensures counted { S.read_faults tape.old ≤ S.read_faults tape.new }
 {
     match read_text(alloc, tape) {
@@ -50,6 +52,8 @@ fn run_text<D: Disk>(node: &mut Node<UdcRules, D>, text: &[u8]) -> TapeEnd<D>
     ensures runs { IsTextRun ⟦<UdcRules as Rules>⟧ D.Reports node.old node.new text.now result }
     ensures moments { (head : Head) (edits : List TapeEdit) → IsTape text.now head edits
         → LeavesPart ⟦<UdcRules as Rules>⟧ D.Reports node.old node.new head edits }
+    ensures after { (head : Head) (edits : List TapeEdit) → IsTape text.now head edits
+        → StandsAfterRun ⟦<UdcRules as Rules>⟧ D.Reports node.old node.new head edits }
 {
     let head = match check_tape(text) {
         Ok(head) => head,
@@ -74,6 +78,8 @@ fn run_edits<D: Disk>(node: &mut Node<UdcRules, D>, head: &Head, text: &[u8]) ->
         → IsEditsEnd ⟦<UdcRules as Rules>⟧ D.Reports node.old node.new head.now edits result }
     ensures moments { (edits : List TapeEdit) → IsTape text.now head.now edits
         → LeavesPart ⟦<UdcRules as Rules>⟧ D.Reports node.old node.new head.now edits }
+    ensures after { (edits : List TapeEdit) → IsTape text.now head.now edits
+        → StandsAfterRun ⟦<UdcRules as Rules>⟧ D.Reports node.old node.new head.now edits }
 {
     match node.settle() {
         Ok(_) => load(node, head, text),
