@@ -224,8 +224,8 @@ fn records_of(alloc: Global, node: &MemNode) -> Result<Vec<Record>, Fail> {
 /// How many calls of the disk the three edits of the tape make.
 const CALLS: u32 = 12;
 
-/// Numbers of images that a crash may leave: nothing, parts and all of what was not synced.
-const IMAGES: [u8; 5] = [0, 1, 85, 170, 255];
+/// How many images of a disk a crash may leave, each with its number.
+const IMAGES: u32 = 256;
 
 /// The records of a node at which the tape was run whole.
 fn whole_records(alloc: Global) -> Result<Vec<Record>, Fail> {
@@ -255,9 +255,9 @@ fn a_run_that_was_cut_is_continued(rt: HostRuntime) -> Result<(), Fail> {
     let alloc = rt.alloc();
     let whole = whole_records(alloc)?;
     for calls in 0..CALLS {
-        for image in IMAGES {
+        for image in 0..IMAGES {
             assert_eq!(rt;
-                records_after_cut(alloc, calls, image)?,
+                records_after_cut(alloc, calls, image as u8)?,
                 whole,
                 "calls {calls} image {image}"
             );
