@@ -191,7 +191,7 @@ fn edit_without_memory_is_stored_and_told(rt: HostRuntime) -> Result<(), Fail> {
     Ok(())
 }
 
-/// These bytes so many times.
+/// These bytes, this many times.
 fn repeated(alloc: Global, bytes: &[u8], times: usize) -> Result<Vec<u8>, Fail> {
     let mut all = Vec::new(alloc);
     for _ in 0..times {

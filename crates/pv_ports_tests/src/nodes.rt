@@ -123,7 +123,7 @@ fn record_at(n: u8) -> Result<DownRecord, Fail> {
     }
 }
 
-/// Has the first so many of the records applied.
+/// Has this many of the records applied, from the first on.
 pub fn apply_first<N: Run<CentreRecord>, H: Wait + Drop, W: Wait>(
     rt: &W,
     centre: &Live<IrcRules<0>, MemDisk, N, H>,
