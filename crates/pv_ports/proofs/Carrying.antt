@@ -1,5 +1,5 @@
 -- What a round carries that goes to its end, and that it is stored.
-use Rattle.std.proofs.Common.{◌≡◌, ◌⊎◌, inl, inr, ℕ, zero, suc, ◌+◌, ◌<◌, ◌≤◌, not, Bool, true, false, List, [], ◌∷◌, ◌++◌, length, All, Option, Some, None, Result, Ok, Err, if◌then◌else◌, refl, ap, sym, ◌∙◌, subst, arith}
+use Rattle.std.proofs.Common.{◌≡◌, inl, inr, ℕ, zero, suc, ◌+◌, ◌<◌, ◌≤◌, Bool, true, false, List, [], ◌∷◌, length, All, Option, Some, None, Result, Ok, Err, if◌then◌else◌, refl, ap, sym, ◌∙◌, subst, arith}
 use Rattle.std.specs.Prelude.{IfSome, IsTrue, MatchResult, option_map, option_to_list, slice_get, take, nat_lt, unwrap_or}
 use Rattle.std.specs.List.{cons_option}
 use Rattle.std.proofs.lemmas.Bool.{ltb-true, ltb-false}
@@ -28,7 +28,8 @@ use Rattle.pv_link.specs.Sending.{SendingEnd, number_due, number_to_give}
 use Rattle.pv_live.specs.Entries.{with_opening}
 use Rattle.pv_live.specs.Pass.{Standing}
 use Rattle.pv_live.specs.declared.entry.Entry.{Entry}
-use Rattle.pv_packet.specs.Packet.{packet_bytes}
+use Rattle.pv_packet.specs.Packet.{IsPacket, packet_bytes}
+use Rattle.pv_packet.specs.Reading.{packet_of_bytes}
 use Rattle.pv_packet.specs.declared.packet.Packet.{Packet}
 use Rattle.pv_packet.specs.declared.packet.Packet.TheVariants.{Down, Up, DownHeard, UpHeard}
 use Rattle.pv_udc.specs.Replies.{down_of}
@@ -36,14 +37,16 @@ use Rattle.pv_udc.specs.contracts.rules.UdcRulesRules.TheImpl as udc
 use Rattle.pv_udc.specs.declared.reply.UdcReply.{UdcReply}
 use Rattle.pv_ports.specs.Cargo.{Arrival, Cargo, WentThrough, acknowledgements, MayAnswer, GivesEach, HandsOutPacket, HandsOutNone, TakesUpToTwo, GoesThroughLinks, CountsCargo, count_after, IsBroughtDown, IsBroughtUp, HasBrought}
 use Rattle.pv_ports.specs.Parcels.{down_packet, up_packet}
+use Rattle.pv_ports.specs.Rights.{GoesDown, GoesUp}
 use Rattle.pv_ports.specs.Round.{CarrierState, Round, Stop, Gave, Took, InTurn, UpToTwo, ReceivesNext, GivesTo, GivesDown, GivesUp, HandlesDown, HandlesUp, HandlesTaken, ReceivesDown, ReceivesUp, IsReadAs, AnswersRecord, AnswersItem, AppliesRecord, TakesItemUp, Receives, CarriesUp, Carries, IsRound, applied_by, taken_by, trip_after_take, came_by, stop_in, end_of_trip}
 use Rattle.pv_ports.specs.Session.{AskFault}
 use Rattle.pv_ports.specs.declared.round_end.RoundEnd.TheVariants as stops
 use Rattle.pv_ports.specs.declared.trip.Trip.{Trip}
 use Rattle.pv_ports.proofs.Causing.{Comes, Fails, stages}
 use Rattle.pv_ports.proofs.Ending.{none_past, due_below}
-use Rattle.pv_ports.proofs.Growing.{with_prefix, applied_grows, taken_grows}
+use Rattle.pv_ports.proofs.Growing.{with_prefix, down_grows, up_grows, applied_grows, taken_grows}
 use Rattle.pv_ports.proofs.Judging.{applied_answer, taken_answer}
+use Rattle.pv_ports.proofs.Righting.{weaker_if, came_right}
 use Rattle.pv_ports.proofs.Walking.{carried}
 
 -- ---- a record that came is applied
@@ -95,11 +98,6 @@ item_brought C opening (Down centre n rec) before at after early late is = tt
 item_brought C opening (DownHeard centre count) before at after early late is = tt
 item_brought C opening (UpHeard centre count) before at after early late is = tt
 
--- of a packet, if there is one
-if_brought : (P Q : Packet → Type 0) (packet : Option Packet) → ((one : Packet) → P one → Q one) → IfSome packet P → IfSome packet Q
-if_brought P Q None weaker is = tt
-if_brought P Q (Some packet) weaker is = weaker packet is
-
 -- ---- a link
 
 module _ {L : Type 0} (k : links.Ghosts L) where
@@ -107,7 +105,7 @@ module _ {L : Type 0} (k : links.Ghosts L) where
   gives_then : (one : Option Packet) (more : List Packet) (a b c : L) → GivesEach k (option_to_list one) a b → GivesEach k more b c
       → GivesEach k (cons_option one more) a c
   gives_then None more a b c first later = subst (λ (l : L). GivesEach k more l c) first later
-  gives_then (Some packet) more a b c first later = (first.0, first.1, subst (λ (l : L). GivesEach k more l c) first.2 later)
+  gives_then (Some packet) more a b c first later = (first.0, first.1, first.2, subst (λ (l : L). GivesEach k more l c) first.3 later)
 
   -- a give that does not stop the round
   given : (packet : Option Packet) (old new : L) (trip after : Trip) (stop : Option Stop) → stop ≡ None
@@ -118,7 +116,7 @@ module _ {L : Type 0} (k : links.Ghosts L) where
       by : (result : Result (Unit {0}) Failed) → Gave k (packet_bytes packet) old new result
           → MatchResult result (λ _. (after ≡ record trip { moved = true }) × (stop ≡ None))
           (λ _. (after ≡ trip) × (stop ≡ Some stops.LinkFault)) → GivesEach k (packet ∷ []) old new
-      by (Ok _) gave goes = (new, gave, refl)
+      by (Ok _) gave goes = (new, is.0, gave, refl)
       by (Err fault) gave goes = let fails = goes.1 in absurd cc
 
   -- a packet came, and was handled without a stop
@@ -176,6 +174,19 @@ module _ {L : Type 0} (k : links.Ghosts L) (C : ℕ) (from to : Round L → L) (
     pub between : All (Between old new) came
     pub grows : Grows old new
 
+  -- a packet came that was taken into these bytes, with this answer
+  came_with : (packet answer : Option Packet) (into : List ℕ) (n : ℕ) (old new : Round L) (link : L)
+      → Took k into (from old) link (Ok (Some n)) → IsReadAs C (take n into) packet → from new ≡ link
+      → GivesEach k (option_to_list answer) (to old) (to new) → At (record { packet = packet; answer = answer }) new → Grows old new
+      → CameOne old new
+  came_with packet answer into n old new link took read same gives at grows = record {
+    came = record { packet = packet; answer = answer };
+    takes = (into, n, subst (λ (l : L). Took k into (from old) l (Ok (Some n))) (sym same) took, read);
+    gives = gives;
+    at = at;
+    grows = grows;
+  }
+
 module _ {L : Type 0} (k : links.Ghosts L) (C : ℕ) (from to : Round L → L) (Grows : Round L → Round L → Type 0)
     (At : Arrival → Round L → Type 0) (stays : (a : Round L) → Grows a a)
     (later : (a b c : Round L) → Grows a b → Grows b c → Grows a c) where
@@ -232,6 +243,41 @@ module _ {L : Type 0} (k : links.Ghosts L) (C : ℕ) (from to : Round L → L) (
       next (Ok false) first other = subst (Some_ old) (sym other.0) (came_none old is.0 (none old is.0 first))
       next (Err why) first other = let no = other.1 in absurd cc
 
+  -- What is taken is handled: `after` is the round with what was taken.
+  module _ (after : Round L → L → Trip → Round L) (Handles : Option Packet → Round L → Round L → Option Stop → Type 0)
+      (taken : (old : Round L) (link : L) (trip : Trip)
+      → (from (after old link trip) ≡ link) × (to (after old link trip) ≡ to old) × Grows old (after old link trip))
+      (handled : (packet : Option Packet) (into : List ℕ) (n : ℕ) (old new : Round L) (link : L) (trip : Trip)
+      → Took k into (from old) link (Ok (Some n)) → IsReadAs C (take n into) packet → Handles packet (after old link trip) new None
+      → One old new) where
+    abbrev Receives_ : Round L → Round L → Result Bool Stop → Type 0
+    Receives_ old new came =
+        (link : L) × (into : List ℕ) × (result : Result (Option ℕ) Failed) × Took k into (from old) link result
+        × HandlesTaken k C Handles into result (after old link (trip_after_take result old.trip)) new came
+
+    pub came_some : (old new : Round L) → UpToTwo Receives_ old new None → Some_ old new
+    came_some old new is = up_to_two Receives_ one none old new None refl is
+      where
+        one : (old new : Round L) → Receives_ old new (Ok true) → One old new
+        one old new is =
+            let took = one_taken k C Handles is.1 is.2 (after old is.0 (trip_after_take is.2 old.trip)) new is.4 in
+            handled took.1 is.1 took.0 old new is.0 (trip_after_take is.2 old.trip)
+            (subst (λ (r : Result (Option ℕ) Failed). Took k is.1 (from old) is.0 r) took.2 is.3) took.3 took.4
+
+        none : (old new : Round L) → Receives_ old new (Ok false) → No old new
+        none old new is =
+            let at = taken old is.0 (trip_after_take is.2 old.trip) in
+            let took = none_taken k C Handles is.1 is.2 (after old is.0 (trip_after_take is.2 old.trip)) new is.4 in
+            record {
+              takes = (
+                is.1,
+                subst (λ (l : L). Took k is.1 (from old) l (Ok None)) (sym (ap from took.1 ∙ at.0))
+                    (subst (λ (r : Result (Option ℕ) Failed). Took k is.1 (from old) is.0 r) took.0 is.3),
+              );
+              gives = ap to took.1 ∙ at.1;
+              grows = subst (λ (r : Round L). Grows old r) (sym took.1) at.2;
+            }
+
 -- ---- counts
 
 -- one number more, and then another
@@ -245,8 +291,8 @@ module _ {L : Type 0} (k : links.Ghosts L) where
       → (k.given new ≡ count_after (length packets) (k.given old)) × (k.taken new ≡ k.taken old)
   gives_count [] old new is = (ap k.given is, ap k.taken is)
   gives_count (packet ∷ later) old new is =
-      let rest = gives_count later is.0 new is.2 in
-      (rest.0 ∙ ap (λ n. count_after (length later) n) is.1.given, rest.1 ∙ is.1.taken)
+      let rest = gives_count later is.0 new is.3 in
+      (rest.0 ∙ ap (λ n. count_after (length later) n) is.2.given, rest.1 ∙ is.2.taken)
 
   takes_count : (C : ℕ) (came : List Arrival) (old new : L) → TakesUpToTwo k C came old new
       → (k.taken new ≡ count_after (length came) (k.taken old)) × (k.given new ≡ k.given old)
@@ -329,16 +375,21 @@ module _ {L : Type 0} (k : links.Ghosts L) (udc_limits centre_limits : Limits) (
     subst (λ (p : Standing CentreRecord). IsPrefix old.centre.seen p.seen) (sym same_centre) other,
   )
 
-  -- a packet that came down may be answered so, and is brought by what its centre has now
+  -- What came down may be answered so, no more is acknowledged than its centre has applied, and the packet is brought by that.
+  abbrev IsDownAt : Arrival → List CentreRecord → Type 0
+  IsDownAt came records =
+      MayAnswer came.packet came.answer × IfSome came.answer (GoesUp records) × IfSome came.packet (IsBroughtDown C centre_limits records records)
+
   abbrev AtDown : Arrival → Round L → Type 0
-  AtDown came round =
-      let records = with_opening centre_opening round.centre.seen in
-      MayAnswer came.packet came.answer × IfSome came.packet (IsBroughtDown C centre_limits records records)
+  AtDown came round = IsDownAt came (with_opening centre_opening round.centre.seen)
+
+  -- the same of what came up
+  abbrev IsUpAt : Arrival → List Record → Type 0
+  IsUpAt came records =
+      MayAnswer came.packet came.answer × IfSome came.answer (GoesDown records) × IfSome came.packet (IsBroughtUp C records records)
 
   abbrev AtUp : Arrival → Round L → Type 0
-  AtUp came round =
-      let records = with_opening udc_opening round.udc.seen in
-      MayAnswer came.packet came.answer × IfSome came.packet (IsBroughtUp C records records)
+  AtUp came round = IsUpAt came (with_opening udc_opening round.udc.seen)
 
   abbrev OneDown : Round L → Round L → Type 0
   OneDown old new = CameOne k C (λ r. r.down) (λ r. r.up) Grows AtDown old new
@@ -350,34 +401,29 @@ module _ {L : Type 0} (k : links.Ghosts L) (udc_limits centre_limits : Limits) (
   silent_down : (packet : Option Packet) (into : List ℕ) (n : ℕ) (old new : Round L) (link : L) (trip : Trip)
       → Took k into old.down link (Ok (Some n)) → IsReadAs C (take n into) packet → new ≡ record old { down = link; trip = trip }
       → AtDown (record { packet = packet; answer = None }) new → OneDown old new
-  silent_down packet into n old new link trip took read same at = record {
-    came = record { packet = packet; answer = None };
-    takes = (into, n, subst (λ (r : Round L). Took k into old.down r.down (Ok (Some n))) (sym same) took, read);
-    gives = ap (λ (r : Round L). r.up) same;
-    at = at;
-    grows = subst (λ (r : Round L). Grows old r) (sym same) (grows_none old);
-  }
+  silent_down packet into n old new link trip took read same at =
+      came_with k C (λ r. r.down) (λ r. r.up) Grows AtDown packet None into n old new link took read (ap (λ (r : Round L). r.down) same)
+      (ap (λ (r : Round L). r.up) same) at (subst (λ (r : Round L). Grows old r) (sym same) (grows_none old))
 
   silent_up : (packet : Option Packet) (into : List ℕ) (n : ℕ) (old new : Round L) (link : L) (trip : Trip)
       → Took k into old.up link (Ok (Some n)) → IsReadAs C (take n into) packet → new ≡ record old { up = link; trip = trip }
       → AtUp (record { packet = packet; answer = None }) new → OneUp old new
-  silent_up packet into n old new link trip took read same at = record {
-    came = record { packet = packet; answer = None };
-    takes = (into, n, subst (λ (r : Round L). Took k into old.up r.up (Ok (Some n))) (sym same) took, read);
-    gives = ap (λ (r : Round L). r.down) same;
-    at = at;
-    grows = subst (λ (r : Round L). Grows old r) (sym same) (grows_none old);
-  }
+  silent_up packet into n old new link trip took read same at =
+      came_with k C (λ r. r.up) (λ r. r.down) Grows AtUp packet None into n old new link took read (ap (λ (r : Round L). r.up) same)
+      (ap (λ (r : Round L). r.down) same) at (subst (λ (r : Round L). Grows old r) (sym same) (grows_none old))
 
-  heard_down : (centre n : ℕ) (rec : DownRecord) (count : Option ℕ) → centre ≡ C
-      → MayAnswer (Some (Down centre n rec)) (option_map (DownHeard C) count)
-  heard_down centre n rec None same = tt
-  heard_down centre n rec (Some count) same = sym same
+  -- what is acknowledged of records, and of items
+  heard_down : (centre n : ℕ) (rec : DownRecord) (records : List CentreRecord) (count : Option ℕ) → centre ≡ C
+      → IfSome count (λ m. m ≤ applied_of records)
+      → MayAnswer (Some (Down centre n rec)) (option_map (DownHeard C) count) × IfSome (option_map (DownHeard C) count) (GoesUp records)
+  heard_down centre n rec records None same most = (tt, tt)
+  heard_down centre n rec records (Some count) same most = (sym same, most)
 
-  heard_up : (centre number : ℕ) (item : Item) (count : Option ℕ) → centre ≡ C
-      → MayAnswer (Some (Up centre number item)) (option_map (UpHeard C) count)
-  heard_up centre number item None same = tt
-  heard_up centre number item (Some count) same = sym same
+  heard_up : (centre number : ℕ) (item : Item) (records : List Record) (count : Option ℕ) → centre ≡ C
+      → IfSome count (λ m. m ≤ taken_of records C)
+      → MayAnswer (Some (Up centre number item)) (option_map (UpHeard C) count) × IfSome (option_map (UpHeard C) count) (GoesDown records)
+  heard_up centre number item records None same most = (tt, tt)
+  heard_up centre number item records (Some count) same most = (sym same, most)
 
   came_down : (packet : Option Packet) (into : List ℕ) (n : ℕ) (old new : Round L) (link : L) (trip : Trip)
       → Took k into old.down link (Ok (Some n)) → IsReadAs C (take n into) packet
@@ -391,34 +437,26 @@ module _ {L : Type 0} (k : links.Ghosts L) (udc_limits centre_limits : Limits) (
           (record old { down = link; trip = trip; centre = is.0 }) new None
           → OneDown old new
       by (Ok told) applies answers =
-          let same = answers.1 in
+          let pass = ap (λ (r : Round L). r.centre) answers.1 in
           let done = applied_answer C centre_limits centre_opening n rec old.centre is.0 told applies.asks.prefix applies.comes.0 in
-          record {
-            came = record { packet = Some (Down centre n rec); answer = option_map (DownHeard C) (applied_by n told.reply) };
-            takes = (
-              into,
-              size,
-              subst (λ (l : L). Took k into old.down l (Ok (Some size))) (sym (ap (λ (r : Round L). r.down) same)) took,
-              read,
-            );
-            gives = given k (option_map (DownHeard C) (applied_by n told.reply)) old.up new.up _ new.trip None refl answers.0;
-            at = (
-              heard_down centre n rec (applied_by n told.reply) read.2,
-              subst (λ (p : Standing CentreRecord). IsBroughtDown C centre_limits (with_opening centre_opening p.seen) (with_opening
-                  centre_opening p.seen) (Down centre n rec)) (sym (ap (λ (r : Round L). r.centre) same)) done.brought,
-            );
-            grows = grows_to old new old.udc is.0 (ap (λ (r : Round L). r.udc) same) (ap (λ (r : Round L). r.centre) same)
-                (prefix_self old.udc.seen) applies.asks.prefix;
-          }
+          let heard = heard_down centre n rec (with_opening centre_opening is.0.seen) (applied_by n told.reply) read.2 done.heard in
+          came_with k C (λ r. r.down) (λ r. r.up) Grows AtDown (Some (Down centre n rec)) (option_map (DownHeard C) (applied_by n told.reply))
+          into size old new link took read (ap (λ (r : Round L). r.down) answers.1)
+          (given k (option_map (DownHeard C) (applied_by n told.reply)) old.up new.up _ new.trip None refl answers.0)
+          (subst (λ (p : Standing CentreRecord). IsDownAt (record {
+            packet = Some (Down centre n rec);
+            answer = option_map (DownHeard C) (applied_by n told.reply);
+          }) (with_opening centre_opening p.seen)) (sym pass) (heard.0, heard.1, done.brought))
+          (grows_to old new old.udc is.0 (ap (λ (r : Round L). r.udc) answers.1) pass (prefix_self old.udc.seen) applies.asks.prefix)
       by (Err fault) applies answers = let no = answers.1 in absurd cc
   came_down (Some (UpHeard centre count)) into size old new link trip took read is =
-      silent_down (Some (UpHeard centre count)) into size old new link _ took read is.0 (tt, tt)
+      silent_down (Some (UpHeard centre count)) into size old new link _ took read is.0 (tt, tt, tt)
   came_down (Some (Up centre number item)) into size old new link trip took read is =
-      silent_down (Some (Up centre number item)) into size old new link _ took read is.0 (tt, tt)
+      silent_down (Some (Up centre number item)) into size old new link _ took read is.0 (tt, tt, tt)
   came_down (Some (DownHeard centre count)) into size old new link trip took read is =
-      silent_down (Some (DownHeard centre count)) into size old new link _ took read is.0 (tt, tt)
+      silent_down (Some (DownHeard centre count)) into size old new link _ took read is.0 (tt, tt, tt)
   came_down None into size old new link trip took read is =
-      silent_down None into size old new link _ took read is.0 (tt, tt)
+      silent_down None into size old new link _ took read is.0 (tt, tt, tt)
 
   came_up : (packet : Option Packet) (into : List ℕ) (n : ℕ) (old new : Round L) (link : L) (trip : Trip)
       → Took k into old.up link (Ok (Some n)) → IsReadAs C (take n into) packet
@@ -431,85 +469,39 @@ module _ {L : Type 0} (k : links.Ghosts L) (udc_limits centre_limits : Limits) (
           → AnswersItem udc.ghosts k udc_limits udc_opening C number result (record old { up = link; trip = trip; udc = is.0 }) new None
           → OneUp old new
       by (Ok told) takes answers =
-          let same = answers.1 in
+          let pass = ap (λ (r : Round L). r.udc) answers.1 in
           let done = taken_answer C udc_limits udc_opening number item old.udc is.0 told takes.asks.prefix takes.comes.0 in
-          record {
-            came = record { packet = Some (Up centre number item); answer = option_map (UpHeard C) (taken_by number told.reply) };
-            takes = (
-              into,
-              size,
-              subst (λ (l : L). Took k into old.up l (Ok (Some size))) (sym (ap (λ (r : Round L). r.up) same)) took,
-              read,
-            );
-            gives = given k (option_map (UpHeard C) (taken_by number told.reply)) old.down new.down _ new.trip None refl answers.0;
-            at = (
-              heard_up centre number item (taken_by number told.reply) read.2,
-              subst (λ (p : Standing Record). IsBroughtUp C (with_opening udc_opening p.seen) (with_opening udc_opening p.seen)
-                  (Up centre number item)) (sym (ap (λ (r : Round L). r.udc) same)) done.brought,
-            );
-            grows = grows_to old new is.0 old.centre (ap (λ (r : Round L). r.udc) same) (ap (λ (r : Round L). r.centre) same)
-                takes.asks.prefix (prefix_self old.centre.seen);
-          }
+          let heard = heard_up centre number item (with_opening udc_opening is.0.seen) (taken_by number told.reply) read.2 done.heard in
+          came_with k C (λ r. r.up) (λ r. r.down) Grows AtUp (Some (Up centre number item)) (option_map (UpHeard C) (taken_by number told.reply))
+          into size old new link took read (ap (λ (r : Round L). r.up) answers.1)
+          (given k (option_map (UpHeard C) (taken_by number told.reply)) old.down new.down _ new.trip None refl answers.0)
+          (subst (λ (p : Standing Record). IsUpAt (record {
+            packet = Some (Up centre number item);
+            answer = option_map (UpHeard C) (taken_by number told.reply);
+          }) (with_opening udc_opening p.seen)) (sym pass) (heard.0, heard.1, done.brought))
+          (grows_to old new is.0 old.centre pass (ap (λ (r : Round L). r.centre) answers.1) takes.asks.prefix (prefix_self old.centre.seen))
       by (Err fault) takes answers = let no = answers.1 in absurd cc
   came_up (Some (DownHeard centre count)) into size old new link trip took read is =
-      silent_up (Some (DownHeard centre count)) into size old new link _ took read is.0 (tt, tt)
+      silent_up (Some (DownHeard centre count)) into size old new link _ took read is.0 (tt, tt, tt)
   came_up (Some (Down centre n rec)) into size old new link trip took read is =
-      silent_up (Some (Down centre n rec)) into size old new link _ took read is.0 (tt, tt)
+      silent_up (Some (Down centre n rec)) into size old new link _ took read is.0 (tt, tt, tt)
   came_up (Some (UpHeard centre count)) into size old new link trip took read is =
-      silent_up (Some (UpHeard centre count)) into size old new link _ took read is.0 (tt, tt)
+      silent_up (Some (UpHeard centre count)) into size old new link _ took read is.0 (tt, tt, tt)
   came_up None into size old new link trip took read is =
-      silent_up None into size old new link _ took read is.0 (tt, tt)
+      silent_up None into size old new link _ took read is.0 (tt, tt, tt)
 
   -- what comes down, and what comes up
   some_down : (old new : Round L) → UpToTwo (ReceivesDown (irc.ghosts (number C)) k centre_limits centre_opening C) old new None
       → CameSome k C (λ r. r.down) (λ r. r.up) Grows AtDown old new
-  some_down old new is =
-      up_to_two k C (λ r. r.down) (λ r. r.up) Grows AtDown grows_none grows_later _ one none old new None refl is
-    where
-      one : (old new : Round L) → ReceivesDown (irc.ghosts (number C)) k centre_limits centre_opening C old new (Ok true) → OneDown old new
-      one old new is =
-          let took = one_taken k C _ is.1 is.2 _ new is.4 in
-          came_down took.1 is.1 took.0 old new is.0 _ (subst (λ (r : Result (Option ℕ) Failed). Took k is.1 old.down is.0 r) took.2 is.3)
-          took.3 took.4
-
-      none : (old new : Round L) → ReceivesDown (irc.ghosts (number C)) k centre_limits centre_opening C old new (Ok false)
-          → CameNone k C (λ r. r.down) (λ r. r.up) Grows AtDown old new
-      none old new is =
-          let took = none_taken k C _ is.1 is.2 _ new is.4 in
-          record {
-            takes = (
-              is.1,
-              subst (λ (r : Round L). Took k is.1 old.down r.down (Ok None)) (sym took.1)
-                  (subst (λ (r : Result (Option ℕ) Failed). Took k is.1 old.down is.0 r) took.0 is.3),
-            );
-            gives = ap (λ (r : Round L). r.up) took.1;
-            grows = subst (λ (r : Round L). Grows old r) (sym took.1) (grows_none old);
-          }
+  some_down =
+      came_some k C (λ r. r.down) (λ r. r.up) Grows AtDown grows_none grows_later (λ old link trip. record old { down = link; trip = trip })
+      (HandlesDown (irc.ghosts (number C)) k centre_limits centre_opening C) (λ old link trip. (refl, refl, grows_none old)) came_down
 
   some_up : (old new : Round L) → UpToTwo (ReceivesUp udc.ghosts k udc_limits udc_opening C) old new None
       → CameSome k C (λ r. r.up) (λ r. r.down) Grows AtUp old new
-  some_up old new is =
-      up_to_two k C (λ r. r.up) (λ r. r.down) Grows AtUp grows_none grows_later _ one none old new None refl is
-    where
-      one : (old new : Round L) → ReceivesUp udc.ghosts k udc_limits udc_opening C old new (Ok true) → OneUp old new
-      one old new is =
-          let took = one_taken k C _ is.1 is.2 _ new is.4 in
-          came_up took.1 is.1 took.0 old new is.0 _ (subst (λ (r : Result (Option ℕ) Failed). Took k is.1 old.up is.0 r) took.2 is.3)
-          took.3 took.4
-
-      none : (old new : Round L) → ReceivesUp udc.ghosts k udc_limits udc_opening C old new (Ok false)
-          → CameNone k C (λ r. r.up) (λ r. r.down) Grows AtUp old new
-      none old new is =
-          let took = none_taken k C _ is.1 is.2 _ new is.4 in
-          record {
-            takes = (
-              is.1,
-              subst (λ (r : Round L). Took k is.1 old.up r.up (Ok None)) (sym took.1)
-                  (subst (λ (r : Result (Option ℕ) Failed). Took k is.1 old.up is.0 r) took.0 is.3),
-            );
-            gives = ap (λ (r : Round L). r.down) took.1;
-            grows = subst (λ (r : Round L). Grows old r) (sym took.1) (grows_none old);
-          }
+  some_up =
+      came_some k C (λ r. r.up) (λ r. r.down) Grows AtUp grows_none grows_later (λ old link trip. record old { up = link; trip = trip })
+      (HandlesUp udc.ghosts k udc_limits udc_opening C) (λ old link trip. (refl, refl, grows_none old)) came_up
 
   -- ---- the round
 
@@ -529,11 +521,12 @@ module _ {L : Type 0} (k : links.Ghosts L) (udc_limits centre_limits : Limits) (
   no_end old new (stops.Memory stored) fails went = went
 
   -- A round that goes to its end has carried what its links say, and what came is stored.
-  pub has_carried : (old new : CarrierState) (old_down old_up new_down new_up : L) (end : Stop)
+  pub has_carried : ((packet : Packet) → IsPacket packet → packet_of_bytes (packet_bytes packet) ≡ Some packet)
+      → (old new : CarrierState) (old_down old_up new_down new_up : L) (end : Stop)
       → IsRound udc.ghosts (irc.ghosts (number C)) k udc_limits centre_limits udc_opening centre_opening C old old_down old_up new
       new_down new_up end
       → WentThrough end → HasBrought k centre_limits udc_opening centre_opening C old old_down old_up new new_down new_up
-  has_carried old new old_down old_up new_down new_up end is went =
+  has_carried reads old new old_down old_up new_down new_up end is went =
       rw (is.state, is.new_links.0, is.new_links.1, ← is.old_links.0, ← is.old_links.1)
       (by (subst (λ (s : Option Stop). Carries udc.ghosts (irc.ghosts (number C)) k udc_limits centre_limits udc_opening centre_opening C
       is.going_down is.going_up is.first is.last s)
@@ -584,7 +577,14 @@ module _ {L : Type 0} (k : links.Ghosts L) (udc_limits centre_limits : Limits) (
           grows_to first b.0 first.udc first.centre (ap (λ (r : Round L). r.udc) b.1.1 ∙ ap (λ (r : Round L). r.udc) a.1.1)
           (ap (λ (r : Round L). r.centre) b.1.1 ∙ ap (λ (r : Round L). r.centre) a.1.1) (prefix_self first.udc.seen)
           (prefix_self first.centre.seen) in
+          let seen = grows_later first b.0 last begun (grows_later b.0 c.0 last down.grows up.grows) in
           let cargo : Cargo = record { udc = first.udc; centre = first.centre; down = down.came; up = up.came } in
+          let all_down : (P : Arrival → Type 0) → ((came : Arrival) → Between k C (λ r. r.down) (λ r. r.up) Grows AtDown b.0 c.0 came
+          → P came) → All P down.came =
+          λ P each. All-weaker (Between k C (λ r. r.down) (λ r. r.up) Grows AtDown b.0 c.0) P each down.came down.between in
+          let all_up : (P : Arrival → Type 0) → ((came : Arrival) → Between k C (λ r. r.up) (λ r. r.down) Grows AtUp c.0 last came
+          → P came) → All P up.came =
+          λ P each. All-weaker (Between k C (λ r. r.up) (λ r. r.down) Grows AtUp c.0 last) P each up.came up.between in
           let went : GoesThroughLinks k centre_limits udc_opening centre_opening C old first.down first.up cargo last.down last.up = record {
             down = (
               b.0.down,
@@ -609,36 +609,45 @@ module _ {L : Type 0} (k : links.Ghosts L) (udc_limits centre_limits : Limits) (
               up.takes,
             );
             answered = (
-              All-weaker (Between k C (λ r. r.down) (λ r. r.up) Grows AtDown b.0 c.0) (λ came. MayAnswer came.packet came.answer)
-                  (λ came between. between.2.0) down.came down.between,
-              All-weaker (Between k C (λ r. r.up) (λ r. r.down) Grows AtUp c.0 last) (λ came. MayAnswer came.packet came.answer)
-                  (λ came between. between.2.0) up.came up.between,
+              all_down (λ came. MayAnswer came.packet came.answer) (λ came between. between.2.0),
+              all_up (λ came. MayAnswer came.packet came.answer) (λ came between. between.2.0),
             );
           } in
+          let right_answers = all_down (λ came. IfSome came.answer (GoesUp (with_opening centre_opening last.centre.seen)))
+          (λ came between. weaker_if came.answer (λ packet. up_grows packet centre_opening between.0.centre.seen last.centre.seen
+          (grows_later between.0 c.0 last between.3 up.grows).1) between.2.1) in
           record {
             cargo = cargo;
             looks = (is.looks_down.looks, is.looks_up.looks);
-            seen = grows_later first b.0 last begun (grows_later b.0 c.0 last down.grows up.grows);
+            seen = seen;
             links = went;
             counts = counted k centre_limits udc_opening centre_opening C old first.down first.up cargo last.down last.up went;
-            records = All-weaker (Between k C (λ r. r.down) (λ r. r.up) Grows AtDown b.0 c.0) (λ came. IfSome came.packet
+            records = all_down (λ came. IfSome came.packet
                 (IsBroughtDown C centre_limits (with_opening centre_opening old.centre.seen) (with_opening centre_opening last.centre.seen)))
                 (λ came between.
-                let at = with_opening centre_opening between.0.centre.seen in
-                if_brought (IsBroughtDown C centre_limits at at) (IsBroughtDown C centre_limits (with_opening centre_opening
-                old.centre.seen) (with_opening centre_opening last.centre.seen)) came.packet (λ packet brought.
+                weaker_if came.packet (λ packet.
                 record_brought C centre_limits centre_opening packet old.centre.seen between.0.centre.seen last.centre.seen
                 (prefix_trans old.centre.seen first.centre.seen between.0.centre.seen is.looks_up.looks.prefix
                 (grows_later first b.0 between.0 begun between.1).1)
-                (grows_later between.0 c.0 last between.3 up.grows).1 brought) between.2.1) down.came down.between;
-            items = All-weaker (Between k C (λ r. r.up) (λ r. r.down) Grows AtUp c.0 last) (λ came. IfSome came.packet
+                (grows_later between.0 c.0 last between.3 up.grows).1) between.2.2);
+            items = all_up (λ came. IfSome came.packet
                 (IsBroughtUp C (with_opening udc_opening old.udc.seen) (with_opening udc_opening last.udc.seen)))
                 (λ came between.
-                let at = with_opening udc_opening between.0.udc.seen in
-                if_brought (IsBroughtUp C at at) (IsBroughtUp C (with_opening udc_opening old.udc.seen) (with_opening udc_opening
-                last.udc.seen)) came.packet (λ packet brought.
+                weaker_if came.packet (λ packet.
                 item_brought C udc_opening packet old.udc.seen between.0.udc.seen last.udc.seen
                 (prefix_trans old.udc.seen first.udc.seen between.0.udc.seen is.looks_down.looks.prefix
                 (grows_later first c.0 between.0 (grows_later first b.0 c.0 begun down.grows) between.1).0)
-                between.3.0 brought) between.2.1) up.came up.between;
+                between.3.0) between.2.2);
+            heard = (
+              right_answers,
+              all_up (λ came. IfSome came.answer (GoesDown (with_opening udc_opening last.udc.seen)))
+                  (λ came between. weaker_if came.answer (λ packet. down_grows packet udc_opening between.0.udc.seen last.udc.seen
+                  between.3.0) between.2.1),
+            );
+            asked = came_right k centre_limits udc_opening centre_opening C reads old (record {
+              udc = last.udc;
+              centre = last.centre;
+              sending = last.trip.sending;
+              posting = last.trip.posting;
+            }) first.down first.up cargo last.down last.up (is.looks_down.looks.prefix, is.looks_up.looks.prefix) seen went right_answers;
           }

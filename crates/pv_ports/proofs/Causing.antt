@@ -1,20 +1,16 @@
 -- Why a round ends as it does: what each of its stages does to the counts of the passes and of the links.
-use Rattle.std.proofs.Common.{◌≡◌, ◌⊎◌, inl, inr, ℕ, ◌+◌, ◌<◌, ◌≤◌, min, Bool, true, false, true≢false, List, [], ◌∷◌, length, Option, Some, None, Result, Ok, Err, if◌then◌else◌, refl, ap, sym, ◌∙◌, subst, arith}
-use Rattle.std.specs.Prelude.{IfSome, slice_get, option_map, unwrap_or, take, nat_lt, MatchResult}
-use Rattle.std.proofs.lemmas.Bool.{ltb-true, ltb-false}
+use Rattle.std.proofs.Common.{◌≡◌, ◌⊎◌, inl, inr, ℕ, ◌+◌, ◌≤◌, true, false, true≢false, List, Option, Some, None, Result, Ok, Err, refl, ap, sym, ◌∙◌, subst, arith}
+use Rattle.std.specs.Prelude.{IfSome, MatchResult}
 use mathlib.Core.List.{IsPrefix}
 use denote.Param.{number}
 use Rattle.pv_outside.specs.Counts.{Rose, one_more}
 use Rattle.pv_outside.specs.declared.failed.Failed.{Failed}
 use Rattle.pv_outside.specs.declared.limits.Limits.{Limits}
 use Rattle.pv_outside.specs.declared.link.Link as links
-use Rattle.pv_node.specs.declared.decision.Told.{Told}
-use Rattle.pv_post.specs.declared.item.Item.{Item}
 use Rattle.pv_edits.specs.declared.record.Record.{Record}
 use Rattle.pv_history.proofs.CallerLemmas.{prefix_self, prefix_trans, prefix_length}
 use Rattle.pv_irc.specs.contracts.rules.IrcRulesRules.TheImpl as irc
 use Rattle.pv_irc.specs.declared.record.CentreRecord.{CentreRecord}
-use Rattle.pv_irc.specs.declared.reply.IrcReply.{IrcReply}
 use Rattle.pv_irc.specs.declared.request.IrcRequest.{IrcRequest}
 use Rattle.pv_irc.specs.declared.request.IrcRequest.TheVariants.{Apply}
 use Rattle.pv_live.specs.Asking.{HasFailed, IsFullFor}
@@ -22,16 +18,13 @@ use Rattle.pv_live.specs.Pass.{Standing}
 use Rattle.pv_live.specs.declared.fault.LiveFault.TheVariants as faults
 use Rattle.pv_packet.specs.declared.packet.Packet.{Packet}
 use Rattle.pv_packet.specs.Packet.{packet_bytes}
-use Rattle.pv_packet.specs.declared.packet.Packet.TheVariants.{Down, Up, DownHeard, UpHeard}
 use Rattle.pv_udc.specs.contracts.rules.UdcRulesRules.TheImpl as udc
-use Rattle.pv_udc.specs.declared.reply.UdcReply.{UdcReply}
 use Rattle.pv_udc.specs.declared.request.UdcRequest.{UdcRequest}
 use Rattle.pv_udc.specs.declared.request.UdcRequest.TheVariants.{TakeUp}
 use Rattle.pv_ports.specs.Outcomes.{KeepsRecord, LinkIsUsed, LinkIsUnused}
-use Rattle.pv_ports.specs.Round.{Round, Stop, Gave, Took, GivesTo, GivesDown, GivesUp, HandlesDown, HandlesUp, AnswersRecord, AnswersItem, AppliesRecord, TakesItemUp, applied_by, taken_by, trip_after_record, trip_after_item, trip_after_take, ask_stop, centre_node}
+use Rattle.pv_ports.specs.Round.{Round, Stop, Gave, Took, GivesDown, GivesUp, trip_after_take, ask_stop, centre_node}
 use Rattle.pv_ports.specs.Session.{AskFault}
 use Rattle.pv_ports.specs.declared.round_end.RoundEnd.TheVariants as stops
-use Rattle.pv_ports.specs.declared.trip.Trip.{Trip}
 use Rattle.pv_ports.proofs.Judging.{applied_answer, taken_answer}
 use Rattle.pv_ports.proofs.Walking.{EachStage, stop_at_take}
 
@@ -282,16 +275,16 @@ module _ {L : Type 0} (k : links.Ghosts L) (udc_limits centre_limits : Limits) (
           (given_up (packet_bytes packet) old new.up gave))
       by (Err fault) gave after = subst (λ s. Comes old new s) (sym after.1) (inr (gave.account.failed refl))
 
-  -- ---- a packet is handled
+  -- ---- a node is asked
 
   -- a fault of an ask
-  centre_fails : (n : ℕ) (request : IrcRequest) (old : Round L) (pass : Standing CentreRecord) (fault : AskFault)
+  centre_fails : (request : IrcRequest) (old : Round L) (pass : Standing CentreRecord) (fault : AskFault)
       → HasFailed (irc.ghosts (number C)) centre_limits centre_opening request old.centre pass fault
       → Fails old (record old { centre = pass }) (ask_stop (centre_node C) fault)
-  centre_fails n request old pass (faults.Memory (Some place)) is = inr (omega (arith, is.0), is.2)
-  centre_fails n request old pass (faults.Memory None) is = inr tt
-  centre_fails n request old pass (faults.Disk failure) is = inr is.1
-  centre_fails n request old pass (faults.Full count) is = inr (refl, request, is.2)
+  centre_fails request old pass (faults.Memory (Some place)) is = inr (omega (arith, is.0), is.2)
+  centre_fails request old pass (faults.Memory None) is = inr tt
+  centre_fails request old pass (faults.Disk failure) is = inr is.1
+  centre_fails request old pass (faults.Full count) is = inr (refl, request, is.2)
 
   udc_fails : (request : UdcRequest) (old : Round L) (pass : Standing Record) (fault : AskFault)
       → HasFailed udc.ghosts udc_limits udc_opening request old.udc pass fault
@@ -304,75 +297,6 @@ module _ {L : Type 0} (k : links.Ghosts L) (udc_limits centre_limits : Limits) (
   -- a trip that has moved something does not stand still
   no_still : (old new : Round L) → new.trip.moved ≡ true → new.trip.moved ≡ false → IsStill k old new
   no_still old new moved unmoved = absurd (true≢false (sym moved ∙ unmoved))
-
-  handles_down : (packet : Option Packet) (old new : Round L) (stop : Option Stop) → old.trip.moved ≡ true
-      → HandlesDown (irc.ghosts (number C)) k centre_limits centre_opening C packet old new stop → Comes old new stop
-  handles_down (Some (Down centre n rec)) old new stop moved is = by is.1 is.2 is.3
-    where
-      by : (result : Result (Told IrcReply) AskFault)
-          → AppliesRecord (irc.ghosts (number C)) centre_limits centre_opening C n rec old.centre is.0 result
-          → AnswersRecord (irc.ghosts (number C)) k centre_limits centre_opening C n result (record old { centre = is.0 }) new stop →
-          Comes old new stop
-      by (Ok told) applies answers =
-          let done = applied_answer C centre_limits centre_opening n rec old.centre is.0 told applies.asks.prefix applies.comes.0 in
-          let counted : Round L = record old { centre = is.0; trip = trip_after_record told.reply old.trip } in
-          comes_later old counted new stop (record {
-            down = serves_none k old.down;
-            up = serves_none k old.up;
-            centre = omega (arith, done.told);
-            udc = refl;
-            centre_told = omega (arith, done.told);
-            udc_told = omega arith;
-            centre_failed = applies.comes.1;
-            udc_failed = refl;
-            centre_seen = applies.asks.prefix;
-            udc_seen = prefix_self old.udc.seen;
-            moved = λ after. inl moved;
-            still = no_still old counted moved;
-          }) (gives_up (option_map (DownHeard C) (applied_by n told.reply)) counted new stop answers)
-      by (Err fault) applies answers =
-          subst (λ s. Comes old new s) (sym answers.1) (subst (λ r. Fails old r (ask_stop (centre_node C) fault)) (sym answers.0)
-          (centre_fails n (Apply n rec) old is.0 fault applies.comes))
-  handles_down (Some (UpHeard centre count)) old new stop moved is =
-      subst (λ s. Comes old new s) (sym is.1) (subst (Progress k old) (sym is.0)
-      (linked k old _ (serves_none k old.down) (serves_none k old.up) refl refl refl refl (λ after. inl moved) (no_still old _ moved)))
-  handles_down (Some (Up centre number item)) old new stop moved is = same old new stop is.0 is.1
-  handles_down (Some (DownHeard centre count)) old new stop moved is = same old new stop is.0 is.1
-  handles_down None old new stop moved is = same old new stop is.0 is.1
-
-  handles_up : (packet : Option Packet) (old new : Round L) (stop : Option Stop) → old.trip.moved ≡ true
-      → HandlesUp udc.ghosts k udc_limits udc_opening C packet old new stop → Comes old new stop
-  handles_up (Some (Up centre number item)) old new stop moved is = by is.1 is.2 is.3
-    where
-      by : (result : Result (Told UdcReply) AskFault)
-          → TakesItemUp udc.ghosts udc_limits udc_opening C number item old.udc is.0 result
-          → AnswersItem udc.ghosts k udc_limits udc_opening C number result (record old { udc = is.0 }) new stop → Comes old new stop
-      by (Ok told) takes answers =
-          let done = taken_answer C udc_limits udc_opening number item old.udc is.0 told takes.asks.prefix takes.comes.0 in
-          let counted : Round L = record old { udc = is.0; trip = trip_after_item told.reply old.trip } in
-          comes_later old counted new stop (record {
-            down = serves_none k old.down;
-            up = serves_none k old.up;
-            centre = refl;
-            udc = omega (arith, done.told);
-            centre_told = omega arith;
-            udc_told = omega (arith, done.told);
-            centre_failed = refl;
-            udc_failed = takes.comes.1;
-            centre_seen = prefix_self old.centre.seen;
-            udc_seen = takes.asks.prefix;
-            moved = λ after. inl moved;
-            still = no_still old counted moved;
-          }) (gives_down (option_map (UpHeard C) (taken_by number told.reply)) counted new stop answers)
-      by (Err fault) takes answers =
-          subst (λ s. Comes old new s) (sym answers.1) (subst (λ r. Fails old r (ask_stop 0 fault)) (sym answers.0)
-          (udc_fails (TakeUp C number item) old is.0 fault takes.comes))
-  handles_up (Some (DownHeard centre count)) old new stop moved is =
-      subst (λ s. Comes old new s) (sym is.1) (subst (Progress k old) (sym is.0)
-      (linked k old _ (serves_none k old.down) (serves_none k old.up) refl refl refl refl (λ after. inl moved) (no_still old _ moved)))
-  handles_up (Some (Down centre n rec)) old new stop moved is = same old new stop is.0 is.1
-  handles_up (Some (UpHeard centre count)) old new stop moved is = same old new stop is.0 is.1
-  handles_up None old new stop moved is = same old new stop is.0 is.1
 
   -- ---- a packet is taken
 
@@ -415,6 +339,40 @@ module _ {L : Type 0} (k : links.Ghosts L) (udc_limits centre_limits : Limits) (
     gives_up = gives_up going_up;
     takes_down = takes_down;
     takes_up = takes_up;
-    handles_down = handles_down;
-    handles_up = handles_up;
+    answers_down = λ packet old new stop right is. gives_down packet old new stop is;
+    answers_up = λ packet old new stop right is. gives_up packet old new stop is;
+    hears = λ old trip moved still applied taken_up.
+        linked k old _ (serves_none k old.down) (serves_none k old.up) refl refl applied taken_up (λ after. inl moved) (no_still old _ still);
+    applies = λ n rec old pass told moved is.
+        let done = applied_answer C centre_limits centre_opening n rec old.centre pass told is.asks.prefix is.comes.0 in record {
+          down = serves_none k old.down;
+          up = serves_none k old.up;
+          centre = omega (arith, done.told);
+          udc = refl;
+          centre_told = omega (arith, done.told);
+          udc_told = omega arith;
+          centre_failed = is.comes.1;
+          udc_failed = refl;
+          centre_seen = is.asks.prefix;
+          udc_seen = prefix_self old.udc.seen;
+          moved = λ after. inl moved;
+          still = no_still old _ moved;
+        };
+    applies_not = λ n rec old pass fault is. centre_fails (Apply n rec) old pass fault is.comes;
+    takes_item = λ number item old pass told moved is.
+        let done = taken_answer C udc_limits udc_opening number item old.udc pass told is.asks.prefix is.comes.0 in record {
+          down = serves_none k old.down;
+          up = serves_none k old.up;
+          centre = refl;
+          udc = omega (arith, done.told);
+          centre_told = omega arith;
+          udc_told = omega (arith, done.told);
+          centre_failed = refl;
+          udc_failed = is.comes.1;
+          centre_seen = prefix_self old.centre.seen;
+          udc_seen = is.asks.prefix;
+          moved = λ after. inl moved;
+          still = no_still old _ moved;
+        };
+    takes_item_not = λ number item old pass fault is. udc_fails (TakeUp C number item) old pass fault is.comes;
   }

@@ -1,5 +1,5 @@
 -- A round ends for a cause.
-use Rattle.std.proofs.Common.{◌≡◌, ◌⊎◌, inl, inr, ℕ, zero, suc, ◌+◌, ◌<◌, ◌≤◌, ◌&&◌, Bool, true, false, true≢false, List, [], ◌∷◌, length, Option, Some, None, Result, Ok, Err, if◌then◌else◌, refl, ap, sym, ◌∙◌, subst, arith}
+use Rattle.std.proofs.Common.{◌≡◌, inl, inr, ℕ, zero, suc, ◌+◌, ◌<◌, ◌≤◌, ◌&&◌, Bool, true, false, true≢false, List, [], ◌∷◌, length, Option, Some, None, Result, Ok, Err, if◌then◌else◌, refl, ap, sym, ◌∙◌, subst, arith}
 use Rattle.std.specs.Prelude.{slice_get, option_map, unwrap_or, nat_lt, nat_le, MatchResult}
 use Rattle.std.proofs.lemmas.Bool.{ltb-true, ltb-false, le-ltb}
 use denote.Param.{number}
@@ -20,8 +20,8 @@ use Rattle.pv_packet.specs.declared.packet.Packet.{Packet}
 use Rattle.pv_packet.specs.declared.packet.Packet.TheVariants.{Down, Up}
 use Rattle.pv_udc.specs.Replies.{down_of}
 use Rattle.pv_udc.specs.contracts.rules.UdcRulesRules.TheImpl as udc
-use Rattle.pv_ports.specs.Outcomes.{HasRoundCause, WasIdle, KeepsRecord}
-use Rattle.pv_ports.specs.Round.{CarrierState, Round, Stop, InTurn, UpToTwo, GivesDown, GivesUp, ReceivesDown, ReceivesUp, Carries, IsRound, end_of_trip}
+use Rattle.pv_ports.specs.Outcomes.{HasRoundCause}
+use Rattle.pv_ports.specs.Round.{CarrierState, Round, Stop, InTurn, UpToTwo, GivesTo, GivesUp, ReceivesDown, ReceivesUp, Carries, IsRound, end_of_trip}
 use Rattle.pv_ports.specs.Talk.{PassLooks}
 use Rattle.pv_ports.specs.declared.round_end.RoundEnd.TheVariants as stops
 use Rattle.pv_ports.specs.declared.trip.Trip.{Trip}
@@ -79,25 +79,16 @@ module _ {L : Type 0} (k : links.Ghosts L) (udc_limits centre_limits : Limits) (
   no_fault : (stop : Option Stop) (why : Stop) → stop ≡ None → stop ≡ Some why → ⊥
   no_fault stop why none some = absurd cc
 
-  none_down : (going : Option Packet) (old new : Round L) → GivesDown k going old new None → new.trip.moved ≡ false → going ≡ None
-  none_down None old new is unmoved = refl
-  none_down (Some packet) old new is unmoved = by is.0.1 None refl is.0.3
+  none_given : (going : Option Packet) (old new : L) (trip after : Trip) → GivesTo k going old trip new after None → after.moved ≡ false
+      → going ≡ None
+  none_given None old new trip after is unmoved = refl
+  none_given (Some packet) old new trip after is unmoved = by is.1 None refl is.3
     where
       by : (result : Result (Unit {0}) Failed) (stop : Option Stop) → stop ≡ None
-          → MatchResult result (λ _. (new.trip ≡ record old.trip { moved = true }) × (stop ≡ None))
-          (λ _. (new.trip ≡ old.trip) × (stop ≡ Some stops.LinkFault)) → Some packet ≡ None
-      by (Ok _) stop none after = absurd (true≢false (sym (ap (λ (t : Trip). t.moved) after.0) ∙ unmoved))
-      by (Err fault) stop none after = absurd (no_fault stop stops.LinkFault none after.1)
-
-  none_up : (going : Option Packet) (old new : Round L) → GivesUp k going old new None → new.trip.moved ≡ false → going ≡ None
-  none_up None old new is unmoved = refl
-  none_up (Some packet) old new is unmoved = by is.0.1 None refl is.0.3
-    where
-      by : (result : Result (Unit {0}) Failed) (stop : Option Stop) → stop ≡ None
-          → MatchResult result (λ _. (new.trip ≡ record old.trip { moved = true }) × (stop ≡ None))
-          (λ _. (new.trip ≡ old.trip) × (stop ≡ Some stops.LinkFault)) → Some packet ≡ None
-      by (Ok _) stop none after = absurd (true≢false (sym (ap (λ (t : Trip). t.moved) after.0) ∙ unmoved))
-      by (Err fault) stop none after = absurd (no_fault stop stops.LinkFault none after.1)
+          → MatchResult result (λ _. (after ≡ record trip { moved = true }) × (stop ≡ None))
+          (λ _. (after ≡ trip) × (stop ≡ Some stops.LinkFault)) → Some packet ≡ None
+      by (Ok _) stop none goes = absurd (true≢false (sym (ap (λ (t : Trip). t.moved) goes.0) ∙ unmoved))
+      by (Err fault) stop none goes = absurd (no_fault stop stops.LinkFault none goes.1)
 
   nothing_up : (going : Option Packet) (old new : Round L)
       → InTurn (GivesUp k going) (InTurn (UpToTwo (ReceivesDown (irc.ghosts (number C)) k centre_limits centre_opening C))
@@ -105,7 +96,7 @@ module _ {L : Type 0} (k : links.Ghosts L) (udc_limits centre_limits : Limits) (
   nothing_up going old new (inl is) unmoved = let no = is.2 in absurd cc
   nothing_up going old new (inr is) unmoved =
       let rest = received k udc_limits centre_limits udc_opening centre_opening C None going Every (each None going) is.0 new None is.2 in
-      none_up going old is.0 is.1 (rest.still unmoved).before
+      none_given going old.up is.0.up old.trip is.0.trip is.1.0 (rest.still unmoved).before
 
   nothing : (going_down going_up : Option Packet) (old new : Round L)
       → Carries udc.ghosts (irc.ghosts (number C)) k udc_limits centre_limits udc_opening centre_opening C going_down going_up old new None
@@ -114,7 +105,7 @@ module _ {L : Type 0} (k : links.Ghosts L) (udc_limits centre_limits : Limits) (
   nothing going_down going_up old new (inr is) unmoved =
       let rest = after_down k udc_limits centre_limits udc_opening centre_opening C going_down going_up Every (each going_down going_up) is.0
       new None is.2 in
-      (none_down going_down old is.0 is.1 (rest.still unmoved).before, nothing_up going_up is.0 new is.2 unmoved)
+      (none_given going_down old.down is.0.down old.trip is.0.trip is.1.0 (rest.still unmoved).before, nothing_up going_up is.0 new is.2 unmoved)
 
   -- ---- the cause
 

@@ -1,10 +1,9 @@
 -- What the nodes decide on a record that came down, and on an item that came up.
-use Rattle.std.proofs.Common.{◌≡◌, ℕ, ◌+◌, ◌≤◌, ◌==◌, Bool, true, false, true≢false, not, cond, List, [], ◌∷◌, ◌++◌, length, Option, Some, None, MatchOption, refl, ap, sym, ◌∙◌, subst, arith}
-use Rattle.std.specs.Prelude.{IfSome, nat_lt, min, ◌-◌}
+use Rattle.std.proofs.Common.{◌≡◌, ℕ, ◌+◌, ◌≤◌, Bool, true, false, true≢false, not, cond, List, [], ◌∷◌, length, Option, Some, None, MatchOption, refl, ap, sym, ◌∙◌, subst, arith}
+use Rattle.std.specs.Prelude.{IfSome, nat_lt}
 use mathlib.Core.List.{IsPrefix}
 use Rattle.std.proofs.lemmas.Bool.{ltb-true, ltb-false, le-ltb, eq-eqb}
 use denote.Param.{number}
-use Rattle.pv_outside.specs.Counts.{one_more}
 use Rattle.pv_outside.specs.declared.limits.Limits.{Limits}
 use Rattle.pv_fields.specs.Refusals.{first_of, some_if}
 use Rattle.pv_node.specs.declared.decision.Decision.{Decision}
@@ -27,7 +26,6 @@ use Rattle.pv_live.specs.Asking.{HasAsked, HasAnswered, HasStoredFor}
 use Rattle.pv_live.specs.Entries.{with_opening}
 use Rattle.pv_live.specs.Pass.{Standing}
 use Rattle.pv_live.specs.declared.entry.Entry.{Entry}
-use Rattle.pv_udc.specs.EditList.{EditList}
 use Rattle.pv_udc.specs.Judgement.{decision_of}
 use Rattle.pv_udc.specs.contracts.rules.UdcRulesRules.TheImpl as udc
 use Rattle.pv_udc.specs.declared.reply.UdcReply.{UdcReply}

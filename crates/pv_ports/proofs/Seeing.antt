@@ -1,35 +1,27 @@
 -- A round's passes have seen what was stored for them, unless it ran out of memory.
-use Rattle.std.proofs.Common.{◌≡◌, ℕ, ◌+◌, ◌-◌, ◌≤◌, List, Option, Some, None, Result, Ok, Err, refl, ap, sym, ◌∙◌, subst, arith}
-use Rattle.std.specs.Prelude.{IfSome, option_map, unwrap_or}
+use Rattle.std.proofs.Common.{◌≡◌, ℕ, ◌≤◌, List, Option, Some, None, refl, ap, sym, subst, arith}
+use Rattle.std.specs.Prelude.{IfSome, unwrap_or}
 use mathlib.Core.List.{IsPrefix}
 use denote.Param.{number}
-use Rattle.pv_outside.specs.declared.failed.Failed.{Failed}
 use Rattle.pv_outside.specs.declared.limits.Limits.{Limits}
 use Rattle.pv_outside.specs.declared.link.Link as links
-use Rattle.pv_node.specs.declared.decision.Told.{Told}
 use Rattle.pv_node.specs.declared.rules.Rules as rules
 use Rattle.pv_edits.specs.Edits.{taken_of}
 use Rattle.pv_edits.specs.declared.record.Record.{Record}
 use Rattle.pv_irc.specs.History.{applied_of}
 use Rattle.pv_irc.specs.contracts.rules.IrcRulesRules.TheImpl as irc
 use Rattle.pv_irc.specs.declared.record.CentreRecord.{CentreRecord}
-use Rattle.pv_irc.specs.declared.reply.IrcReply.{IrcReply}
 use Rattle.pv_irc.specs.declared.request.IrcRequest.TheVariants.{Apply}
 use Rattle.pv_live.specs.Asking.{HasFailed}
 use Rattle.pv_live.specs.Entries.{with_opening}
 use Rattle.pv_live.specs.Pass.{Standing}
 use Rattle.pv_live.specs.declared.entry.Entry.{Entry}
 use Rattle.pv_live.specs.declared.fault.LiveFault.TheVariants as faults
-use Rattle.pv_packet.specs.declared.packet.Packet.{Packet}
-use Rattle.pv_packet.specs.declared.packet.Packet.TheVariants.{Down, Up, DownHeard, UpHeard}
 use Rattle.pv_udc.specs.contracts.rules.UdcRulesRules.TheImpl as udc
-use Rattle.pv_udc.specs.declared.reply.UdcReply.{UdcReply}
 use Rattle.pv_udc.specs.declared.request.UdcRequest.TheVariants.{TakeUp}
 use Rattle.pv_ports.specs.Outcomes.{RisesByTold, HaveSeenTold, HasMemory}
-use Rattle.pv_ports.specs.Round.{CarrierState, Round, Stop, GivesDown, GivesUp, HandlesDown, HandlesUp, AnswersRecord, AnswersItem, AppliesRecord, TakesItemUp, IsRound, trip_after_take, ask_stop, end_of_trip, centre_node}
+use Rattle.pv_ports.specs.Round.{CarrierState, Round, Stop, IsRound, trip_after_take, ask_stop, end_of_trip, centre_node}
 use Rattle.pv_ports.specs.Session.{AskFault}
-use Rattle.pv_ports.specs.Talk.{PassLooks}
-use Rattle.pv_ports.specs.declared.round_end.RoundEnd.TheVariants as stops
 use Rattle.pv_ports.proofs.Growing.{applied_grows, taken_grows}
 use Rattle.pv_ports.proofs.Judging.{applied_answer, taken_answer}
 use Rattle.pv_ports.proofs.Walking.{carried, stop_at_take}
@@ -77,65 +69,6 @@ module _ {L : Type 0} (k : links.Ghosts L) (udc_limits centre_limits : Limits) (
   stays : (old new : Round L) (stop : Option Stop) → new.centre ≡ old.centre → new.udc ≡ old.udc → Sees old new stop
   stays old new stop centre udc = λ published. (centre_same old.centre new.centre centre, udc_same old.udc new.udc udc)
 
-  -- the centre alone was asked
-  centre_asked : (old new : Round L) (pass : Standing CentreRecord) → new.centre ≡ pass → new.udc ≡ old.udc → Centre old.centre pass
-      → Centre old.centre new.centre × Udc old.udc new.udc
-  centre_asked old new pass centre udc seen =
-      (subst (λ (p : Standing CentreRecord). Centre old.centre p) (sym centre) seen, udc_same old.udc new.udc udc)
-
-  udc_asked : (old new : Round L) (pass : Standing Record) → new.udc ≡ pass → new.centre ≡ old.centre → Udc old.udc pass
-      → Centre old.centre new.centre × Udc old.udc new.udc
-  udc_asked old new pass udc centre seen =
-      (centre_same old.centre new.centre centre, subst (λ (p : Standing Record). Udc old.udc p) (sym udc) seen)
-
-  handles_down : (packet : Option Packet) (old new : Round L) (stop : Option Stop)
-      → HandlesDown (irc.ghosts (number C)) k centre_limits centre_opening C packet old new stop → Sees old new stop
-  handles_down (Some (Down centre n rec)) old new stop is = λ published. by published is.1 is.2 is.3
-    where
-      by : IfSome stop HasMemory → (result : Result (Told IrcReply) AskFault)
-          → AppliesRecord (irc.ghosts (number C)) centre_limits centre_opening C n rec old.centre is.0 result
-          → AnswersRecord (irc.ghosts (number C)) k centre_limits centre_opening C n result (record old { centre = is.0 }) new stop
-          → Centre old.centre new.centre × Udc old.udc new.udc
-      by published (Ok told) applies answers =
-          centre_asked old new is.0 (ap (λ (r : Round L). r.centre) answers.1) (ap (λ (r : Round L). r.udc) answers.1)
-          (applied_answer C centre_limits centre_opening n rec old.centre is.0 told applies.asks.prefix applies.comes.0).seen
-      by published (Err fault) applies answers =
-          centre_asked old new is.0 (ap (λ (r : Round L). r.centre) answers.0) (ap (λ (r : Round L). r.udc) answers.0)
-          (rises_untold applied_of centre_opening (applied_grows centre_opening) old.centre is.0
-          (untold (irc.ghosts (number C)) centre_limits centre_opening (centre_node C) (Apply n rec) old.centre is.0 fault
-          (subst (λ (s : Option Stop). IfSome s HasMemory) answers.1 published) applies.comes) applies.asks.prefix)
-  handles_down (Some (UpHeard centre count)) old new stop is =
-      stays old new stop (ap (λ (r : Round L). r.centre) is.0) (ap (λ (r : Round L). r.udc) is.0)
-  handles_down (Some (Up centre number item)) old new stop is =
-      stays old new stop (ap (λ (r : Round L). r.centre) is.0) (ap (λ (r : Round L). r.udc) is.0)
-  handles_down (Some (DownHeard centre count)) old new stop is =
-      stays old new stop (ap (λ (r : Round L). r.centre) is.0) (ap (λ (r : Round L). r.udc) is.0)
-  handles_down None old new stop is = stays old new stop (ap (λ (r : Round L). r.centre) is.0) (ap (λ (r : Round L). r.udc) is.0)
-
-  handles_up : (packet : Option Packet) (old new : Round L) (stop : Option Stop)
-      → HandlesUp udc.ghosts k udc_limits udc_opening C packet old new stop → Sees old new stop
-  handles_up (Some (Up centre number item)) old new stop is = λ published. by published is.1 is.2 is.3
-    where
-      by : IfSome stop HasMemory → (result : Result (Told UdcReply) AskFault)
-          → TakesItemUp udc.ghosts udc_limits udc_opening C number item old.udc is.0 result
-          → AnswersItem udc.ghosts k udc_limits udc_opening C number result (record old { udc = is.0 }) new stop
-          → Centre old.centre new.centre × Udc old.udc new.udc
-      by published (Ok told) takes answers =
-          udc_asked old new is.0 (ap (λ (r : Round L). r.udc) answers.1) (ap (λ (r : Round L). r.centre) answers.1)
-          (taken_answer C udc_limits udc_opening number item old.udc is.0 told takes.asks.prefix takes.comes.0).seen
-      by published (Err fault) takes answers =
-          udc_asked old new is.0 (ap (λ (r : Round L). r.udc) answers.0) (ap (λ (r : Round L). r.centre) answers.0)
-          (rises_untold (λ records. taken_of records C) udc_opening (taken_grows C udc_opening) old.udc is.0
-          (untold udc.ghosts udc_limits udc_opening 0 (TakeUp C number item) old.udc is.0 fault
-          (subst (λ (s : Option Stop). IfSome s HasMemory) answers.1 published) takes.comes) takes.asks.prefix)
-  handles_up (Some (DownHeard centre count)) old new stop is =
-      stays old new stop (ap (λ (r : Round L). r.centre) is.0) (ap (λ (r : Round L). r.udc) is.0)
-  handles_up (Some (Down centre n rec)) old new stop is =
-      stays old new stop (ap (λ (r : Round L). r.centre) is.0) (ap (λ (r : Round L). r.udc) is.0)
-  handles_up (Some (UpHeard centre count)) old new stop is =
-      stays old new stop (ap (λ (r : Round L). r.centre) is.0) (ap (λ (r : Round L). r.udc) is.0)
-  handles_up None old new stop is = stays old new stop (ap (λ (r : Round L). r.centre) is.0) (ap (λ (r : Round L). r.udc) is.0)
-
   -- Unless the round ran out of memory, the passes have seen what was stored for them.
   pub sees_told : (old new : CarrierState) (old_down old_up new_down new_up : L) (end : Stop)
       → IsRound udc.ghosts (irc.ghosts (number C)) k udc_limits centre_limits udc_opening centre_opening C old old_down old_up new
@@ -157,8 +90,30 @@ module _ {L : Type 0} (k : links.Ghosts L) (udc_limits centre_limits : Limits) (
             stays old (record old { down = link; trip = trip_after_take result old.trip }) (stop_at_take result) refl refl;
         takes_up = λ into result old link is.
             stays old (record old { up = link; trip = trip_after_take result old.trip }) (stop_at_take result) refl refl;
-        handles_down = λ packet old new stop moved is. handles_down packet old new stop is;
-        handles_up = λ packet old new stop moved is. handles_up packet old new stop is;
+        answers_down = λ packet old new stop right is.
+            stays old new stop (ap (λ (r : Round L). r.centre) is.1) (ap (λ (r : Round L). r.udc) is.1);
+        answers_up = λ packet old new stop right is.
+            stays old new stop (ap (λ (r : Round L). r.centre) is.1) (ap (λ (r : Round L). r.udc) is.1);
+        hears = λ old trip moved still applied taken_up. stays old (record old { trip = trip }) None refl refl;
+        applies = λ n rec old pass told moved is published. (
+          (applied_answer C centre_limits centre_opening n rec old.centre pass told is.asks.prefix is.comes.0).seen,
+          udc_same old.udc old.udc refl,
+        );
+        applies_not = λ n rec old pass fault is published. (
+          rises_untold applied_of centre_opening (applied_grows centre_opening) old.centre pass
+              (untold (irc.ghosts (number C)) centre_limits centre_opening (centre_node C) (Apply n rec) old.centre pass fault published
+              is.comes) is.asks.prefix,
+          udc_same old.udc old.udc refl,
+        );
+        takes_item = λ number item old pass told moved is published. (
+          centre_same old.centre old.centre refl,
+          (taken_answer C udc_limits udc_opening number item old.udc pass told is.asks.prefix is.comes.0).seen,
+        );
+        takes_item_not = λ number item old pass fault is published. (
+          centre_same old.centre old.centre refl,
+          rises_untold (λ records. taken_of records C) udc_opening (taken_grows C udc_opening) old.udc pass
+              (untold udc.ghosts udc_limits udc_opening 0 (TakeUp C number item) old.udc pass fault published is.comes) is.asks.prefix,
+        );
       }) first last is.stop is.carries (all is.stop is.ends) in
       record {
         applied =

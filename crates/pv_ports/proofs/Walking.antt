@@ -1,17 +1,30 @@
 -- What holds of each stage of a round, and of a stage after another, holds of the whole round.
-use Rattle.std.proofs.Common.{◌≡◌, ◌⊎◌, inl, inr, ℕ, Bool, true, false, List, Option, Some, None, Result, Ok, Err, refl, ap, sym, ◌∙◌, subst}
+use Rattle.std.proofs.Common.{◌≡◌, inl, inr, ℕ, Bool, true, false, List, Option, Some, None, Result, Ok, Err, refl, ap, sym, ◌∙◌, subst}
+use Rattle.std.specs.Prelude.{IfSome, option_map}
 use denote.Param.{number}
 use Rattle.pv_outside.specs.declared.failed.Failed.{Failed}
 use Rattle.pv_outside.specs.declared.limits.Limits.{Limits}
 use Rattle.pv_outside.specs.declared.link.Link as links
+use Rattle.pv_node.specs.declared.decision.Told.{Told}
+use Rattle.pv_post.specs.declared.item.Item.{Item}
+use Rattle.pv_edits.specs.declared.down.DownRecord.{DownRecord}
 use Rattle.pv_edits.specs.declared.record.Record.{Record}
 use Rattle.pv_irc.specs.contracts.rules.IrcRulesRules.TheImpl as irc
 use Rattle.pv_irc.specs.declared.record.CentreRecord.{CentreRecord}
+use Rattle.pv_irc.specs.declared.reply.IrcReply.{IrcReply}
+use Rattle.pv_link.specs.Sending.{end_that_heard}
+use Rattle.pv_live.specs.Entries.{with_opening}
+use Rattle.pv_live.specs.Pass.{Standing}
 use Rattle.pv_packet.specs.declared.packet.Packet.{Packet}
+use Rattle.pv_packet.specs.declared.packet.Packet.TheVariants.{Down, Up, DownHeard, UpHeard}
 use Rattle.pv_udc.specs.contracts.rules.UdcRulesRules.TheImpl as udc
-use Rattle.pv_ports.specs.Round.{Round, Stop, Took, InTurn, UpToTwo, ReceivesNext, GivesDown, GivesUp, HandlesDown, HandlesUp, HandlesTaken, ReceivesDown, ReceivesUp, Carries, trip_after_take, came_by, stop_in}
+use Rattle.pv_udc.specs.declared.reply.UdcReply.{UdcReply}
+use Rattle.pv_ports.specs.Rights.{GoesDown, GoesUp}
+use Rattle.pv_ports.specs.Round.{Round, Stop, Took, InTurn, UpToTwo, ReceivesNext, GivesDown, GivesUp, HandlesDown, HandlesUp, HandlesTaken, AnswersRecord, AnswersItem, AppliesRecord, TakesItemUp, ReceivesDown, ReceivesUp, Carries, applied_by, taken_by, trip_after_record, trip_after_item, trip_after_take, came_by, stop_in, ask_stop, centre_node}
+use Rattle.pv_ports.specs.Session.{AskFault}
 use Rattle.pv_ports.specs.declared.round_end.RoundEnd.TheVariants as stops
 use Rattle.pv_ports.specs.declared.trip.Trip.{Trip}
+use Rattle.pv_ports.proofs.Judging.{applied_answer, taken_answer}
 
 -- why the round stops at a take, if it does
 abbrev pub stop_at_take : Result (Option ℕ) Failed → Option Stop
@@ -22,6 +35,12 @@ stop_at_take (Err fault) = Some stops.LinkFault
 same_stop_in : (stop : Option Stop) → stop_in (came_by stop) ≡ stop
 same_stop_in None = refl
 same_stop_in (Some why) = refl
+
+-- what holds of each acknowledgement holds of the one that is given, if one is
+heard_of : (heard : ℕ → Packet) (P : Packet → Type 0) (count : Option ℕ) → IfSome count (λ m. P (heard m))
+    → IfSome (option_map heard count) P
+heard_of heard P None is = tt
+heard_of heard P (Some m) is = is
 
 module _ {L : Type 0} (k : links.Ghosts L) (udc_limits centre_limits : Limits) (udc_opening : List Record)
     (centre_opening : List CentreRecord) (C : ℕ) (going_down going_up : Option Packet) where
@@ -34,12 +53,86 @@ module _ {L : Type 0} (k : links.Ghosts L) (udc_limits centre_limits : Limits) (
         → R old (record old { down = link; trip = trip_after_take result old.trip }) (stop_at_take result)
     pub takes_up : (into : List ℕ) (result : Result (Option ℕ) Failed) (old : Round L) (link : L) → Took k into old.up link result
         → R old (record old { up = link; trip = trip_after_take result old.trip }) (stop_at_take result)
-    pub handles_down : (packet : Option Packet) (old new : Round L) (stop : Option Stop) → old.trip.moved ≡ true
-        → HandlesDown (irc.ghosts (number C)) k centre_limits centre_opening C packet old new stop → R old new stop
-    pub handles_up : (packet : Option Packet) (old new : Round L) (stop : Option Stop) → old.trip.moved ≡ true
-        → HandlesUp udc.ghosts k udc_limits udc_opening C packet old new stop → R old new stop
+    -- an acknowledgement is given, of no more than is stored
+    pub answers_down : (packet : Option Packet) (old new : Round L) (stop : Option Stop)
+        → IfSome packet (GoesDown (with_opening udc_opening old.udc.seen)) → GivesDown k packet old new stop → R old new stop
+    pub answers_up : (packet : Option Packet) (old new : Round L) (stop : Option Stop)
+        → IfSome packet (GoesUp (with_opening centre_opening old.centre.seen)) → GivesUp k packet old new stop → R old new stop
+    -- a packet for which nothing is asked: a sending end hears it, or it is dropped
+    pub hears : (old : Round L) (trip : Trip) → old.trip.moved ≡ true → trip.moved ≡ true → trip.applied ≡ old.trip.applied
+        → trip.taken_up ≡ old.trip.taken_up → R old (record old { trip = trip }) None
+    -- the centre is asked to apply a record
+    pub applies : (n : ℕ) (rec : DownRecord) (old : Round L) (pass : Standing CentreRecord) (told : Told IrcReply) → old.trip.moved ≡ true
+        → AppliesRecord (irc.ghosts (number C)) centre_limits centre_opening C n rec old.centre pass (Ok told)
+        → R old (record old { centre = pass; trip = trip_after_record told.reply old.trip }) None
+    pub applies_not : (n : ℕ) (rec : DownRecord) (old : Round L) (pass : Standing CentreRecord) (fault : AskFault)
+        → AppliesRecord (irc.ghosts (number C)) centre_limits centre_opening C n rec old.centre pass (Err fault)
+        → R old (record old { centre = pass }) (Some (ask_stop (centre_node C) fault))
+    -- the Update Centre is asked to take an item up
+    pub takes_item : (number : ℕ) (item : Item) (old : Round L) (pass : Standing Record) (told : Told UdcReply) → old.trip.moved ≡ true
+        → TakesItemUp udc.ghosts udc_limits udc_opening C number item old.udc pass (Ok told)
+        → R old (record old { udc = pass; trip = trip_after_item told.reply old.trip }) None
+    pub takes_item_not : (number : ℕ) (item : Item) (old : Round L) (pass : Standing Record) (fault : AskFault)
+        → TakesItemUp udc.ghosts udc_limits udc_opening C number item old.udc pass (Err fault)
+        → R old (record old { udc = pass }) (Some (ask_stop 0 fault))
 
   module _ (R : Round L → Round L → Option Stop → Type 0) (each : EachStage R) where
+    -- a packet for which nothing is asked
+    heard : (old new : Round L) (trip : Trip) (stop : Option Stop) → old.trip.moved ≡ true → trip.moved ≡ true
+        → trip.applied ≡ old.trip.applied → trip.taken_up ≡ old.trip.taken_up → (new ≡ record old { trip = trip }) × (stop ≡ None)
+        → R old new stop
+    heard old new trip stop moved still applied taken_up is =
+        subst (λ (s : Option Stop). R old new s) (sym is.1)
+        (subst (λ (r : Round L). R old r None) (sym is.0) (each.hears old trip moved still applied taken_up))
+
+    -- a packet that came down is handled
+    handles_down : (packet : Option Packet) (old new : Round L) (stop : Option Stop) → old.trip.moved ≡ true
+        → HandlesDown (irc.ghosts (number C)) k centre_limits centre_opening C packet old new stop → R old new stop
+    handles_down (Some (Down centre n rec)) old new stop moved is = by is.1 is.2 is.3
+      where
+        by : (result : Result (Told IrcReply) AskFault)
+            → AppliesRecord (irc.ghosts (number C)) centre_limits centre_opening C n rec old.centre is.0 result
+            → AnswersRecord (irc.ghosts (number C)) k centre_limits centre_opening C n result (record old { centre = is.0 }) new stop
+            → R old new stop
+        by (Ok told) applies answers =
+            let counted : Round L = record old { centre = is.0; trip = trip_after_record told.reply old.trip } in
+            let done = applied_answer C centre_limits centre_opening n rec old.centre is.0 told applies.asks.prefix applies.comes.0 in
+            each.later old counted new stop (each.applies n rec old is.0 told moved applies)
+            (each.answers_up (option_map (DownHeard C) (applied_by n told.reply)) counted new stop
+            (heard_of (DownHeard C) (GoesUp (with_opening centre_opening is.0.seen)) (applied_by n told.reply) done.heard) answers)
+        by (Err fault) applies answers =
+            subst (λ (s : Option Stop). R old new s) (sym answers.1)
+            (subst (λ (r : Round L). R old r (Some (ask_stop (centre_node C) fault))) (sym answers.0)
+            (each.applies_not n rec old is.0 fault applies))
+    handles_down (Some (UpHeard centre count)) old new stop moved is =
+        heard old new (record old.trip { posting = end_that_heard old.trip.posting count old.trip.item_count }) stop moved moved refl refl is
+    handles_down (Some (Up centre number item)) old new stop moved is = heard old new old.trip stop moved moved refl refl is
+    handles_down (Some (DownHeard centre count)) old new stop moved is = heard old new old.trip stop moved moved refl refl is
+    handles_down None old new stop moved is = heard old new old.trip stop moved moved refl refl is
+
+    -- a packet that came up is handled
+    handles_up : (packet : Option Packet) (old new : Round L) (stop : Option Stop) → old.trip.moved ≡ true
+        → HandlesUp udc.ghosts k udc_limits udc_opening C packet old new stop → R old new stop
+    handles_up (Some (Up centre number item)) old new stop moved is = by is.1 is.2 is.3
+      where
+        by : (result : Result (Told UdcReply) AskFault)
+            → TakesItemUp udc.ghosts udc_limits udc_opening C number item old.udc is.0 result
+            → AnswersItem udc.ghosts k udc_limits udc_opening C number result (record old { udc = is.0 }) new stop → R old new stop
+        by (Ok told) takes answers =
+            let counted : Round L = record old { udc = is.0; trip = trip_after_item told.reply old.trip } in
+            let done = taken_answer C udc_limits udc_opening number item old.udc is.0 told takes.asks.prefix takes.comes.0 in
+            each.later old counted new stop (each.takes_item number item old is.0 told moved takes)
+            (each.answers_down (option_map (UpHeard C) (taken_by number told.reply)) counted new stop
+            (heard_of (UpHeard C) (GoesDown (with_opening udc_opening is.0.seen)) (taken_by number told.reply) done.heard) answers)
+        by (Err fault) takes answers =
+            subst (λ (s : Option Stop). R old new s) (sym answers.1)
+            (subst (λ (r : Round L). R old r (Some (ask_stop 0 fault))) (sym answers.0) (each.takes_item_not number item old is.0 fault takes))
+    handles_up (Some (DownHeard centre count)) old new stop moved is =
+        heard old new (record old.trip { sending = end_that_heard old.trip.sending count old.trip.record_count }) stop moved moved refl refl is
+    handles_up (Some (Down centre n rec)) old new stop moved is = heard old new old.trip stop moved moved refl refl is
+    handles_up (Some (UpHeard centre count)) old new stop moved is = heard old new old.trip stop moved moved refl refl is
+    handles_up None old new stop moved is = heard old new old.trip stop moved moved refl refl is
+
     -- what was taken is handled
     handled : (Handles : Option Packet → Round L → Round L → Option Stop → Type 0)
         → ((packet : Option Packet) (old new : Round L) (stop : Option Stop) → old.trip.moved ≡ true → Handles packet old new stop
@@ -61,13 +154,13 @@ module _ {L : Type 0} (k : links.Ghosts L) (udc_limits centre_limits : Limits) (
     receives_down : (old new : Round L) (came : Result Bool Stop)
         → ReceivesDown (irc.ghosts (number C)) k centre_limits centre_opening C old new came → R old new (stop_in came)
     receives_down old new came is =
-        handled (HandlesDown (irc.ghosts (number C)) k centre_limits centre_opening C) each.handles_down is.1 is.2
+        handled (HandlesDown (irc.ghosts (number C)) k centre_limits centre_opening C) handles_down is.1 is.2
         (λ trip. record old { down = is.0; trip = trip }) old new came (λ trip. refl) (each.takes_down is.1 is.2 old is.0 is.3) is.4
 
     receives_up : (old new : Round L) (came : Result Bool Stop) → ReceivesUp udc.ghosts k udc_limits udc_opening C old new came
         → R old new (stop_in came)
     receives_up old new came is =
-        handled (HandlesUp udc.ghosts k udc_limits udc_opening C) each.handles_up is.1 is.2
+        handled (HandlesUp udc.ghosts k udc_limits udc_opening C) handles_up is.1 is.2
         (λ trip. record old { up = is.0; trip = trip }) old new came (λ trip. refl) (each.takes_up is.1 is.2 old is.0 is.3) is.4
 
     -- up to two packets

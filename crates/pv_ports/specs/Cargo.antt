@@ -1,5 +1,5 @@
 -- What a round carries that does not stop: what its looks find, what its links are given and hand out, and what is stored of that.
-use Rattle.std.specs.Prelude.{◌≡◌, ℕ, zero, suc, ◌+◌, ◌≤◌, ◌<◌, IsTrue, List, [], ◌∷◌, length, take, All, Option, Some, None, IfSome, option_to_list, Result, Ok}
+use Rattle.std.specs.Prelude.{◌≡◌, ℕ, zero, suc, ◌+◌, ◌≤◌, ◌<◌, IsTrue, List, [], ◌∷◌, length, take, All, Option, Some, None, IfSome, option_to_list, Ok}
 use Rattle.std.specs.List.{filter_map}
 use mathlib.Core.List.{IsPrefix}
 use Rattle.pv_outside.specs.Counts.{one_more}
@@ -13,10 +13,11 @@ use Rattle.pv_irc.specs.declared.record.CentreRecord.{CentreRecord}
 use Rattle.pv_link.specs.Sending.{SendingEnd, number_to_give}
 use Rattle.pv_live.specs.Entries.{with_opening}
 use Rattle.pv_live.specs.Pass.{Standing}
-use Rattle.pv_packet.specs.Packet.{packet_bytes}
+use Rattle.pv_packet.specs.Packet.{IsPacket, packet_bytes}
 use Rattle.pv_packet.specs.declared.packet.Packet.{Packet}
 use Rattle.pv_packet.specs.declared.packet.Packet.TheVariants.{Down, Up, DownHeard, UpHeard}
 use Rattle.pv_ports.specs.Parcels.{down_packet, up_packet}
+use Rattle.pv_ports.specs.Rights.{GoesDown, GoesUp, HoldRightPackets}
 use Rattle.pv_ports.specs.Round.{CarrierState, Stop, Gave, Took, IsReadAs}
 use Rattle.pv_ports.specs.Talk.{PassLooks}
 use Rattle.pv_ports.specs.declared.round_end.RoundEnd.TheVariants as stops
@@ -57,7 +58,8 @@ module _ {L : Type 0} (k : links.Ghosts L) where
   -- these packets are given to a link, in order
   abbrev pub GivesEach : List Packet → L → L → Type 0
   GivesEach [] old new = new ≡ old
-  GivesEach (packet ∷ later) old new = (mid : L) × Gave k (packet_bytes packet) old mid (Ok tt) × GivesEach later mid new
+  GivesEach (packet ∷ later) old new =
+      (mid : L) × IsPacket packet × Gave k (packet_bytes packet) old mid (Ok tt) × GivesEach later mid new
 
   -- a link hands out bytes that spell this packet of the centre, or none of it
   abbrev pub HandsOutPacket : ℕ → Option Packet → L → L → Type 0
@@ -125,7 +127,9 @@ module _ {L : Type 0} (k : links.Ghosts L) (centre_limits : Limits) (udc_opening
       pub taken_down : k.taken new_down ≡ count_after (length cargo.down) (k.taken old_down)
       pub taken_up : k.taken new_up ≡ count_after (length cargo.up) (k.taken old_up)
 
-    -- What a round has carried that went to its end, and that each record and item that came is stored which was due.
+    -- What a round has carried that went to its end. Each record and item that came is stored which was due, and no more is acknowledged than
+    -- is stored. If all packets that the links may hold are right before the round, so is each that came: a record that was asked for is
+    -- the Update Centre's of its number, and an item the centre's.
     pub record HasBrought (old : CarrierState) (old_down old_up : L) (new : CarrierState) (new_down new_up : L) : Type 0 where
       pub cargo : Cargo
       pub looks : PassLooks old.udc cargo.udc × PassLooks old.centre cargo.centre
@@ -136,3 +140,8 @@ module _ {L : Type 0} (k : links.Ghosts L) (centre_limits : Limits) (udc_opening
           (IsBroughtDown C centre_limits (with_opening centre_opening old.centre.seen) (with_opening centre_opening new.centre.seen))) cargo.down
       pub items : All (λ (came : Arrival). IfSome came.packet
           (IsBroughtUp C (with_opening udc_opening old.udc.seen) (with_opening udc_opening new.udc.seen))) cargo.up
+      pub heard : All (λ (came : Arrival). IfSome came.answer (GoesUp (with_opening centre_opening new.centre.seen))) cargo.down
+          × All (λ (came : Arrival). IfSome came.answer (GoesDown (with_opening udc_opening new.udc.seen))) cargo.up
+      pub asked : HoldRightPackets k udc_opening centre_opening C old.udc old.centre old_down old_up
+          → All (λ (came : Arrival). IfSome came.packet (GoesDown (with_opening udc_opening new.udc.seen))) cargo.down
+          × All (λ (came : Arrival). IfSome came.packet (GoesUp (with_opening centre_opening new.centre.seen))) cargo.up

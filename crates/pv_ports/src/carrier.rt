@@ -101,7 +101,9 @@ impl<const C: u8, U: Run<Record>, N: Run<CentreRecord>> Carrier<C, U, N> {
             up.new }
 
         // A round that went to its end has given and taken what its links count. What came and was due is
-        // stored.
+        // stored. If all packets that the links may hold are right before the round, so is each that came:
+        // the centre was asked for the Update Centre's records alone, and the Update Centre for the
+        // centre's items.
         ensures carried { WentThrough (round_stop result) → HasBrought ⟦<L as Link>⟧ N.limits U.opening
             N.opening C self.old down.old up.old self.new down.new up.new }
 

@@ -1,4 +1,4 @@
-use Rattle.std.proofs.Common.{sym, ◌∙◌}
+use Rattle.std.proofs.Common.{◌∙◌}
 use Rattle.pv_ports.proofs.Rounds.{of_another}
 use Rattle.pv_ports.proofs.round.packet_of.Goals as goal
 

@@ -19,4 +19,5 @@ returns-clause-seen g c =
 
 pub returns-clause-carried : goal.returns-clause-carried
 returns-clause-carried g c =
-    has_carried g.L.Link g.U.Run.limits g.N.Run.limits g.U.Run.opening g.N.Run.opening g.row.C _ _ _ _ _ _ _ c.make_round.ensures
+    has_carried g.L.Link g.U.Run.limits g.N.Run.limits g.U.Run.opening g.N.Run.opening g.row.C
+    c.a_packet_is_read_as_it_is_spelled.ensures.read _ _ _ _ _ _ _ c.make_round.ensures

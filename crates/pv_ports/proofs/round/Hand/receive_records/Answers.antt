@@ -1,4 +1,4 @@
-use Rattle.std.proofs.Common.{true, false, Some, refl}
+use Rattle.std.proofs.Common.{true, false, refl}
 use Rattle.std.specs.Prelude.{Ok}
 use Rattle.pv_ports.specs.Round.{round_at, came_in}
 use Rattle.pv_ports.proofs.round.Hand.receive_records.Goals as goal

@@ -1,6 +1,5 @@
-use Rattle.std.proofs.Common.{◌+◌, Some, refl, ap, ◌∙◌}
+use Rattle.std.proofs.Common.{Some, refl, ap, ◌∙◌}
 use Rattle.std.specs.Prelude.{Ok, Err, option_map}
-use denote.Param.{number}
 use Rattle.pv_udc.specs.contracts.rules.UdcRulesRules.TheImpl as udc
 use Rattle.pv_udc.specs.declared.request.UdcRequest.TheVariants.{TakeUp}
 use Rattle.pv_packet.specs.declared.packet.Packet.TheVariants.{UpHeard}
