@@ -1,8 +1,10 @@
-//! The tests of ports. They stand apart, since a crate is proved once more with its tests.
+//! The tests of the ports and of carriers. They stand apart, since a crate is proved once more with its tests.
 #![tactic(auto)]
 
 #[cfg(test)]
 mod callers;
+#[cfg(test)]
+mod carriers;
 #[cfg(test)]
 mod editors;
 #[cfg(test)]
@@ -11,3 +13,5 @@ mod late;
 mod looks;
 #[cfg(test)]
 mod nodes;
+#[cfg(test)]
+mod unsteady;
