@@ -11,7 +11,8 @@ use Rattle.pv_irc.specs.declared.request.IrcRequest.{IrcRequest}
 use Rattle.pv_udc.specs.EditList.{EditList}
 use Rattle.pv_udc.specs.declared.reply.UdcReply.{UdcReply}
 use Rattle.pv_udc.specs.declared.request.UdcRequest.{UdcRequest}
-use Rattle.pv_ports.specs.Outcomes.{HasRoundCause}
+use Rattle.pv_ports.specs.Cargo.{WentThrough, HasBrought}
+use Rattle.pv_ports.specs.Outcomes.{HasRoundCause, HasMemory, HaveSeenTold}
 use Rattle.pv_ports.specs.Rights.{HoldRightPackets}
 use Rattle.pv_ports.specs.Round.{CarrierState, Stop, round_stop, IsRound}
 use Rattle.pv_ports.specs.declared.round_end.RoundEnd.{RoundEnd}
@@ -75,13 +76,17 @@ module _ {L : Type 0} (k : links.Ghosts L) (udc_opening : List Record) (centre_o
 module _ {SU SC L : Type 0} (u : rules.Ghosts SU EditList UdcRequest Record UdcReply)
     (c : rules.Ghosts SC CentreState IrcRequest CentreRecord IrcReply) (k : links.Ghosts L) (udc_limits centre_limits : Limits)
     (udc_opening : List Record) (centre_opening : List CentreRecord) (C : ℕ) where
-  -- one round, and why it ended so; if all packets were right before it, they are after it
+  -- One round, and why it ended so. If all packets were right before it, they are after it. If it went to its end, it has brought what was
+  -- due. Unless it ran out of memory, the passes have seen what was stored for them.
   pub record MakesRound (old : CarrierPlace L) (stop : Stop) (new : CarrierPlace L) : Type 0 where
     pub round : IsRound u c k udc_limits centre_limits udc_opening centre_opening C old.carrier old.down old.up new.carrier new.down
         new.up stop
     pub cause : HasRoundCause u c k udc_limits centre_limits udc_opening centre_opening C old.carrier old.down old.up new.carrier new.down
         new.up stop
     pub right : HoldsRight k udc_opening centre_opening C old → HoldsRight k udc_opening centre_opening C new
+    pub carried : WentThrough stop
+        → HasBrought k centre_limits udc_opening centre_opening C old.carrier old.down old.up new.carrier new.down new.up
+    pub seen : HasMemory stop → HaveSeenTold udc_opening centre_opening C old.carrier new.carrier
 
   -- these rounds were made, given how they ended, the last one first
   abbrev pub MakesRounds : List Stop → CarrierPlace L → CarrierPlace L → Type 0
@@ -94,7 +99,8 @@ module _ {SU SC L : Type 0} (u : rules.Ghosts SU EditList UdcRequest Record UdcR
     pub memory_is : memory ≡ any_is round_lacked_memory stops
     pub goes_on : AllGoOn stops
 
-  -- A carrier has made its rounds: how each ended, and why it made no further one.
+  -- A carrier has made its rounds: how each ended, and why it made no further one. If all packets were right before, they are afterwards.
+  -- Unless some round ran out of memory, the passes have seen what was stored for them in all rounds.
   pub record HasCarried {D F : Type 0} (old new : CarrierPlace L) (report : CarrierReport D F) : Type 0 where
     pub last : Stop
     pub earlier : List Stop
@@ -102,3 +108,5 @@ module _ {SU SC L : Type 0} (u : rules.Ghosts SU EditList UdcRequest Record UdcR
     pub memory_is : report.memory ≡ any_is round_lacked_memory (last ∷ earlier)
     pub goes_on : AllGoOn earlier
     pub ends : LastRoundIs report.fault last
+    pub right : HoldsRight k udc_opening centre_opening C old → HoldsRight k udc_opening centre_opening C new
+    pub seen : report.memory ≡ false → HaveSeenTold udc_opening centre_opening C old.carrier new.carrier

@@ -27,24 +27,27 @@ pub struct CallerStand<const C: u8, N: Run<CentreRecord>, D: Disk, O: Door + Dro
     /// How many lines it is to serve.
     pub calls: u32,
     /// How its work has ended.
-    pub report: PortReport<D>,
+    pub report: Box<PortReport<D>>,
 }
 
 impl<const C: u8, N: Run<CentreRecord>, D: Disk, O: Door + Drop> CallerStand<C, N, D, O> {
-    /// A stand at which no line was served.
-    pub fn new(port: CallerPort<C, N>, door: Box<O>, calls: u32) -> CallerStand<C, N, D, O>
+    /// A stand that is to serve this many lines, with the report that its work is to fill in.
+    pub fn new(
+        port: CallerPort<C, N>,
+        door: Box<O>,
+        calls: u32,
+        report: Box<PortReport<D>>,
+    ) -> CallerStand<C, N, D, O>
         ensures port { result.port ≡ port }
         ensures door { result.door ≡ door }
         ensures calls { result.calls ≡ calls }
+        ensures report { result.report ≡ report }
     {
         CallerStand {
             port,
             door,
             calls,
-            report: PortReport {
-                memory: false,
-                fault: None,
-            },
+            report,
         }
     }
 }
@@ -158,10 +161,10 @@ pub fn serve_callers<
     ensures served { HasServedCalls ⟦<IrcRules<C> as Rules>⟧ N.limits N.opening
         (K.moment clock.now) (line_of ⟦<O::Line as Source>⟧ ⟦<O::Line as Sink>⟧) stand.old.calls
         stand.old.port.pass (door_of O.lines O.accepted O.finished O.faults stand.old.door.value)
-        stand.new.port.pass (door_of O.lines O.accepted O.finished O.faults stand.new.door.value) stand.new.report }
+        stand.new.port.pass (door_of O.lines O.accepted O.finished O.faults stand.new.door.value) stand.new.report.value }
     ensures calls { stand.new.calls ≡ stand.old.calls }
 {
-    stand.report = serve_lines(
+    *stand.report = serve_lines(
         rt,
         centre,
         clock,

@@ -1,4 +1,7 @@
+ghost use Rattle.std.specs.Prelude.{◌≡◌, false, None, IfOk};
+
 use pv_outside::Disk;
+use std::alloc::{AllocError, Global};
 
 /// Why a carrier ended before its time.
 #[derive(Drop)]
@@ -16,4 +19,19 @@ pub struct CarrierReport<D: Disk> {
     pub memory: bool,
     /// Why it ended before its time.
     pub fault: Option<CarrierFault<D>>,
+}
+
+impl<D: Disk> CarrierReport<D> {
+    /// A report of no fault, for a stand to fill in.
+    pub fn boxed(alloc: Global) -> Result<Box<CarrierReport<D>>, AllocError>
+        ensures { IfOk result (λ report. (report.value.memory ≡ false) × (report.value.fault ≡ None)) }
+    {
+        Ok(Box::new(
+            alloc,
+            CarrierReport {
+                memory: false,
+                fault: None,
+            },
+        )?)
+    }
 }

@@ -1,5 +1,5 @@
 ghost use Rattle.std.specs.Prelude.{◌≡◌};
-ghost use Rattle.pv_service.specs.Rounds.{HasCarried, HoldsRight, carrier_at};
+ghost use Rattle.pv_service.specs.Rounds.{HasCarried, carrier_at};
 
 use crate::after_round::{AfterRound, after_round};
 use crate::carrier_report::CarrierReport;
@@ -29,7 +29,7 @@ pub struct CarrierStand<
     /// The link up from it.
     pub up: Box<L>,
     /// How its work has ended.
-    pub report: CarrierReport<D>,
+    pub report: Box<CarrierReport<D>>,
 }
 
 impl<const C: u8, U: Run<Record>, N: Run<CentreRecord>, D: Disk, L: Link + Drop> CarrierStand<
@@ -39,19 +39,22 @@ impl<const C: u8, U: Run<Record>, N: Run<CentreRecord>, D: Disk, L: Link + Drop>
     D,
     L,
 > {
-    /// A stand at which no round was made.
-    pub fn new(carrier: Carrier<C, U, N>, down: Box<L>, up: Box<L>) -> CarrierStand<C, U, N, D, L>
+    /// A stand of a carrier and its links, with the report that its work is to fill in.
+    pub fn new(
+        carrier: Carrier<C, U, N>,
+        down: Box<L>,
+        up: Box<L>,
+        report: Box<CarrierReport<D>>,
+    ) -> CarrierStand<C, U, N, D, L>
         ensures carrier { result.carrier ≡ carrier }
         ensures links { (result.down ≡ down) × (result.up ≡ up) }
+        ensures report { result.report ≡ report }
     {
         CarrierStand {
             carrier,
             down,
             up,
-            report: CarrierReport {
-                memory: false,
-                fault: None,
-            },
+            report,
         }
     }
 }
@@ -114,17 +117,11 @@ pub fn carry_rounds<
     signals: &Signals,
     stand: &mut CarrierStand<C, U, N, D, L>,
 )
-    ensures carried { HasCarried ⟦<UdcRules as Rules>⟧ ⟦<IrcRules<C> as Rules>⟧ ⟦<L as Link>⟧
+    ensures { HasCarried ⟦<UdcRules as Rules>⟧ ⟦<IrcRules<C> as Rules>⟧ ⟦<L as Link>⟧
         U.limits N.limits U.opening N.opening C (carrier_at stand.old.carrier stand.old.down.value stand.old.up.value)
-        (carrier_at stand.new.carrier stand.new.down.value stand.new.up.value) stand.new.report }
-
-    // If all packets that the links may hold are right before, they are right afterwards.
-    ensures right { HoldsRight ⟦<L as Link>⟧ U.opening N.opening C
-        (carrier_at stand.old.carrier stand.old.down.value stand.old.up.value)
-        → HoldsRight ⟦<L as Link>⟧ U.opening N.opening C
-        (carrier_at stand.new.carrier stand.new.down.value stand.new.up.value) }
+        (carrier_at stand.new.carrier stand.new.down.value stand.new.up.value) stand.new.report.value }
 {
-    stand.report = make_rounds(
+    *stand.report = make_rounds(
         rt,
         udc,
         centre,

@@ -6,6 +6,7 @@ ghost use Rattle.pv_service.specs.Doors.{door_of, LetsNoneIn};
 ghost use Rattle.pv_service.specs.declared.caller_stand.TheConstants.{MAX_ACCEPTED};
 
 use crate::port_report::{PortFault, PortReport};
+use crate::ringing_line::RingingLine;
 use crate::signals::Signals;
 use pv_edits::Record;
 use pv_live::{Live, Run};
@@ -25,32 +26,37 @@ pub struct EditorStand<N: Run<Record>, D: Disk, O: Door + Drop> {
     /// How many lines it is to serve.
     pub calls: u32,
     /// How its work has ended.
-    pub report: PortReport<D>,
+    pub report: Box<PortReport<D>>,
 }
 
 impl<N: Run<Record>, D: Disk, O: Door + Drop> EditorStand<N, D, O> {
-    /// A stand at which no line was served.
-    pub fn new(port: EditorPort<N>, door: Box<O>, calls: u32) -> EditorStand<N, D, O>
+    /// A stand that is to serve this many lines, with the report that its work is to fill in.
+    pub fn new(
+        port: EditorPort<N>,
+        door: Box<O>,
+        calls: u32,
+        report: Box<PortReport<D>>,
+    ) -> EditorStand<N, D, O>
         ensures port { result.port ≡ port }
         ensures door { result.door ≡ door }
         ensures calls { result.calls ≡ calls }
+        ensures report { result.report ≡ report }
     {
         EditorStand {
             port,
             door,
             calls,
-            report: PortReport {
-                memory: false,
-                fault: None,
-            },
+            report,
         }
     }
 }
 
-/// Accepts the next line, serves it by a session, and gives it back. If the door fails, nothing was served.
+/// Accepts the next line, serves it by a session, and gives it back. If the door fails, nothing was served. Each edit that
+/// is acknowledged on the line wakes the carriers.
 fn serve_next<N: Run<Record>, D: Disk, H: Wait + Drop, O: Door, W: Wait>(
     rt: &W,
     udc: &Live<UdcRules, D, N, H>,
+    signals: &Signals,
     port: &mut EditorPort<N>,
     door: &mut O,
 ) -> Result<EditEnd<D>, Failed>
@@ -63,8 +69,13 @@ fn serve_next<N: Run<Record>, D: Disk, H: Wait + Drop, O: Door, W: Wait>(
         × LetsNoneIn (door_of O.lines O.accepted O.finished O.faults door.old)
         (door_of O.lines O.accepted O.finished O.faults door.new) }
 {
-    let mut line = door.accept()?;
+    let accepted = door.accept()?;
+    let mut line = RingingLine {
+        line: accepted,
+        signals,
+    };
     let end = port.serve_editor(rt, udc, &mut line);
+    let RingingLine { line, signals: _ } = line;
     door.finish(line);
     Ok(end)
 }
@@ -101,7 +112,7 @@ fn serve_lines<N: Run<Record>, D: Disk, H: Wait + Drop, O: Door, W: Wait>(
 {
     let mut memory = false;
     for _ in 0..calls {
-        let Ok(end) = serve_next(rt, udc, port, door) else {
+        let Ok(end) = serve_next(rt, udc, signals, port, door) else {
             let fault = Some(PortFault::Door);
             return PortReport { memory, fault };
         };
@@ -130,10 +141,10 @@ pub fn serve_editors<N: Run<Record>, D: Disk, H: Wait + Drop, O: Door + Drop, W:
     ensures served { HasServedSessions ⟦<UdcRules as Rules>⟧ N.limits N.opening
         (line_of ⟦<O::Line as Source>⟧ ⟦<O::Line as Sink>⟧) stand.old.calls
         stand.old.port.pass (door_of O.lines O.accepted O.finished O.faults stand.old.door.value)
-        stand.new.port.pass (door_of O.lines O.accepted O.finished O.faults stand.new.door.value) stand.new.report }
+        stand.new.port.pass (door_of O.lines O.accepted O.finished O.faults stand.new.door.value) stand.new.report.value }
     ensures calls { stand.new.calls ≡ stand.old.calls }
 {
-    stand.report = serve_lines(
+    *stand.report = serve_lines(
         rt,
         udc,
         signals,

@@ -4,22 +4,26 @@
 //!   call, and gives it back to the door. An [`EditorStand`] is the same for editors, with [`serve_editors`].
 //! - A [`CarrierStand`] is a carrier with its two links. [`carry_rounds`] makes rounds until the ports are done and a
 //!   round has nothing more to bring.
+//! - A row of stands has a thread for each: [`run_callers`], [`run_editors`], and [`run_centre`] for the callers of a
+//!   centre with its carrier beside them.
 //! - [`Signals`] are what these threads tell each other: a bell for each centre, so that a carrier sleeps while there is
 //!   nothing to bring, and how many ports are at work.
 //!
-//! Each stand keeps a report of how its work ended ([`PortReport`], [`CarrierReport`]), so that a row of stands can be
-//! served side by side and read afterwards.
+//! Each stand has a report of how its work ended ([`PortReport`], [`CarrierReport`]), so that a row of stands can be
+//! served side by side and read afterwards. It is made first: if memory runs out, whoever makes stands still has the
+//! ports and the doors.
 //!
 //! ```text
 //! let signals = Signals::new(ports);
-//! let mut stand = CallerStand::new(port, door, calls);
-//! serve_callers(rt, &centre, &clock, &signals, &mut stand);
-//! stand.report.fault;    // None: all its lines were served
+//! let stand = CallerStand::new(port, door, calls, PortReport::boxed(alloc)?);
+//! // .. more of them, and the carrier's stand
+//! let callers = run_centre(rt, &udc, &centre, &clock, &signals, callers, &mut carrier);
+//! callers[0].report.fault;    // None: all its lines were served
 //! ```
 //!
 //! What a stand has done is `HasServed` of `specs/Serving.antt`: the lines that were served, each by one call or session
 //! on what its pass had seen when the one before it ended. What a carrier has done is `HasCarried` of
-//! `specs/Rounds.antt`.
+//! `specs/Rounds.antt`. A row is given back with each stand in its place (`EachBecomes` of `specs/Rows.antt`).
 #![tactic(auto)]
 
 mod after_round;
@@ -28,6 +32,8 @@ mod carrier_report;
 mod carrier_stand;
 mod editor_stand;
 mod port_report;
+mod ringing_line;
+mod rows;
 mod signals;
 
 pub use caller_stand::{CallerStand, MAX_ACCEPTED, serve_callers};
@@ -35,4 +41,5 @@ pub use carrier_report::{CarrierFault, CarrierReport};
 pub use carrier_stand::{CarrierStand, carry_rounds};
 pub use editor_stand::{EditorStand, serve_editors};
 pub use port_report::{PortFault, PortReport};
+pub use rows::{run_callers, run_centre, run_editors};
 pub use signals::{MAX_SLEEP, Signals};

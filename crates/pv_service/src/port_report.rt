@@ -1,4 +1,7 @@
+ghost use Rattle.std.specs.Prelude.{◌≡◌, false, None, IfOk};
+
 use pv_outside::Disk;
+use std::alloc::{AllocError, Global};
 
 /// Why a port ended before all of its lines were served.
 #[derive(Drop)]
@@ -16,4 +19,19 @@ pub struct PortReport<D: Disk> {
     pub memory: bool,
     /// Why it ended before all of its lines were served.
     pub fault: Option<PortFault<D>>,
+}
+
+impl<D: Disk> PortReport<D> {
+    /// A report of no fault, for a stand to fill in.
+    pub fn boxed(alloc: Global) -> Result<Box<PortReport<D>>, AllocError>
+        ensures { IfOk result (λ report. (report.value.memory ≡ false) × (report.value.fault ≡ None)) }
+    {
+        Ok(Box::new(
+            alloc,
+            PortReport {
+                memory: false,
+                fault: None,
+            },
+        )?)
+    }
 }

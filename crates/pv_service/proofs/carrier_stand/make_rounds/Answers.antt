@@ -7,7 +7,8 @@ loop-preserved-then-stored g c =
       tt,
       tt,
       makes_more _ _ _ _ _ _ _ g.row.C _ _ _ _ _ _ c.loop.invariant.2
-          (record { round = end.round; cause = end.cause; right = end.right }) c.after_round.ensures.memory c.in-Again.ensures.goes,
+          (record { round = end.round; cause = end.cause; right = end.right; carried = end.carried; seen = end.seen })
+          c.after_round.ensures.memory c.in-Again.ensures.goes,
     )
 
 pub loop-preserved-else-stored : goal.loop-preserved-else-stored
@@ -16,7 +17,8 @@ loop-preserved-else-stored g c =
       tt,
       tt,
       makes_more _ _ _ _ _ _ _ g.row.C _ _ _ _ _ _ c.loop.invariant.2
-          (record { round = end.round; cause = end.cause; right = end.right }) c.after_round.ensures.memory c.in-Again.ensures.goes,
+          (record { round = end.round; cause = end.cause; right = end.right; carried = end.carried; seen = end.seen })
+          c.after_round.ensures.memory c.in-Again.ensures.goes,
     )
 
 pub loop-preserved : goal.loop-preserved
@@ -25,7 +27,8 @@ loop-preserved g c =
       tt,
       tt,
       makes_more _ _ _ _ _ _ _ g.row.C _ _ _ _ _ _ c.loop.invariant.2
-          (record { round = end.round; cause = end.cause; right = end.right }) c.after_round.ensures.memory c.in-Sleep.ensures.goes,
+          (record { round = end.round; cause = end.cause; right = end.right; carried = end.carried; seen = end.seen })
+          c.after_round.ensures.memory c.in-Sleep.ensures.goes,
     )
 
 -- this round was the last
@@ -33,4 +36,5 @@ pub returns-in-End : goal.returns-in-End
 returns-in-End g c =
     let end = c.carry_round-end.ensures in
     makes_last _ _ _ _ _ _ _ g.row.C _ _ _ _ _ _ c.loop.invariant.2
-    (record { round = end.round; cause = end.cause; right = end.right }) c.after_round.ensures.memory c.in-End.fault c.in-End.ensures.goes
+    (record { round = end.round; cause = end.cause; right = end.right; carried = end.carried; seen = end.seen })
+    c.after_round.ensures.memory c.in-End.fault c.in-End.ensures.goes
