@@ -5,7 +5,7 @@
 //! - A [`CarrierStand`] is a carrier with its two links. [`carry_rounds`] makes rounds until the ports are done and a
 //!   round has nothing more to bring.
 //! - A row of stands has a thread for each: [`run_callers`], [`run_editors`], and [`run_centre`] for the callers of a
-//!   centre with its carrier beside them.
+//!   centre with its carrier beside them. [`change_beside`] is what changes any two values side by side.
 //! - [`Signals`] are what these threads tell each other: a bell for each centre, so that a carrier sleeps while there is
 //!   nothing to bring, and how many ports are at work.
 //!
@@ -16,17 +16,18 @@
 //! ```text
 //! let signals = Signals::new(ports);
 //! let stand = CallerStand::new(port, door, calls, PortReport::boxed(alloc)?);
-//! // .. more of them, and the carrier's stand
-//! let callers = run_centre(rt, &udc, &centre, &clock, &signals, callers, &mut carrier);
+//! // .. more of them in a row, and the carrier's stand
+//! run_centre(rt, &udc, &centre, &clock, &signals, &mut callers, &mut carrier);
 //! callers[0].report.fault;    // None: all its lines were served
 //! ```
 //!
 //! What a stand has done is `HasServed` of `specs/Serving.antt`: the lines that were served, each by one call or session
 //! on what its pass had seen when the one before it ended. What a carrier has done is `HasCarried` of
-//! `specs/Rounds.antt`. A row is given back with each stand in its place (`EachBecomes` of `specs/Rows.antt`).
+//! `specs/Rounds.antt`. A row keeps each stand in its place (`EachBecomes` of `specs/Rows.antt`).
 #![tactic(auto)]
 
 mod after_round;
+mod beside;
 mod caller_stand;
 mod carrier_report;
 mod carrier_stand;
@@ -36,6 +37,7 @@ mod ringing_line;
 mod rows;
 mod signals;
 
+pub use beside::change_beside;
 pub use caller_stand::{CallerStand, MAX_ACCEPTED, serve_callers};
 pub use carrier_report::{CarrierFault, CarrierReport};
 pub use carrier_stand::{CarrierStand, carry_rounds};
