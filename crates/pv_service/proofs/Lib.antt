@@ -1,2 +1,2 @@
-pub mod Serving
+mod Serving
 mod Carrying

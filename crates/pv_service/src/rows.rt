@@ -147,9 +147,10 @@ where
         carrier,
         callers,
         &|callers: &mut Vec<CallerStand<C, N, D, O>>| -> ()
-            requires { IsSync R.row × IsSync H.row × All (λ stand. O.accepted stand.door.value < MAX_ACCEPTED) callers.old.items }
-            ensures { EachBecomes (λ old new. HasServedCalls (centre_rules.ghosts (number C)) N.limits N.opening
-                (K.moment clock.entry.now) (line_of O.Line.Source O.Line.Sink) old.calls
+            requires { IsSync R.row × IsSync H.row
+                × All (λ stand. O.accepted stand.door.value < MAX_ACCEPTED) callers.old.items }
+            ensures { EachBecomes (λ old new. HasServedCalls (centre_rules.ghosts (number C))
+                N.limits N.opening (K.moment clock.entry.now) (line_of O.Line.Source O.Line.Sink) old.calls
                 old.port.pass (door_of O.lines O.accepted O.finished O.faults old.door.value)
                 new.port.pass (door_of O.lines O.accepted O.finished O.faults new.door.value) new.report.value)
                 callers.old.items callers.new.items }

@@ -35,15 +35,15 @@ const EDITOR: &[u8] =
 /// What the caller keys: he looks at the frame.
 const CALLER: &[u8] = b"1000000001ABCD*1#*90#";
 
-/// A door at which nobody comes in until the centre has so many records, by a pass of its own. It fails if it has looked
-/// too often.
+/// A door at which nobody comes in until the centre has [`RECORDS`] records, by a pass of its own. After [`LOOKS`] looks it
+/// waits no longer.
 #[derive(Drop)]
 struct LateDoor<N: Run<CentreRecord>> {
     pass: Pass<IrcRules<0>, N>,
     door: Box<MemDoor>,
 }
 
-/// Waits until a centre has so many records.
+/// Waits until a centre has [`RECORDS`] records, or for [`LOOKS`] looks.
 fn wait<N: Run<CentreRecord>>(pass: &mut Pass<IrcRules<0>, N>) {
     for _ in 0..LOOKS {
         let _ = pass.look(|_| ());
@@ -94,7 +94,8 @@ fn stands_at<U: Run<Record>, N: Run<CentreRecord>>(
 ) -> Result<Stands<U, N, LateDoor<N>>, AllocError>
     requires editors { accepted_of doors.editors.value < MAX_ACCEPTED }
     requires callers { accepted_of doors.callers.value < MAX_ACCEPTED }
-    ensures editors { IfOk result (λ stands. All (λ s. accepted_of s.door.value < MAX_ACCEPTED) stands.editors.items) }
+    ensures editors { IfOk result
+        (λ stands. All (λ s. accepted_of s.door.value < MAX_ACCEPTED) stands.editors.items) }
     ensures callers { IfOk result
         (λ stands. All (λ s. accepted_of s.door.value.door.value < MAX_ACCEPTED) stands.callers.items) }
 {
@@ -127,7 +128,8 @@ fn run<
     stands: &mut Stands<U, N, LateDoor<N>>,
 )
     requires editors { All (λ s. accepted_of s.door.value < MAX_ACCEPTED) stands.old.editors.items }
-    requires callers { All (λ s. accepted_of s.door.value.door.value < MAX_ACCEPTED) stands.old.callers.items }
+    requires callers { All
+        (λ s. accepted_of s.door.value.door.value < MAX_ACCEPTED) stands.old.callers.items }
 {
     let Stands {
         editors,
@@ -175,10 +177,13 @@ fn serve_named<
     centre_start: Start<CentreRecord>,
     doors: Doors,
 ) -> Result<Outcome, Fail>
+    // The Update Centre is at rest, and its run is named by what it starts with.
     requires udc { StandsFor ⟦<UdcRules as Rules>⟧ ⟦<MemDisk as Reports>⟧ udc.node U.opening }
     requires udc_rest { (udc.node.hand ≡ None) × (udc.node.state.limits ≡ U.limits) }
     requires udc_start { udc_start
         ≡ record { book = U.book; told = U.told; failed = U.failed; passes = U.passes } }
+
+    // So is the centre.
     requires centre { StandsFor ⟦<IrcRules<0> as Rules>⟧ ⟦<MemDisk as Reports>⟧ centre.node N.opening }
     requires centre_rest { (centre.node.hand ≡ None) × (centre.node.state.limits ≡ N.limits) }
     requires centre_start { centre_start

@@ -65,8 +65,10 @@ fn stands_at<U: Run<Record>, N: Run<CentreRecord>>(
 ) -> Result<Stands<U, N, MemDoor>, AllocError>
     requires editors { accepted_of doors.editors.value < MAX_ACCEPTED }
     requires callers { accepted_of doors.callers.value < MAX_ACCEPTED }
-    ensures editors { IfOk result (λ stands. All (λ s. accepted_of s.door.value < MAX_ACCEPTED) stands.editors.items) }
-    ensures callers { IfOk result (λ stands. All (λ s. accepted_of s.door.value < MAX_ACCEPTED) stands.callers.items) }
+    ensures editors { IfOk result
+        (λ stands. All (λ s. accepted_of s.door.value < MAX_ACCEPTED) stands.editors.items) }
+    ensures callers { IfOk result
+        (λ stands. All (λ s. accepted_of s.door.value < MAX_ACCEPTED) stands.callers.items) }
 {
     let Doors { editors, callers } = doors;
     let editors = editors_at(alloc, editing, editors, CALLS)?;
@@ -140,10 +142,13 @@ fn serve_named<
     doors: Doors,
     link: &[u64],
 ) -> Result<Outcome, Fail>
+    // The Update Centre is at rest, and its run is named by what it starts with.
     requires udc { StandsFor ⟦<UdcRules as Rules>⟧ ⟦<MemDisk as Reports>⟧ udc.node U.opening }
     requires udc_rest { (udc.node.hand ≡ None) × (udc.node.state.limits ≡ U.limits) }
     requires udc_start { udc_start
         ≡ record { book = U.book; told = U.told; failed = U.failed; passes = U.passes } }
+
+    // So is the centre.
     requires centre { StandsFor ⟦<IrcRules<0> as Rules>⟧ ⟦<MemDisk as Reports>⟧ centre.node N.opening }
     requires centre_rest { (centre.node.hand ≡ None) × (centre.node.state.limits ≡ N.limits) }
     requires centre_start { centre_start
