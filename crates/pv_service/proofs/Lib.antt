@@ -1,2 +1,2 @@
-mod Serving
+pub mod Serving
 mod Carrying
