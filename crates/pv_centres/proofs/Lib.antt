@@ -1,0 +1,8 @@
+mod Adding
+mod Bringing
+mod Carrying
+mod Disks
+mod Filling
+mod Passes
+mod Ports
+pub mod Served

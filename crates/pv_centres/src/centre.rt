@@ -1,0 +1,159 @@
+ghost use Rattle.std.specs.Prelude.{◌≡◌, ℕ, List, ◌+◌, ◌++◌, ◌<◌, None, All, map, vec_len, IfOk, OnOk, IfSome, IsSome};
+ghost use Rattle.pv_edits.specs.Taken.{IsCentre};
+ghost use Rattle.pv_node.specs.Standing.{StandsFor};
+ghost use Rattle.pv_live.specs.Closing.{IsClosed};
+ghost use Rattle.pv_live.specs.Opening.{IsPassCount};
+ghost use Rattle.pv_live.specs.Pass.{Standing};
+ghost use Rattle.pv_irc.specs.declared.record.CentreRecord.{CentreRecord};
+ghost use Rattle.pv_centres.specs.Parts.{IfThere};
+ghost use Rattle.pv_service.specs.declared.caller_stand.TheConstants.{MAX_ACCEPTED};
+ghost use Rattle.pv_centres.specs.Served.{IsFreshRow};
+
+use crate::callers_row::{callers_row, take_callers};
+use crate::collected::Collected;
+use crate::doors::put;
+use pv_edits::Record;
+use pv_irc::{CentreRecord, IrcRules};
+use pv_live::{Live, Pass, Run, Start, open_live};
+use pv_memory::Pipe;
+use pv_node::{Node, Rules};
+use pv_outside::{Disk, Door};
+use pv_ports::Carrier;
+use pv_service::{CallerStand, CarrierReport, CarrierStand};
+use pv_udc::UdcRules;
+use std::alloc::{AllocError, Global};
+use std::sync::Wait;
+
+/// A retrieval centre at work: its live node, its callers' ports with their doors, and its carrier. A centre that the network
+/// does not have has none of these.
+#[derive(Drop)]
+pub struct OpenCentre<
+    const C: u8,
+    U: Run<Record>,
+    N: Run<CentreRecord>,
+    D: Disk + Drop,
+    O: Door + Drop,
+    H: Wait + Drop,
+> {
+    /// Its node, under a lock.
+    pub live: Option<Live<IrcRules<C>, D, N, H>>,
+    /// Its callers' ports with their doors.
+    pub callers: Vec<CallerStand<C, N, D, O>>,
+    /// What brings it its records, and takes up its items.
+    pub carriers: Vec<CarrierStand<C, U, N, D, Pipe>>,
+}
+
+/// The stand of a centre's carrier. Its links hold nothing, and no call of them fails.
+fn carriers_of<const C: u8, U: Run<Record>, N: Run<CentreRecord>, D: Disk>(
+    alloc: Global,
+    udc: Pass<UdcRules, U>,
+    centre: Pass<IrcRules<C>, N>,
+) -> Result<Vec<CarrierStand<C, U, N, D, Pipe>>, AllocError>
+    requires { IsCentre C }
+    ensures { IfOk result (λ carriers. vec_len carriers ≡ 1) }
+{
+    let carrier = Carrier::new(udc, centre);
+    let down = Box::new(alloc, Pipe::new(alloc, &[])?)?;
+    let up = Box::new(alloc, Pipe::new(alloc, &[])?)?;
+    let stand = CarrierStand::new(carrier, down, up, CarrierReport::boxed(alloc)?);
+    let mut carriers = Vec::new(alloc);
+    put(&mut carriers, stand)?;
+    Ok(carriers)
+}
+
+/// Opens a centre for callers: one port for each door. If no memory is found, its disk keeps what it held.
+pub fn open_centre<
+    const C: u8,
+    U: Run<Record>,
+    N: Run<CentreRecord>,
+    D: Disk + Drop,
+    O: Door + Drop,
+    H: Wait + Drop,
+>(
+    rt: H,
+    alloc: Global,
+    node: Node<IrcRules<C>, D>,
+    start: Start<CentreRecord>,
+    udc: Pass<UdcRules, U>,
+    doors: Vec<O>,
+    calls: u32,
+) -> Result<OpenCentre<C, U, N, D, O, H>, AllocError>
+    requires centre { IsCentre C }
+    requires stands { StandsFor ⟦<IrcRules<C> as Rules>⟧ D.Reports node N.opening }
+    requires at_rest { node.hand ≡ None }
+    requires limits { node.state.limits ≡ N.limits }
+    requires fresh { All (λ d. O.accepted d < MAX_ACCEPTED) doors.items }
+
+    // It holds of these too.
+    requires passes { (vec_len doors + 1 ≡ N.passes) × IsPassCount (vec_len doors + 1) }
+    requires start { start ≡ record {
+      book = N.book;
+      told = N.told;
+      failed = N.failed;
+      passes = N.passes;
+    } }
+    ensures doors { IfOk result (λ centre. map (λ s. s.door.value) centre.callers.items ≡ doors.items) }
+    ensures fresh { IfOk result (λ centre. IsFreshRow O.accepted (λ s. s.port.pass) (λ s. s.door.value)
+        (λ s. s.calls)
+        (vec_len doors) calls centre.callers.items) }
+    ensures there { IfOk result (λ centre. IsSome centre.live × (vec_len centre.carriers ≡ 1)) }
+{
+    let count = doors.len() + 1;
+    let (live, mut passes) = open_live::<IrcRules<C>, D, N, H>(rt, alloc, node, count, start)?;
+    let own = passes.pop().unwrap();
+    let callers = callers_row(alloc, passes, doors, calls)?;
+    let carriers = carriers_of(alloc, udc, own)?;
+    Ok(OpenCentre {
+        live: Some(live),
+        callers,
+        carriers,
+    })
+}
+
+/// Closes a centre, if the network has it, and adds what its stands had to what was collected. If no memory is found its disk
+/// keeps what it held.
+///
+/// `count` is how many passes its node has. That its stands have as many is looked at again, since no clause follows its
+/// carrier through the threads.
+pub fn close_centre<
+    const C: u8,
+    U: Run<Record>,
+    N: Run<CentreRecord>,
+    D: Disk + Drop,
+    O: Door + Drop,
+    H: Wait + Drop,
+>(
+    alloc: Global,
+    centre: OpenCentre<C, U, N, D, O, H>,
+    count: usize,
+    collected: &mut Collected<U, D, O>,
+) -> Result<Option<Node<IrcRules<C>, D>>, AllocError>
+    requires { count ≡ N.passes }
+    ensures closed { IfOk result (λ node. IfThere (λ live n. (carriers : List (Standing CentreRecord))
+        × (asked : ℕ)
+        × IsClosed ⟦<IrcRules<C> as Rules>⟧ D.Reports N.limits N.opening
+        (map (λ s. s.port.pass) centre.callers.items ++ carriers) n asked) centre.live node) }
+    ensures doors { OnOk result (collected.new.doors.items
+        ≡ collected.old.doors.items ++ map (λ s. s.door.value) centre.callers.items) }
+    ensures reports { OnOk result (collected.new.reports.items
+        ≡ collected.old.reports.items ++ map (λ s. s.report.value) centre.callers.items) }
+{
+    let OpenCentre {
+        live,
+        callers,
+        carriers,
+    } = centre;
+    let mut passes = Vec::new(alloc);
+    take_callers(
+        callers,
+        &mut passes,
+        &mut collected.doors,
+        &mut collected.reports,
+    )?;
+    collected.take_carriers(carriers, &mut passes)?;
+    match live {
+        Some(live) if passes.len() == count => Ok(Some(live.close(passes).node)),
+        Some(_) => Err(AllocError),
+        None => Ok(None),
+    }
+}
