@@ -19,7 +19,7 @@ use Rattle.pv_service.specs.declared.port_report.PortReport.{PortReport}
 use Rattle.pv_service.proofs.Serving.{length-lines_in}
 use Rattle.pv_centres.specs.Opening.{count_of, weigh}
 use Rattle.pv_centres.specs.Parts.{IfThere, PerCentre, all_rows, row_lengths}
-use Rattle.pv_centres.specs.Served.{IsNewPass, IsFreshRow, ServesAnew, EachServes, IsClosedWith, NodeServed, DoorServed, EachDoorIsServed, ServedRows, SomeDoorRose, GiveBackMore}
+use Rattle.pv_centres.specs.Served.{IsNewPass, IsFreshRow, ServesAnew, EachServes, IsClosedWith, NodeServed, DoorServed, ServesEachDoor, ServedRows, SomeDoorRose, GiveBackMore}
 
 -- ---- what is there, and what is not
 
@@ -179,8 +179,8 @@ module _ {P L E D F : Type 0} (Serves : P → Served L E → P → Type 0) (fail
 
 -- so it is of each door of these
 pub doors_append : {L D F : Type 0} (calls : ℕ) (olds olds' news news' : List (DoorReport L)) (reports reports' : List (PortReport D F))
-    → EachDoorIsServed calls olds news reports → EachDoorIsServed calls olds' news' reports'
-    → EachDoorIsServed calls (olds ++ olds') (news ++ news') (reports ++ reports')
+    → ServesEachDoor calls olds news reports → ServesEachDoor calls olds' news' reports'
+    → ServesEachDoor calls (olds ++ olds') (news ++ news') (reports ++ reports')
 doors_append calls [] olds' [] news' [] reports' none more = more
 doors_append calls (old ∷ olds) olds' (new ∷ news) news' (report ∷ reports) reports' (one, each) more =
     (one, doors_append calls olds olds' news news' reports reports' each more)
@@ -191,7 +191,7 @@ doors_append calls (old ∷ olds) olds' (new ∷ news) news' [] reports' each mo
 
 -- if no port has met a fault, each door has given back as many lines as it was to
 pub all_finished : {L D F : Type 0} (calls : ℕ) (olds news : List (DoorReport L)) (reports : List (PortReport D F))
-    → EachDoorIsServed calls olds news reports → All (λ (r : PortReport D F). r.fault ≡ None) reports
+    → ServesEachDoor calls olds news reports → All (λ (r : PortReport D F). r.fault ≡ None) reports
     → GiveBackMore calls olds news
 all_finished calls [] [] [] each quiet = refl
 all_finished {L} {D} {F} calls (old ∷ olds) (new ∷ news) (report ∷ reports) (one, each) quiet =
@@ -207,7 +207,7 @@ all_finished calls (old ∷ olds) (new ∷ news) [] each quiet = absurd each
 
 -- if one has ended since its door failed, the count of that door rose
 pub some_rose : {L D F : Type 0} (calls : ℕ) (olds news : List (DoorReport L)) (before : List (PortReport D F)) (report : PortReport D F)
-    (after : List (PortReport D F)) → EachDoorIsServed calls olds news (before ++ report ∷ after) → report.fault ≡ Some faults.Door
+    (after : List (PortReport D F)) → ServesEachDoor calls olds news (before ++ report ∷ after) → report.fault ≡ Some faults.Door
     → SomeDoorRose olds news
 some_rose calls (old ∷ olds) (new ∷ news) [] report after (one, each) door = record {
   place = 0;
@@ -234,7 +234,7 @@ module _ {Rec L E D F : Type 0} (Serves : Standing Rec → Served L E → Standi
   pub doors_served : (olds : List (DoorReport L)) (passes : List (Standing Rec)) (news : List (DoorReport L))
       (reports : List (PortReport D F))
       → EachServes (HasServed Serves failure_in lacked_memory {D = D} calls) olds passes news reports
-      → EachDoorIsServed calls olds news reports
+      → ServesEachDoor calls olds news reports
   doors_served [] [] [] [] each = tt
   doors_served (old ∷ olds) (pass ∷ passes) (new ∷ news) (report ∷ reports) (one, each) = (
     door_served Serves failure_in lacked_memory calls one.start pass old new report one.served,
@@ -251,7 +251,7 @@ module _ {Rec L E D F : Type 0} (Serves : Standing Rec → Served L E → Standi
   pub node_doors : {S State Request Reply N : Type 0} (r : rules.Ghosts S State Request Rec Reply) (d : reports.Ghosts N) (limits : Limits)
       (opening : List Rec) (olds news : List (DoorReport L)) (reports : List (PortReport D F)) (node : Parts N State Rec)
       → NodeServed (HasServed Serves failure_in lacked_memory {D = D} calls) r d limits opening olds news reports node
-      → EachDoorIsServed calls olds news reports
+      → ServesEachDoor calls olds news reports
   node_doors r d limits opening olds news reports node served = doors_served olds served.passes news reports served.ports
 
 -- ---- a network
@@ -307,10 +307,10 @@ served_rows f counts old new reports olds news met counted old_rows new_rows met
 -- what is known of the doors of each row is known of all
 pub rows_doors : {L D F : Type 0} (calls : ℕ) (counts : PerCentre ℕ) (old new : List (DoorReport L)) (reports : List (PortReport D F))
     (rows : ServedRows counts old new reports)
-    → EachDoorIsServed calls rows.olds.first rows.news.first rows.met.first
-    → EachDoorIsServed calls rows.olds.second rows.news.second rows.met.second
-    → EachDoorIsServed calls rows.olds.third rows.news.third rows.met.third
-    → EachDoorIsServed calls rows.olds.fourth rows.news.fourth rows.met.fourth → EachDoorIsServed calls old new reports
+    → ServesEachDoor calls rows.olds.first rows.news.first rows.met.first
+    → ServesEachDoor calls rows.olds.second rows.news.second rows.met.second
+    → ServesEachDoor calls rows.olds.third rows.news.third rows.met.third
+    → ServesEachDoor calls rows.olds.fourth rows.news.fourth rows.met.fourth → ServesEachDoor calls old new reports
 rows_doors calls counts old new reports rows first second third fourth =
     rw (rows.old_rows, rows.new_rows, rows.met_rows)
     (doors_append calls _ _ _ _ _ _ first (doors_append calls _ _ _ _ _ _ second (doors_append calls _ _ _ _ _ _ third fourth)))

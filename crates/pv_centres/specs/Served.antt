@@ -100,11 +100,11 @@ pub record DoorServed {L D F : Type 0} (calls : ℕ) (old new : DoorReport L) (r
   pub rose : report.fault ≡ Some Door → Rose old.faults new.faults
 
 -- of each of these doors
-abbrev pub EachDoorIsServed : {L D F : Type 0} → ℕ → List (DoorReport L) → List (DoorReport L) → List (PortReport D F) → Type 0
-EachDoorIsServed calls [] [] [] = Unit {0}
-EachDoorIsServed calls (old ∷ olds) (new ∷ news) (report ∷ reports) = DoorServed calls old new report
-    × EachDoorIsServed calls olds news reports
-EachDoorIsServed calls _ _ _ = ⊥
+abbrev pub ServesEachDoor : {L D F : Type 0} → ℕ → List (DoorReport L) → List (DoorReport L) → List (PortReport D F) → Type 0
+ServesEachDoor calls [] [] [] = Unit {0}
+ServesEachDoor calls (old ∷ olds) (new ∷ news) (report ∷ reports) = DoorServed calls old new report
+    × ServesEachDoor calls olds news reports
+ServesEachDoor calls _ _ _ = ⊥
 
 -- the count of failed accepts of one of these doors rose
 pub record SomeDoorRose {L : Type 0} (old new : List (DoorReport L)) : Type 0 where
