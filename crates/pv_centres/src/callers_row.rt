@@ -39,7 +39,7 @@ pub(crate) fn callers_row<const C: u8, N: Run<CentreRecord>, D: Disk, O: Door + 
     ensures doors { IfOk result (λ stands. map (λ s. s.door.value) stands.items ≡ doors.items) }
     ensures calls { IfOk result (λ stands. All (λ s. s.calls ≡ calls) stands.items) }
 
-    // So it is of these.
+    // The counts of the doors are not at their end.
     ensures fresh { IfOk result (λ stands. All (λ s. O.accepted s.door.value < MAX_ACCEPTED) stands.items) }
     ensures count { IfOk result (λ stands. vec_len stands ≡ vec_len doors) }
 {

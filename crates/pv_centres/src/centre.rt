@@ -84,7 +84,7 @@ pub fn open_centre<
     requires limits { node.state.limits ≡ N.limits }
     requires fresh { All (λ d. O.accepted d < MAX_ACCEPTED) doors.items }
 
-    // It holds of these too.
+    // There is a pass for each door and one for the carrier, and the run is named by its start.
     requires passes { (vec_len doors + 1 ≡ N.passes) × IsPassCount (vec_len doors + 1) }
     requires start { start ≡ record {
       book = N.book;
@@ -92,6 +92,8 @@ pub fn open_centre<
       failed = N.failed;
       passes = N.passes;
     } }
+
+    // Each stand is new, and they have the doors in order.
     ensures doors { IfOk result (λ centre. map (λ s. s.door.value) centre.callers.items ≡ doors.items) }
     ensures fresh { IfOk result (λ centre. IsFreshRow O.accepted (λ s. s.port.pass) (λ s. s.door.value)
         (λ s. s.calls)
@@ -114,7 +116,7 @@ pub fn open_centre<
 /// keeps what it held.
 ///
 /// `count` is how many passes its node has. That its stands have as many is looked at again, since no clause follows its
-/// carrier through the threads.
+/// carrier through the threads. `AllocError` comes if they have not, too.
 pub fn close_centre<
     const C: u8,
     U: Run<Record>,

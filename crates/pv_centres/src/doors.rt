@@ -19,7 +19,7 @@ pub fn next_doors<O: Door + Drop>(
     ensures count { IfOk result (λ next. vec_len next ≡ count) }
     ensures fresh { IfOk result (λ next. All (λ d. O.accepted d < MAX_ACCEPTED) next.items) }
 
-    // So it is of these.
+    // The counts of those that are left are not at their end.
     ensures waiting { All (λ d. O.accepted d < MAX_ACCEPTED) (into_iter_items doors.new) }
 {
     let mut next = Vec::with_capacity(alloc, count)?;

@@ -37,7 +37,7 @@ impl<R: Rules, D: Disk + Drop> Place<R, D> {
         ensures unopened { result.opened ≡ None }
         ensures count { vec_len disks.new + count_of result.disk ≡ vec_len disks.old }
 
-        // So it is of these.
+        // No disk is lost, and none changes its place.
         ensures disks { disks.old.items ≡ disks.new.items ++ option_to_list result.disk }
         ensures room { vec_capacity disks.new ≡ vec_capacity disks.old }
     {
@@ -61,7 +61,7 @@ impl<R: Rules, D: Disk + Drop> Place<R, D> {
         ensures kept { IfThere (KeepsDisk D.Reports) self.old.disk (disk_at
             (λ o. o.node.journal.disk) self.new.disk self.new.opened) }
 
-        // So it is of these.
+        // If it is not opened, its disk is why.
         ensures fault { IfErr result (λ not. (not.node ≡ node) × IsOpenFault limits not.fault) }
         ensures there { IfErr result (λ not. count_of self.old.disk ≡ 1) }
         ensures shown { IfErr result (λ not. IfSome self.old.disk (λ disk. IfSome (D.reads disk)
@@ -144,7 +144,7 @@ impl<D: Disk + Drop> Places<D> {
             × (count_of result.third.disk ≤ count_of result.second.disk)
             × (count_of result.fourth.disk ≤ count_of result.third.disk) }
 
-        // So it is of these.
+        // No disk is lost, and none changes its place.
         ensures disks { disks.old.items ≡ option_to_list result.update.disk ++
             (option_to_list result.first.disk ++ (option_to_list result.second.disk ++ (option_to_list result.third.disk ++ (option_to_list result.fourth.disk)))) }
         ensures empty { disks.new.items ≡ [] }
@@ -182,7 +182,7 @@ impl<D: Disk + Drop> Places<D> {
         ensures first { OnOk result (IfSome self.new.first.opened
             (λ o. IsReady ⟦<IrcRules<0> as Rules>⟧ D.Reports (trail_records o.trail.items) limits o.node)) }
 
-        // So it is of these.
+        // The later centres are ready, too.
         ensures second { OnOk result (IfSome self.new.second.opened
             (λ o. IsReady ⟦<IrcRules<1> as Rules>⟧ D.Reports (trail_records o.trail.items) limits o.node)) }
         ensures third { OnOk result (IfSome self.new.third.opened
@@ -196,7 +196,7 @@ impl<D: Disk + Drop> Places<D> {
             D.Reports disk o.node)
             self.old.first.disk self.new.first.opened) }
 
-        // So it is of these.
+        // Each of the later centres is opened over the disk of its place.
         ensures second_over { OnOk result (IfThere (λ disk o. IsOpenedOver ⟦<IrcRules<1> as Rules>⟧
             D.Reports disk o.node)
             self.old.second.disk self.new.second.opened) }
@@ -211,7 +211,7 @@ impl<D: Disk + Drop> Places<D> {
         ensures first_kept { IfThere (KeepsDisk D.Reports) self.old.first.disk (disk_at
             (λ o. o.node.journal.disk) self.new.first.disk self.new.first.opened) }
 
-        // So it is of these.
+        // A crash leaves of the later centres' disks, too, only what it might have left before.
         ensures second_kept { IfThere (KeepsDisk D.Reports) self.old.second.disk (disk_at
             (λ o. o.node.journal.disk) self.new.second.disk self.new.second.opened) }
         ensures third_kept { IfThere (KeepsDisk D.Reports) self.old.third.disk (disk_at
@@ -223,7 +223,7 @@ impl<D: Disk + Drop> Places<D> {
             self.old.second.disk
             + count_of self.old.third.disk + count_of self.old.fourth.disk) }
 
-        // So it is of these.
+        // The bytes of the node that was not opened show the fault.
         ensures update_shown { IfErr result (λ not. not.node ≡ 0
             → IfSome self.old.update.disk (λ disk. IfSome (D.reads disk)
             (λ text. FaultShows ⟦<UdcRules as Rules>⟧ limits text not.fault))) }
@@ -293,7 +293,7 @@ pub fn open_nodes<D: Disk + Drop>(
     ensures fourth { IfOk result (λ nodes. IfSome nodes.fourth
         (λ o. IsReady ⟦<IrcRules<3> as Rules>⟧ D.Reports (trail_records o.trail.items) limits o.node)) }
 
-    // So it is of these.
+    // The places are those of the disks, in order.
     ensures over { IfOk result (λ nodes. (at : DiskPlaces D) × (disks.old.items ≡ all_disks at)
         × IfThere (λ disk o. IsOpenedOver ⟦<UdcRules as Rules>⟧ D.Reports disk o.node) at.update
         (Some nodes.update)
@@ -317,7 +317,7 @@ pub fn open_nodes<D: Disk + Drop>(
         → IfSome (slice_get disks.old.items 2) (λ disk. IfSome (D.reads disk)
         (λ text. FaultShows ⟦<IrcRules<1> as Rules>⟧ limits text not.fault))) }
 
-    // So it is of these.
+    // So do the later centres' bytes. All disks are there again.
     ensures third_shown { IfErr result (λ not. not.node ≡ 3
         → IfSome (slice_get disks.old.items 3) (λ disk. IfSome (D.reads disk)
         (λ text. FaultShows ⟦<IrcRules<2> as Rules>⟧ limits text not.fault))) }

@@ -27,7 +27,7 @@ fn take_from<const C: u8, D: Disk + Drop>(
     ensures door { ends.new.door ≡ ends.old.door }
     ensures disk { ends.new.disk ≡ None → ends.old.disk ≡ None }
 
-    // So it is of these.
+    // What was noted stays so.
     ensures noted { ends.old.no_room ≡ true → ends.new.no_room ≡ true }
 {
     if let Some(centre) = centre {
@@ -75,7 +75,7 @@ fn bring_up<D: Disk + Drop>(
     ensures fourth { ends.new.disk ≡ None → IfSome fourth.now
         (λ n. TakesItems ends.new.no_room 3 n.state.items update.new) }
 
-    // So it is of these.
+    // No door has a part in it, and the failure of a disk stays.
     ensures door { ends.new.door ≡ ends.old.door }
     ensures disk { ends.new.disk ≡ None → ends.old.disk ≡ None }
     ensures noted { ends.old.no_room ≡ true → ends.new.no_room ≡ true }
@@ -102,7 +102,7 @@ fn bring_down<D: Disk + Drop>(
     ensures first_applies { ends.new.disk ≡ None → IfThere (AppliesFrom ⟦<IrcRules<0> as Rules>⟧ D.Reports
         ends.new.no_room update.now.state.records) first.old first.new }
 
-    // So it is of these.
+    // The later centres have applied the edit list, too.
     ensures second_applies { ends.new.disk ≡ None → IfThere (AppliesFrom ⟦<IrcRules<1> as Rules>⟧ D.Reports
         ends.new.no_room update.now.state.records) second.old second.new }
     ensures third_applies { ends.new.disk ≡ None → IfThere (AppliesFrom ⟦<IrcRules<2> as Rules>⟧ D.Reports
@@ -112,7 +112,7 @@ fn bring_down<D: Disk + Drop>(
     ensures door { ends.new.door ≡ ends.old.door }
     ensures disk { ends.new.disk ≡ None → ends.old.disk ≡ None }
 
-    // So it is of these.
+    // What was noted stays so.
     ensures noted { ends.old.no_room ≡ true → ends.new.no_room ≡ true }
 {
     apply_to(update, first, ends);
@@ -147,7 +147,7 @@ pub fn bring_rest<D: Disk + Drop>(nodes: &mut Nodes<D>, ends: &mut Ends<D>)
         ends.new.no_room 3 nodes.old.update nodes.new.update) nodes.old.fourth nodes.new.fourth }
     ensures door { ends.new.door ≡ ends.old.door }
 
-    // So it is of these.
+    // The failure of a disk stays.
     ensures disk { ends.new.disk ≡ None → ends.old.disk ≡ None }
     ensures noted { ends.old.no_room ≡ true → ends.new.no_room ≡ true }
 {

@@ -206,14 +206,14 @@ fn change_five_beside<
     requires c_accepted { Accepts FC.Fn change_c.now c.old }
     requires d_accepted { Accepts FD.Fn change_d.now d.old }
 
-    // It holds of these too.
+    // The fifth may be changed, too.
     requires e_accepted { Accepts FE.Fn change_e.now e.old }
     ensures a { Changes FA.Fn change_a.now a.old a.new }
     ensures b { Changes FB.Fn change_b.now b.old b.new }
     ensures c { Changes FC.Fn change_c.now c.old c.new }
     ensures d { Changes FD.Fn change_d.now d.old d.new }
 
-    // So it is of these.
+    // So is the fifth.
     ensures e { Changes FE.Fn change_e.now e.old e.new }
 {
     let mut work = work;
@@ -273,14 +273,14 @@ where
     requires c_accepted { Accepts FC.Fn change_c.now c.old }
     requires d_accepted { Accepts FD.Fn change_d.now d.old }
 
-    // It holds of these too.
+    // The counts of the editors' doors are not at their end.
     requires editors_room { All (λ s. E.accepted s.door.value < MAX_ACCEPTED) editors.old.items }
     ensures a { Changes FA.Fn change_a.now a.old a.new }
     ensures b { Changes FB.Fn change_b.now b.old b.new }
     ensures c { Changes FC.Fn change_c.now c.old c.new }
     ensures d { Changes FD.Fn change_d.now d.old d.new }
 
-    // So it is of these.
+    // So have the editors.
     ensures editors { EachBecomes (λ old new. HasServedSessions ⟦<UdcRules as Rules>⟧ U.limits U.opening
         (line_of ⟦<E::Line as Source>⟧ ⟦<E::Line as Sink>⟧) old.calls
         old.port.pass (door_of E.lines E.accepted E.finished E.faults old.door.value)
@@ -353,14 +353,14 @@ where
     requires c_accepted { Accepts FC.Fn change_c.now c.old }
     requires fourth_room { All (λ s. O.accepted s.door.value < MAX_ACCEPTED) fourth.old.items }
 
-    // It holds of these too.
+    // A centre that is not there has no stands.
     requires fourth_there { fourth_centre.now ≡ None → fourth.old.items ≡ [] }
     requires editors_room { All (λ s. E.accepted s.door.value < MAX_ACCEPTED) editors.old.items }
     ensures a { Changes FA.Fn change_a.now a.old a.new }
     ensures b { Changes FB.Fn change_b.now b.old b.new }
     ensures c { Changes FC.Fn change_c.now c.old c.new }
 
-    // So it is of these.
+    // So have the fourth centre and the editors.
     ensures fourth { EachBecomes (λ old new. HasServedCalls ⟦<IrcRules<3> as Rules>⟧ N3.limits N3.opening
         (K.moment clock.now) (line_of ⟦<O::Line as Source>⟧ ⟦<O::Line as Sink>⟧) old.calls
         old.port.pass (door_of O.lines O.accepted O.finished O.faults old.door.value)
@@ -440,7 +440,7 @@ where
     requires third_room { All (λ s. O.accepted s.door.value < MAX_ACCEPTED) third.old.items }
     requires third_there { third_centre.now ≡ None → third.old.items ≡ [] }
 
-    // It holds of these too.
+    // The counts of these doors are not at their end, and a centre that is not there has no stands.
     requires fourth_room { All (λ s. O.accepted s.door.value < MAX_ACCEPTED) fourth.old.items }
     requires fourth_there { fourth_centre.now ≡ None → fourth.old.items ≡ [] }
     requires editors_room { All (λ s. E.accepted s.door.value < MAX_ACCEPTED) editors.old.items }
@@ -532,7 +532,7 @@ where
     requires second_there { second_centre.now ≡ None → second.old.items ≡ [] }
     requires third_room { All (λ s. O.accepted s.door.value < MAX_ACCEPTED) third.old.items }
 
-    // It holds of these too.
+    // A centre that is not there has no stands.
     requires third_there { third_centre.now ≡ None → third.old.items ≡ [] }
     requires fourth_room { All (λ s. O.accepted s.door.value < MAX_ACCEPTED) fourth.old.items }
     requires fourth_there { fourth_centre.now ≡ None → fourth.old.items ≡ [] }
@@ -628,7 +628,7 @@ where
     requires second_room { All (λ s. O.accepted s.door.value < MAX_ACCEPTED) second.old.items }
     requires second_there { second_centre.now ≡ None → second.old.items ≡ [] }
 
-    // It holds of these too.
+    // The counts of these doors are not at their end, and a centre that is not there has no stands.
     requires third_room { All (λ s. O.accepted s.door.value < MAX_ACCEPTED) third.old.items }
     requires third_there { third_centre.now ≡ None → third.old.items ≡ [] }
     requires fourth_room { All (λ s. O.accepted s.door.value < MAX_ACCEPTED) fourth.old.items }
@@ -778,14 +778,14 @@ where
     requires d_accepted { GD.pre d }
     requires first_room { All (λ s. O.accepted s.door.value < MAX_ACCEPTED) ports.old.first.items }
 
-    // It holds of these too.
+    // A centre that is not there has no stands.
     requires first_there { centres.now.first ≡ None → ports.old.first.items ≡ [] }
     requires second_room { All (λ s. O.accepted s.door.value < MAX_ACCEPTED) ports.old.second.items }
     requires second_there { centres.now.second ≡ None → ports.old.second.items ≡ [] }
     requires third_room { All (λ s. O.accepted s.door.value < MAX_ACCEPTED) ports.old.third.items }
     requires third_there { centres.now.third ≡ None → ports.old.third.items ≡ [] }
 
-    // It holds of these too.
+    // The counts of these doors are not at their end, and a centre that is not there has no stands.
     requires fourth_room { All (λ s. O.accepted s.door.value < MAX_ACCEPTED) ports.old.fourth.items }
     requires fourth_there { centres.now.fourth ≡ None → ports.old.fourth.items ≡ [] }
     requires editors_room { All (λ s. E.accepted s.door.value < MAX_ACCEPTED) ports.old.editors.items }
@@ -883,14 +883,14 @@ where
     requires first_room { All (λ s. O.accepted s.door.value < MAX_ACCEPTED) ports.old.first.items }
     requires first_there { centres.now.first ≡ None → ports.old.first.items ≡ [] }
 
-    // It holds of these too.
+    // The counts of these doors are not at their end, and a centre that is not there has no stands.
     requires second_room { All (λ s. O.accepted s.door.value < MAX_ACCEPTED) ports.old.second.items }
     requires second_there { centres.now.second ≡ None → ports.old.second.items ≡ [] }
     requires third_room { All (λ s. O.accepted s.door.value < MAX_ACCEPTED) ports.old.third.items }
     requires third_there { centres.now.third ≡ None → ports.old.third.items ≡ [] }
     requires fourth_room { All (λ s. O.accepted s.door.value < MAX_ACCEPTED) ports.old.fourth.items }
 
-    // It holds of these too.
+    // A centre that is not there has no stands.
     requires fourth_there { centres.now.fourth ≡ None → ports.old.fourth.items ≡ [] }
     requires editors_room { All (λ s. E.accepted s.door.value < MAX_ACCEPTED) ports.old.editors.items }
     ensures first { EachBecomes (λ old new. HasServedCalls ⟦<IrcRules<0> as Rules>⟧ N0.limits N0.opening
@@ -909,7 +909,7 @@ where
         new.port.pass (door_of O.lines O.accepted O.finished O.faults new.door.value) new.report.value)
         ports.old.third.items ports.new.third.items }
 
-    // So it is of these.
+    // So have the fourth centre and the editors.
     ensures fourth { EachBecomes (λ old new. HasServedCalls ⟦<IrcRules<3> as Rules>⟧ N3.limits N3.opening
         (K.moment clock.now) (line_of ⟦<O::Line as Source>⟧ ⟦<O::Line as Sink>⟧) old.calls
         old.port.pass (door_of O.lines O.accepted O.finished O.faults old.door.value)
@@ -974,14 +974,14 @@ where
     requires first_there { centres.now.first ≡ None → ports.old.first.items ≡ [] }
     requires second_room { All (λ s. O.accepted s.door.value < MAX_ACCEPTED) ports.old.second.items }
 
-    // It holds of these too.
+    // A centre that is not there has no stands.
     requires second_there { centres.now.second ≡ None → ports.old.second.items ≡ [] }
     requires third_room { All (λ s. O.accepted s.door.value < MAX_ACCEPTED) ports.old.third.items }
     requires third_there { centres.now.third ≡ None → ports.old.third.items ≡ [] }
     requires fourth_room { All (λ s. O.accepted s.door.value < MAX_ACCEPTED) ports.old.fourth.items }
     requires fourth_there { centres.now.fourth ≡ None → ports.old.fourth.items ≡ [] }
 
-    // It holds of these too.
+    // The counts of the editors' doors are not at their end.
     requires editors_room { All (λ s. E.accepted s.door.value < MAX_ACCEPTED) ports.old.editors.items }
     ensures first { EachBecomes (λ old new. HasServedCalls ⟦<IrcRules<0> as Rules>⟧ N0.limits N0.opening
         (K.moment clock.now) (line_of ⟦<O::Line as Source>⟧ ⟦<O::Line as Sink>⟧) old.calls
@@ -1004,7 +1004,7 @@ where
         new.port.pass (door_of O.lines O.accepted O.finished O.faults new.door.value) new.report.value)
         ports.old.fourth.items ports.new.fourth.items }
 
-    // So it is of these.
+    // So have the editors.
     ensures editors { EachBecomes (λ old new. HasServedSessions ⟦<UdcRules as Rules>⟧ U.limits U.opening
         (line_of ⟦<E::Line as Source>⟧ ⟦<E::Line as Sink>⟧) old.calls
         old.port.pass (door_of E.lines E.accepted E.finished E.faults old.door.value)
@@ -1063,7 +1063,7 @@ where
     requires second_room { All (λ s. O.accepted s.door.value < MAX_ACCEPTED) ports.old.second.items }
     requires second_there { centres.now.second ≡ None → ports.old.second.items ≡ [] }
 
-    // It holds of these too.
+    // The counts of these doors are not at their end, and a centre that is not there has no stands.
     requires third_room { All (λ s. O.accepted s.door.value < MAX_ACCEPTED) ports.old.third.items }
     requires third_there { centres.now.third ≡ None → ports.old.third.items ≡ [] }
     requires fourth_room { All (λ s. O.accepted s.door.value < MAX_ACCEPTED) ports.old.fourth.items }
@@ -1148,7 +1148,7 @@ where
     requires second_there { centres.now.second ≡ None → ports.old.second.items ≡ [] }
     requires third_room { All (λ s. O.accepted s.door.value < MAX_ACCEPTED) ports.old.third.items }
 
-    // It holds of these too.
+    // A centre that is not there has no stands.
     requires third_there { centres.now.third ≡ None → ports.old.third.items ≡ [] }
     requires fourth_room { All (λ s. O.accepted s.door.value < MAX_ACCEPTED) ports.old.fourth.items }
     requires fourth_there { centres.now.fourth ≡ None → ports.old.fourth.items ≡ [] }
@@ -1221,7 +1221,7 @@ where
     requires second_there { network.old.centres.second ≡ None → network.old.ports.second.items ≡ [] }
     requires third_room { All (λ s. O.accepted s.door.value < MAX_ACCEPTED) network.old.ports.third.items }
 
-    // It holds of these too.
+    // A centre that is not there has no stands.
     requires third_there { network.old.centres.third ≡ None → network.old.ports.third.items ≡ [] }
     requires fourth_room { All (λ s. O.accepted s.door.value < MAX_ACCEPTED) network.old.ports.fourth.items }
     requires fourth_there { network.old.centres.fourth ≡ None → network.old.ports.fourth.items ≡ [] }
@@ -1255,7 +1255,7 @@ where
         new.port.pass (door_of E.lines E.accepted E.finished E.faults new.door.value) new.report.value)
         network.old.ports.editors.items network.new.ports.editors.items }
 
-    // So it is of these.
+    // No node comes or goes, and the counts of passes stay.
     ensures first_live { count_of network.new.centres.first ≡ count_of network.old.centres.first }
     ensures second_live { count_of network.new.centres.second ≡ count_of network.old.centres.second }
     ensures third_live { count_of network.new.centres.third ≡ count_of network.old.centres.third }

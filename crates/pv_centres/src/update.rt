@@ -21,7 +21,7 @@ pub struct ClosedUpdate<D: Disk + Drop, E: Door + Drop> {
 
 /// Closes the Update Centre, of which carriers had these passes. If no memory is found its disk keeps what it held.
 ///
-/// `count` is how many passes it has, which is looked at again.
+/// `count` is how many passes it has, which is looked at again. `AllocError` comes if it is another, too.
 pub fn close_update<U: Run<Record>, D: Disk + Drop, E: Door + Drop, H: Wait + Drop>(
     alloc: Global,
     live: Live<UdcRules, D, U, H>,
