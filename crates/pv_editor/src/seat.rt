@@ -47,6 +47,13 @@ impl EditorSeat {
         }
     }
 
+    /// Who is logged on, if anybody is.
+    pub fn account(&self) -> Option<AccountNo>
+        ensures { result ≡ self.now.account }
+    {
+        self.account
+    }
+
     /// Takes a line, and returns its step. The base is the Update Centre's.
     pub fn line(&mut self, text: &[u8], base: &Base) -> EditStep
         ensures says { Says self.old text.now base.now.records base.now.places self.new result }
