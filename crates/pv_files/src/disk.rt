@@ -138,7 +138,7 @@ impl FileDisk<File> {
         ensures faults { IfOk result (λ d. d.faults ≡ 0) }
         ensures lost { IfOk result (λ d. d.is_lost ≡ false) }
     {
-        FileDisk::of(alloc, open_locked(rt, path, false)?)
+        FileDisk::of(alloc, open_file(rt, path)?)
     }
 
     /// Makes the disk in this file new and empty, whether the file is there or not, locks it, and puts the
@@ -157,6 +157,11 @@ impl FileDisk<File> {
         sync_folder_of(rt, path).map_err(OpenFault::File)?;
         FileDisk::of(alloc, file)
     }
+}
+
+/// Opens a file, which must be there, to read and write, and locks it.
+pub fn open_file<R: Files<File = File>>(rt: &R, path: &str) -> Result<File, OpenFault> {
+    open_locked(rt, path, false)
 }
 
 /// Opens a file to read and write, and locks it. If it is not there it may be made.

@@ -31,7 +31,7 @@ mod standard;
 mod threads;
 
 pub use clock::MachineClock;
-pub use disk::FileDisk;
+pub use disk::{FileDisk, open_file};
 pub use door::TcpDoor;
 pub use fault::{FileFault, OpenFault};
 pub use folder::{NODE_FILES, make_folder, set_aside};
