@@ -3,7 +3,8 @@ mod Causing
 mod Counting
 mod Ending
 mod Facts
-mod Growing
+pub mod Growing
+pub mod Holding
 mod Judging
 mod Laws
 mod Numbering

@@ -43,6 +43,16 @@ abbrev pub HasMemory : Stop → Type 0
 HasMemory (stops.Memory stored) = ⊥
 HasMemory _ = Unit {0}
 
+-- no call of a disk has failed in a round that ended so
+abbrev pub DisksHeld : Stop → Type 0
+DisksHeld (stops.DiskFault failure) = ⊥
+DisksHeld _ = Unit {0}
+
+-- no ask of the two passes has failed on its disk
+pub record NoAskFailed (old new : CarrierState) : Type 0 where
+  pub centre : new.centre.failed ≡ old.centre.failed
+  pub udc : new.udc.failed ≡ old.udc.failed
+
 module _ {L : Type 0} (k : links.Ghosts L) where
   -- a link was given a packet or handed one out
   abbrev pub LinkIsUsed : L → L → Type 0

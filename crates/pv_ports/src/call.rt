@@ -26,13 +26,15 @@ use pv_session::{Seat, Step, Why, Wish, a_call_owes_what_is_its_own};
 use pv_wishes::{paid_by, request_of};
 use std::sync::Wait;
 
-/// What a port keeps of a call: its seat, its marks, the keys that were read ahead, and the screens that are queued.
+/// What a port keeps of a call: its seat, its marks, the keys that were read ahead, the screens that are queued, and
+/// what it has cost so far.
 #[derive(Drop)]
 pub(crate) struct Hand {
     pub(crate) at: Pressing,
     pub(crate) marks: Vec<u64>,
     pub(crate) keys: ReadAhead,
     pub(crate) outbox: Outbox,
+    pub(crate) pence: u32,
     ghost room: { MAX_MARKS ≤ vec_capacity marks },
 }
 
@@ -154,6 +156,22 @@ fn take<const C: u8, N: Run<CentreRecord>, D: Disk, L: Line, W: Wait>(
     }
 }
 
+/// What a wish costs once it is stored, in pence.
+fn price_of(wish: Wish) -> u32 {
+    match wish {
+        Wish::Charge(line) => u32::from(line.price),
+        Wish::LogOn(_) | Wish::Post(_) | Wish::Remove(..) => 0,
+    }
+}
+
+/// What is charged once that is stored which a seat owes, in pence.
+fn price_owed(seat: &Seat) -> u32 {
+    match seat.wish() {
+        Some(wish) => price_of(wish),
+        None => 0,
+    }
+}
+
 /// Has stored what the call owes, and queues the screen of the step that comes of it. Nothing is queued before, so that
 /// a stop while the centre is asked leaves this wish alone without its screen.
 fn store<const C: u8, N: Run<CentreRecord>, D: Disk, H: Wait + Drop, L: Line, W: Wait>(
@@ -178,8 +196,10 @@ fn store<const C: u8, N: Run<CentreRecord>, D: Disk, H: Wait + Drop, L: Line, W:
     ensures ended { L.ended line.new ≡ L.ended line.old }
 {
     a_call_owes_what_is_its_own();
+    let price = price_owed(&hand.at.seat);
     match centre.ask(rt, pass, &request_of(wish)) {
         Ok(told) => {
+            hand.pence = hand.pence.saturating_add(price);
             let step = hand.at.seat.paid(paid_by(&told.reply));
             match send(line, &mut hand.outbox, &step) {
                 Ok(()) => None,
@@ -353,6 +373,7 @@ pub(crate) fn dial(hand: &mut Hand)
     a_call_owes_what_is_its_own();
     let (seat, screen) = Seat::dial();
     hand.at.seat = seat;
+    hand.pence = 0;
     hand.marks.clear();
     hand.keys.clear();
     hand.outbox.clear();

@@ -2,7 +2,7 @@ ghost use Rattle.std.specs.Prelude.{◌≡◌, ◌≤◌};
 ghost use Rattle.pv_edits.specs.Taken.{IsCentre};
 ghost use Rattle.pv_link.specs.Sending.{new_end};
 ghost use Rattle.pv_ports.specs.Cargo.{WentThrough, HasBrought};
-ghost use Rattle.pv_ports.specs.Outcomes.{HasRoundCause, HasMemory, HaveSeenTold};
+ghost use Rattle.pv_ports.specs.Outcomes.{HasRoundCause, HasMemory, HaveSeenTold, DisksHeld, NoAskFailed};
 ghost use Rattle.pv_ports.specs.Rights.{HoldRightPackets};
 ghost use Rattle.pv_ports.specs.Round.{IsRound, round_stop};
 
@@ -107,8 +107,10 @@ impl<const C: u8, U: Run<Record>, N: Run<CentreRecord>> Carrier<C, U, N> {
         ensures carried { WentThrough (round_stop result) → HasBrought ⟦<L as Link>⟧ N.limits U.opening
             N.opening C self.old down.old up.old self.new down.new up.new }
 
-        // Unless memory ran out, the passes have seen what was stored for them.
+        // Unless memory ran out, the passes have seen what was stored for them. Unless a disk's call failed, none
+        // of their asks did.
         ensures seen { HasMemory (round_stop result) → HaveSeenTold U.opening N.opening C self.old self.new }
+        ensures unfailed { DisksHeld (round_stop result) → NoAskFailed self.old self.new }
     {
         a_packet_is_read_as_it_is_spelled();
         self.make_round(rt, udc, centre, down, up)

@@ -3,6 +3,7 @@ ghost use Rattle.pv_ports.specs.Ends.{line_of};
 ghost use Rattle.pv_ports.specs.SessionEnds.{IsServedSession};
 
 use crate::edit_end::EditEnd;
+use crate::log_entry::{LogEnd, LogEntry};
 use crate::session::{Desk, begin, converse};
 use pv_edits::Record;
 use pv_live::{Live, Pass, Run};
@@ -46,6 +47,16 @@ impl<N: Run<Record>> EditorPort<N> {
         ensures { result.now ≡ self.now.marks }
     {
         &self.desk.marks
+    }
+
+    /// What a log may have of the last session, which has ended so.
+    pub fn log_entry<D: Disk>(&self, end: &EditEnd<D>) -> LogEntry {
+        LogEntry {
+            account: self.desk.seat.account(),
+            end: LogEnd::of_session(end),
+            screens: self.desk.marks.len(),
+            pence: 0,
+        }
     }
 
     /// The pass.

@@ -14,6 +14,7 @@
 //! let mut port = CallerPort::new(alloc, pass)?;
 //! let end = port.serve_call(rt, &centre, &mut line, &clock);
 //! port.marks();        // how many records were seen at each entry
+//! port.log_entry(&end); // who called, how it ended, how many screens he was sent, and what they cost
 //! let pass = port.into_pass();
 //!
 //! let mut port = EditorPort::new(alloc, pass)?;
@@ -37,6 +38,7 @@ mod edit_end;
 mod editor_port;
 mod end;
 mod law;
+mod log_entry;
 mod outbox;
 mod parcel;
 mod port;
@@ -55,6 +57,7 @@ pub use edit_end::EditEnd;
 pub use editor_port::EditorPort;
 pub use end::CallEnd;
 pub use law::{charges_are_stored_first, charges_are_the_calls_own, edits_are_counted};
+pub use log_entry::{LogEnd, LogEntry};
 pub use port::{CallerPort, MAX_MARKS};
 pub use pressing::{Pressing, press};
 pub use round_end::RoundEnd;

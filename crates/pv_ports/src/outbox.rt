@@ -20,6 +20,7 @@ pub(crate) const OUTBOX: usize = 8192;
 pub(crate) struct Outbox {
     bytes: Vec<u8>,
     screen: [u8; BUFFER],
+    made: usize,
 }
 
 impl Model for Outbox {
@@ -41,14 +42,21 @@ impl Outbox {
         Ok(Outbox {
             bytes: Vec::with_capacity(alloc, OUTBOX)?,
             screen: [0; BUFFER],
+            made: 0,
         })
     }
 
-    /// Forgets what is queued.
+    /// Forgets what is queued, and counts screens from 0 again.
     pub(crate) fn clear(&mut self)
         ensures { self.new ≡ [] }
     {
         self.bytes.clear();
+        self.made = 0;
+    }
+
+    /// How many screens were queued since it was cleared.
+    pub(crate) fn made(&self) -> usize {
+        self.made
     }
 
     /// Queues a screen, for which there is room.
@@ -58,6 +66,7 @@ impl Outbox {
     {
         let count = screen.bytes(&mut self.screen);
         self.bytes.extend_from_slice(&self.screen[..count]).unwrap();
+        self.made = self.made.saturating_add(1);
     }
 
     /// Writes all that is queued, in one write.

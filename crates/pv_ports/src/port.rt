@@ -3,6 +3,7 @@ ghost use Rattle.pv_ports.specs.Ends.{line_of, IsServedCall};
 
 use crate::call::{Hand, dial, talk};
 use crate::end::CallEnd;
+use crate::log_entry::{LogEnd, LogEntry};
 use crate::outbox::Outbox;
 use crate::pressing::Pressing;
 use crate::read_ahead::ReadAhead;
@@ -52,6 +53,7 @@ impl<const C: u8, N: Run<CentreRecord>> CallerPort<C, N> {
                 marks: Vec::with_capacity(alloc, MAX_MARKS)?,
                 keys: ReadAhead::new(),
                 outbox: Outbox::new(alloc)?,
+                pence: 0,
             },
         })
     }
@@ -61,6 +63,17 @@ impl<const C: u8, N: Run<CentreRecord>> CallerPort<C, N> {
         ensures { result.now ≡ self.now.marks }
     {
         &self.hand.marks
+    }
+
+    /// What a log may have of the last call, which has ended so.
+    pub fn log_entry<D: Disk>(&self, end: &CallEnd<D>) -> LogEntry {
+        let seat = &self.hand.at.seat;
+        LogEntry {
+            account: seat.serial().and(seat.account()),
+            end: LogEnd::of_call(end),
+            screens: self.hand.outbox.made(),
+            pence: self.hand.pence,
+        }
     }
 
     /// The pass.
