@@ -5,6 +5,7 @@ ghost use Rattle.pv_service.specs.Calls.{ServesNextCall, HasServedCalls, call_fa
 ghost use Rattle.pv_service.specs.Doors.{door_of, LetsNoneIn};
 ghost use Rattle.pv_service.specs.declared.caller_stand.TheConstants.{MAX_ACCEPTED};
 
+use crate::log::Log;
 use crate::port_report::{PortFault, PortReport};
 use crate::signals::Signals;
 use pv_irc::{CentreRecord, IrcRules};
@@ -58,7 +59,7 @@ fn serve_next<
     N: Run<CentreRecord>,
     D: Disk,
     H: Wait + Drop,
-    O: Door,
+    O: Door + Log,
     K: Clock,
     W: Wait,
 >(
@@ -79,6 +80,7 @@ fn serve_next<
 {
     let mut line = door.accept()?;
     let end = port.serve_call(rt, centre, &mut line, clock);
+    door.log(&port.log_entry(&end));
     door.finish(line);
     Ok(end)
 }
@@ -104,7 +106,7 @@ fn serve_lines<
     N: Run<CentreRecord>,
     D: Disk,
     H: Wait + Drop,
-    O: Door,
+    O: Door + Log,
     K: Clock,
     W: Wait,
 >(
@@ -147,7 +149,7 @@ pub fn serve_callers<
     N: Run<CentreRecord>,
     D: Disk,
     H: Wait + Drop,
-    O: Door + Drop,
+    O: Door + Log + Drop,
     K: Clock,
     W: Wait,
 >(

@@ -5,6 +5,7 @@ ghost use Rattle.pv_service.specs.Sessions.{ServesNextSession, HasServedSessions
 ghost use Rattle.pv_service.specs.Doors.{door_of, LetsNoneIn};
 ghost use Rattle.pv_service.specs.declared.caller_stand.TheConstants.{MAX_ACCEPTED};
 
+use crate::log::Log;
 use crate::port_report::{PortFault, PortReport};
 use crate::ringing_line::RingingLine;
 use crate::signals::Signals;
@@ -53,7 +54,7 @@ impl<N: Run<Record>, D: Disk, O: Door + Drop> EditorStand<N, D, O> {
 
 /// Accepts the next line, serves it by a session, and gives it back. If the door fails, nothing was served. Each edit that
 /// is acknowledged on the line wakes the carriers.
-fn serve_next<N: Run<Record>, D: Disk, H: Wait + Drop, O: Door, W: Wait>(
+fn serve_next<N: Run<Record>, D: Disk, H: Wait + Drop, O: Door + Log, W: Wait>(
     rt: &W,
     udc: &Live<UdcRules, D, N, H>,
     signals: &Signals,
@@ -76,6 +77,7 @@ fn serve_next<N: Run<Record>, D: Disk, H: Wait + Drop, O: Door, W: Wait>(
     };
     let end = port.serve_editor(rt, udc, &mut line);
     let RingingLine { line, signals: _ } = line;
+    door.log(&port.log_entry(&end));
     door.finish(line);
     Ok(end)
 }
@@ -96,7 +98,7 @@ fn failure_in<D: Disk>(end: EditEnd<D>, memory: &mut bool) -> Option<D::Failure>
 }
 
 /// Serves the lines of a door, one after the other.
-fn serve_lines<N: Run<Record>, D: Disk, H: Wait + Drop, O: Door, W: Wait>(
+fn serve_lines<N: Run<Record>, D: Disk, H: Wait + Drop, O: Door + Log, W: Wait>(
     rt: &W,
     udc: &Live<UdcRules, D, N, H>,
     signals: &Signals,
@@ -131,7 +133,7 @@ fn serve_lines<N: Run<Record>, D: Disk, H: Wait + Drop, O: Door, W: Wait>(
 /// Serves the lines of a stand until there were as many as it is to serve, or until its door or the Update Centre's disk
 /// fails.
 /// A line that was accepted is always given back. A session that finds no memory ends, and the next line is served.
-pub fn serve_editors<N: Run<Record>, D: Disk, H: Wait + Drop, O: Door + Drop, W: Wait>(
+pub fn serve_editors<N: Run<Record>, D: Disk, H: Wait + Drop, O: Door + Log + Drop, W: Wait>(
     rt: &W,
     udc: &Live<UdcRules, D, N, H>,
     signals: &Signals,

@@ -9,6 +9,8 @@
 //! - [`Signals`] are what these threads tell each other: a bell for each centre, so that a carrier sleeps while there is
 //!   nothing to bring, and how many ports are at work.
 //!
+//! A door hears how each of its lines was served ([`Log`]).
+//!
 //! Each stand has a report of how its work ended ([`PortReport`], [`CarrierReport`]), so that a row of stands can be
 //! served side by side and read afterwards. It is made first: if memory runs out, whoever makes stands still has the
 //! ports and the doors.
@@ -32,6 +34,7 @@ mod caller_stand;
 mod carrier_report;
 mod carrier_stand;
 mod editor_stand;
+mod log;
 mod port_report;
 mod ringing_line;
 mod rows;
@@ -42,6 +45,7 @@ pub use caller_stand::{CallerStand, MAX_ACCEPTED, serve_callers};
 pub use carrier_report::{CarrierFault, CarrierReport};
 pub use carrier_stand::{CarrierStand, carry_rounds};
 pub use editor_stand::{EditorStand, serve_editors};
+pub use log::Log;
 pub use port_report::{PortFault, PortReport};
 pub use rows::{run_callers, run_centre, run_editors};
 pub use signals::{MAX_SLEEP, Signals};

@@ -17,6 +17,7 @@ use crate::beside::change_beside;
 use crate::caller_stand::{CallerStand, serve_callers};
 use crate::carrier_stand::{CarrierStand, carry_rounds};
 use crate::editor_stand::{EditorStand, serve_editors};
+use crate::log::Log;
 use crate::signals::Signals;
 use pv_edits::Record;
 use pv_irc::{CentreRecord, IrcRules};
@@ -33,7 +34,7 @@ pub fn run_callers<
     N: Run<CentreRecord> + Send + Sync,
     D: Disk + Drop + Send,
     H: Wait + Drop + Send + Sync,
-    O: Door + Drop + Send,
+    O: Door + Log + Drop + Send,
     K: Clock + Sync,
     R: Wait + Threads + Sync,
 >(
@@ -75,7 +76,7 @@ pub fn run_editors<
     N: Run<Record> + Send + Sync,
     D: Disk + Drop + Send,
     H: Wait + Drop + Send + Sync,
-    O: Door + Drop + Send,
+    O: Door + Log + Drop + Send,
     R: Wait + Threads + Sync,
 >(rt: &R, udc: &Live<UdcRules, D, N, H>, signals: &Signals, stands: &mut [EditorStand<N, D, O>])
 where
@@ -113,7 +114,7 @@ pub fn run_centre<
     N: Run<CentreRecord> + Send + Sync,
     D: Disk + Drop + Send,
     H: Wait + Drop + Send + Sync,
-    O: Door + Drop + Send,
+    O: Door + Log + Drop + Send,
     K: Clock + Sync,
     L: Link + Drop + Send,
     R: Wait + Threads + Sync,
