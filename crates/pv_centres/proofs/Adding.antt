@@ -2,14 +2,18 @@
 use Rattle.std.proofs.Common.{◌≡◌, Bool, true, false, List, [], ◌∷◌, ◌++◌, Option, Some, None, inl, inr, refl, ap, sym, ◌∙◌, append_assoc}
 use Rattle.std.specs.Prelude.{◌⊎◌, ◌||◌}
 use Rattle.std.proofs.lemmas.List.Elements.{All-nil, All-push}
+use Rattle.pv_service.specs.declared.carrier_report.CarrierFault.{CarrierFault}
+use Rattle.pv_service.specs.declared.carrier_report.CarrierFault.TheVariants as carriers
+use Rattle.pv_service.specs.declared.carrier_report.CarrierReport.{CarrierReport}
 use Rattle.pv_service.specs.declared.port_report.PortFault.{PortFault}
 use Rattle.pv_service.specs.declared.port_report.PortFault.TheVariants as faults
 use Rattle.pv_service.specs.declared.port_report.PortReport.{PortReport}
-use Rattle.pv_centres.specs.Ends.{is_door_end, disk_end, first_failure, SomeDoorEnd, HaveBeenAdded}
+use Rattle.pv_centres.specs.Carried.{IsQuiet, AreQuiet, NoDiskFault}
+use Rattle.pv_centres.specs.Ends.{is_door_end, disk_end, carrier_end, first_failure, SomeDoorEnd, HaveBeenAdded}
 use Rattle.pv_centres.specs.declared.ends.Ends.{Ends}
 
 -- neither of two is so, if not one of them is
-neither : (a b : Bool) → (a || b) ≡ false → (a ≡ false) × (b ≡ false)
+pub neither : (a b : Bool) → (a || b) ≡ false → (a ≡ false) × (b ≡ false)
 neither false false none = (refl, refl)
 neither false true none = absurd cc
 neither true b none = absurd cc
@@ -35,6 +39,23 @@ module _ {D F : Type 0} where
   door_fault None door = absurd cc
   door_fault (Some faults.Door) door = refl
   door_fault (Some (faults.Disk failure)) door = absurd cc
+
+  -- a carrier's fault is no disk's
+  no_disk_fault : (fault : Option (CarrierFault D F)) → carrier_end fault ≡ None → NoDiskFault fault
+  no_disk_fault None none = tt
+  no_disk_fault (Some carriers.Link) none = tt
+  no_disk_fault (Some (carriers.Disk failure)) none = absurd cc
+
+  -- one carrier more has met nothing
+  pub quiet_more : (reports : List (CarrierReport D F)) (report : CarrierReport D F) (mid new : Ends D F)
+      → (mid.memory ≡ false → mid.disk ≡ None → AreQuiet reports) → new.memory ≡ (mid.memory || report.memory)
+      → new.disk ≡ first_failure mid.disk (carrier_end report.fault) → new.memory ≡ false → new.disk ≡ None
+      → AreQuiet (reports ++ report ∷ [])
+  quiet_more reports report mid new earlier memory_is disk_is memory none =
+      let enough = neither mid.memory report.memory (sym memory_is ∙ memory) in
+      let disks = none_there mid.disk (carrier_end report.fault) (sym disk_is ∙ none) in
+      All-push IsQuiet reports report (earlier enough.0 disks.0)
+      (record { memory = enough.1; disk = no_disk_fault report.fault disks.1 })
 
   -- nothing was added yet
   pub added_none : (now : Ends D F) → HaveBeenAdded [] now now

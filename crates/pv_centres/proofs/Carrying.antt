@@ -163,7 +163,7 @@ module _ {S Request Reply D : Type 0} (r : rules.Ghosts S CentreState Request Ce
     (stood : (state : CentreState) (records : List CentreRecord) → r.stands state records → state.applied ≡ applied_of records)
     (after : (state : CentreState) (rec : CentreRecord) (place : ℕ) → r.after state rec place ≡ with_centre_record state rec)
     (fits : (state : CentreState) (rec : CentreRecord) → IsTrue (centre_has_room state rec) → r.fits state rec) where
-  settled_applied : (old : Parts D CentreState CentreRecord) (records : List CentreRecord) (found : Option CentreRecord)
+  pub settled_applied : (old : Parts D CentreState CentreRecord) (records : List CentreRecord) (found : Option CentreRecord)
       → r.stands old.state records → (settled_state r old found).applied ≡ applied_of (records_with records found)
   settled_applied old records None stands = stood old.state records stands
   settled_applied old records (Some rec) stands =

@@ -15,9 +15,9 @@ none_in [] none = refl
 none_in (x ∷ xs) none = absurd (omega (arith, none))
 
 -- there are as many stands as doors: no door is left
-pub all_taken : {T O : Type 0} (door_of : T → O) (stands : List T) (rest doors : List O) → map door_of stands ++ rest ≡ doors
+pub taken_count : {T O : Type 0} (door_of : T → O) (stands : List T) (rest doors : List O) → map door_of stands ++ rest ≡ doors
     → length stands ≡ length doors → map door_of stands ≡ doors
-all_taken {O = O} door_of stands rest doors filled count =
+taken_count {O = O} door_of stands rest doors filled count =
     let left : rest ≡ [] = none_in rest (omega (
       arith,
       count,

@@ -1,8 +1,10 @@
 mod Adding
-mod Bringing
+pub mod Bringing
 mod Carrying
+mod Continuing
 mod Disks
 mod Filling
-mod Passes
-mod Ports
+pub mod Passes
+mod Rounds
 pub mod Served
+pub mod Storing

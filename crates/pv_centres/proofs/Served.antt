@@ -1,15 +1,15 @@
 -- What rows of stands have become, in terms of their doors, passes and reports.
-use Rattle.std.proofs.Common.{◌≡◌, ℕ, zero, suc, ◌+◌, ◌<◌, ◌≤◌, Bool, List, [], ◌∷◌, ◌++◌, length, map, refl, ap, sym, ◌∙◌, subst, arith}
+use Rattle.std.proofs.Common.{◌≡◌, ℕ, suc, ◌+◌, ◌≤◌, Bool, List, [], ◌∷◌, ◌++◌, length, map, refl, ap, sym, ◌∙◌, subst, arith}
 use Rattle.std.specs.Prelude.{All, IfSome, Option, None, Some}
 use Rattle.std.specs.Option.{option_map, unwrap_or}
 use Rattle.std.proofs.lemmas.List.{length-map, map-append}
-use Rattle.std.proofs.lemmas.List.Elements.{All-nil, All-cons, All-head, All-tail, All-push}
+use Rattle.std.proofs.lemmas.List.Elements.{All-head, All-tail}
 use Rattle.pv_outside.specs.Counts.{Rose}
 use Rattle.pv_outside.specs.declared.limits.Limits.{Limits}
 use Rattle.pv_outside.specs.declared.reports.Reports as reports
 use Rattle.pv_node.specs.declared.rules.Rules as rules
 use Rattle.pv_node.specs.Parts.{Parts}
-use Rattle.pv_live.specs.Pass.{Standing, new_pass, new_passes}
+use Rattle.pv_live.specs.Pass.{Standing, new_passes}
 use Rattle.pv_service.specs.Doors.{DoorReport}
 use Rattle.pv_service.specs.Rows.{EachBecomes}
 use Rattle.pv_service.specs.Serving.{Served, lines_in, IsPortEnd, HasServed}
@@ -19,7 +19,8 @@ use Rattle.pv_service.specs.declared.port_report.PortReport.{PortReport}
 use Rattle.pv_service.proofs.Serving.{length-lines_in}
 use Rattle.pv_centres.specs.Opening.{count_of, weigh}
 use Rattle.pv_centres.specs.Parts.{IfThere, PerCentre, all_rows, row_lengths}
-use Rattle.pv_centres.specs.Served.{IsNewPass, IsFreshRow, ServesAnew, EachServes, IsClosedWith, NodeServed, DoorServed, ServesEachDoor, ServedRows, SomeDoorRose, GiveBackMore}
+use Rattle.pv_centres.proofs.Passes.{each_is_new, each_of}
+use Rattle.pv_centres.specs.Served.{IsNewPass, IsFreshRow, EachServes, IsClosedWith, NodeServed, DoorServed, ServesEachDoor, ServedRows, SomeDoorRose, GiveBackMore}
 
 -- ---- what is there, and what is not
 
@@ -44,24 +45,13 @@ none_stands ports (Some o) live stands same counted none = absurd (omega (arith,
 -- ---- a row of new stands
 
 -- new passes were used for nothing
-new_passes_new : (T : Type 0) (n : ℕ) → All IsNewPass (new_passes {T = T} n)
-new_passes_new T zero = All-nil IsNewPass
-new_passes_new T (suc n) = All-push IsNewPass (new_passes n) (new_pass n) (new_passes_new T n) refl
-
 pub all_new : {T : Type 0} (passes : List (Standing T)) (n : ℕ) → passes ≡ new_passes n → All IsNewPass passes
-all_new {T} passes n same = subst (All IsNewPass) (sym same) (new_passes_new T n)
+all_new passes n same = subst (All IsNewPass) (sym same) (each_is_new n)
 
 -- so are those of the stands that were made with them
-stands_new : {S T : Type 0} (pass_of : S → Standing T) (stands : List S) → All IsNewPass (map pass_of stands)
-    → All (λ s. IsNewPass (pass_of s)) stands
-stands_new pass_of [] all = All-nil (λ s. IsNewPass (pass_of s))
-stands_new pass_of (s ∷ stands) all =
-    All-cons (λ s. IsNewPass (pass_of s)) s stands (All-head IsNewPass (pass_of s) (map pass_of stands) all)
-    (stands_new pass_of stands (All-tail IsNewPass (pass_of s) (map pass_of stands) all))
-
 pub row_new : {S T : Type 0} (pass_of : S → Standing T) (stands : List S) (passes : List (Standing T)) → map pass_of stands ≡ passes
     → All IsNewPass passes → All (λ s. IsNewPass (pass_of s)) stands
-row_new pass_of stands passes same all = stands_new pass_of stands (subst (All IsNewPass) (sym same) all)
+row_new pass_of stands passes same all = each_of pass_of IsNewPass stands (subst (All IsNewPass) (sym same) all)
 
 -- its doors are as many as it is to have
 pub fresh_length : {T Rec O : Type 0} {accepted : O → ℕ} {pass_of : T → Standing Rec} {door_of : T → O} {calls_of : T → ℕ}
@@ -110,13 +100,13 @@ module _ {T Rec O L R : Type 0} (accepted : O → ℕ) (pass_of : T → Standing
 
   -- its node was served from its opening to its closing
   module _ {S State Request Reply D : Type 0} (r : rules.Ghosts S State Request Rec Reply) (d : reports.Ghosts D) (limits : Limits)
-      (opening : List Rec) (calls : ℕ) (old new : List T) where
+      (brought : List Rec → ℕ) (Quiet : Type 0) (opening : List Rec) (calls : ℕ) (old new : List T) where
     abbrev pub WasServed : Parts D State Rec → Type 0
-    WasServed = NodeServed (Serves calls) r d limits opening (map state_of (map door_of old)) (map state_of (map door_of new))
-        (map report_of new)
+    WasServed = NodeServed (Serves calls) r d limits brought Quiet opening (map state_of (map door_of old))
+        (map state_of (map door_of new)) (map report_of new)
 
     closed_served : (count : ℕ) (node : Parts D State Rec) → IsFreshRow accepted pass_of door_of calls_of count calls old
-        → EachBecomes Becomes old new → IsClosedWith r d limits opening (map pass_of new) node → WasServed node
+        → EachBecomes Becomes old new → IsClosedWith r d limits opening brought Quiet (map pass_of new) node → WasServed node
     closed_served count node fresh all closed = record {
       passes = map pass_of new;
       ports = fresh_row_serves count calls old new fresh all;
@@ -126,19 +116,50 @@ module _ {T Rec O L R : Type 0} (accepted : O → ℕ) (pass_of : T → Standing
     -- by its doors and reports, as they were handed back
     pub node_served : (count : ℕ) (olds news : List O) (reports : List R) (node : Parts D State Rec) → map door_of old ≡ olds
         → news ≡ map door_of new → reports ≡ map report_of new → IsFreshRow accepted pass_of door_of calls_of count calls old
-        → EachBecomes Becomes old new → IsClosedWith r d limits opening (map pass_of new) node
-        → NodeServed (Serves calls) r d limits opening (map state_of olds) (map state_of news) reports node
+        → EachBecomes Becomes old new → IsClosedWith r d limits opening brought Quiet (map pass_of new) node
+        → NodeServed (Serves calls) r d limits brought Quiet opening (map state_of olds) (map state_of news) reports node
     node_served count olds news reports node same_old same_new same_reports fresh all closed =
         rw (← same_old, same_new, same_reports) (closed_served count node fresh all closed)
 
     -- so it is of a centre, if the network has it
     pub centre_served : {A B : Type 0} (count : ℕ) (opened : Option A) (was live : Option B) (node : Option (Parts D State Rec))
         → count_of was ≡ count_of opened → count_of live ≡ count_of was → IsFreshRow accepted pass_of door_of calls_of count calls old
-        → EachBecomes Becomes old new → IfThere (λ live n. IsClosedWith r d limits opening (map pass_of new) n) live node
+        → EachBecomes Becomes old new → IfThere (λ live n. IsClosedWith r d limits opening brought Quiet (map pass_of new) n) live node
         → IfThere (λ o n. WasServed n) opened node
     centre_served count opened was live node same still fresh all closed =
-        there_still (IsClosedWith r d limits opening (map pass_of new)) WasServed opened was live node same still
+        there_still (IsClosedWith r d limits opening brought Quiet (map pass_of new)) WasServed opened was live node same still
         (λ n one. closed_served count n fresh all one) closed
+
+-- what is so if nothing hides what carriers have stored is so if more is known
+module _ {Rec S State Request Reply D : Type 0} (r : rules.Ghosts S State Request Rec Reply) (d : reports.Ghosts D) (limits : Limits)
+    (opening : List Rec) (brought : List Rec → ℕ) (Quiet More : Type 0) (quiet : More → Quiet) where
+  closed_quieter : (ports : List (Standing Rec)) (node : Parts D State Rec) → IsClosedWith r d limits opening brought Quiet ports node
+      → IsClosedWith r d limits opening brought More ports node
+  closed_quieter ports node closed = record {
+    carriers = closed.carriers;
+    asked = closed.asked;
+    closed = closed.closed;
+    few = λ more. closed.few (quiet more);
+  }
+
+  -- if there is a centre
+  pub there_quieter : {B : Type 0} (ports : List (Standing Rec)) (live : Option B) (node : Option (Parts D State Rec))
+      → IfThere (λ l n. IsClosedWith r d limits opening brought Quiet ports n) live node
+      → IfThere (λ l n. IsClosedWith r d limits opening brought More ports n) live node
+  there_quieter ports None None there = tt
+  there_quieter ports (Some l) (Some n) there = closed_quieter ports n there
+  there_quieter ports None (Some n) there = absurd there
+  there_quieter ports (Some l) None there = absurd there
+
+  -- of a node that was served
+  pub served_quieter : {L R : Type 0} (HasServed : Standing Rec → L → Standing Rec → L → R → Type 0) (old new : List L) (reports : List R)
+      (node : Parts D State Rec) → NodeServed HasServed r d limits brought Quiet opening old new reports node
+      → NodeServed HasServed r d limits brought More opening old new reports node
+  served_quieter HasServed old new reports node served = record {
+    passes = served.passes;
+    ports = served.ports;
+    closed = closed_quieter served.passes node served.closed;
+  }
 
 -- ---- what is known from the counts
 
@@ -249,10 +270,11 @@ module _ {Rec L E D F : Type 0} (Serves : Standing Rec → Served L E → Standi
 
   -- a node's
   pub node_doors : {S State Request Reply N : Type 0} (r : rules.Ghosts S State Request Rec Reply) (d : reports.Ghosts N) (limits : Limits)
-      (opening : List Rec) (olds news : List (DoorReport L)) (reports : List (PortReport D F)) (node : Parts N State Rec)
-      → NodeServed (HasServed Serves failure_in lacked_memory {D = D} calls) r d limits opening olds news reports node
+      (brought : List Rec → ℕ) (Quiet : Type 0) (opening : List Rec) (olds news : List (DoorReport L)) (reports : List (PortReport D F))
+      (node : Parts N State Rec)
+      → NodeServed (HasServed Serves failure_in lacked_memory {D = D} calls) r d limits brought Quiet opening olds news reports node
       → ServesEachDoor calls olds news reports
-  node_doors r d limits opening olds news reports node served = doors_served olds served.passes news reports served.ports
+  node_doors r d limits brought Quiet opening olds news reports node served = doors_served olds served.passes news reports served.ports
 
 -- ---- a network
 

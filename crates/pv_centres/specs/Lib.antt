@@ -1,5 +1,7 @@
+pub mod Carried
 pub mod Ends
 pub mod Opening
 pub mod Parts
 pub mod Rest
+pub mod Rows
 pub mod Served

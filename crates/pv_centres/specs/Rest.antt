@@ -1,5 +1,6 @@
 -- What nodes have become that were brought what they lacked, and which of them are full.
-use Rattle.std.specs.Prelude.{◌≡◌, ◌⊎◌, ℕ, ◌+◌, ◌==◌, ◌≤◌, Bool, true, false, if◌then◌else◌, IsTrue, List, [], ◌∷◌, ◌++◌, length, Option, None, Some}
+use Rattle.std.specs.Prelude.{◌≡◌, ◌⊎◌, ℕ, ◌+◌, ◌==◌, ◌≤◌, Bool, true, false, if◌then◌else◌, IfSome, IsTrue, List, [], ◌∷◌, ◌++◌, length, Option, None, Some}
+use Rattle.pv_outside.specs.declared.limits.Limits.{Limits}
 use Rattle.pv_outside.specs.declared.reports.Reports as reports
 use Rattle.pv_post.specs.declared.item.Item.{Item}
 use Rattle.pv_edits.specs.Edits.{taken_of}
@@ -7,6 +8,7 @@ use Rattle.pv_edits.specs.declared.record.Record.{Record}
 use Rattle.pv_node.specs.declared.rules.Rules as rules
 use Rattle.pv_node.specs.Parts.{Parts}
 use Rattle.pv_node.specs.Standing.{StandsFor}
+use Rattle.pv_live.specs.Run.{IsMade}
 use Rattle.pv_udc.specs.EditList.{EditList}
 use Rattle.pv_irc.specs.Deciding.{centre_has_room}
 use Rattle.pv_irc.specs.History.{CentreState}
@@ -18,6 +20,26 @@ module _ {S State Request Rec Reply D : Type 0} (r : rules.Ghosts S State Reques
   pub record AddsRecords (old new : Parts D State Rec) : Type 0 where
     pub stands : (records : List Rec) → StandsFor r g old records → (more : List Rec) × StandsFor r g new (records ++ more)
     pub limits : r.limits_of new.state ≡ r.limits_of old.state
+
+-- ---- a run goes on
+
+module _ {S State Request Rec Reply : Type 0} (r : rules.Ghosts S State Request Rec Reply) (limits : Limits) where
+  -- those records are a run after these: each is one that some request stores after all before it
+  abbrev pub IsRunAfter : List Rec → List Rec → Type 0
+  IsRunAfter records more = (before after : List Rec) (rec : Rec) → more ≡ before ++ rec ∷ after → IsMade r limits (records ++ before) rec
+
+-- The node stands for these records, and for more that are a run after them. So is a record in hand, after all of those.
+module _ {S State Request Rec Reply D : Type 0} (r : rules.Ghosts S State Request Rec Reply) (g : reports.Ghosts D) where
+  pub record StandsOn (limits : Limits) (records : List Rec) (node : Parts D State Rec) : Type 0 where
+    pub more : List Rec
+    pub stands : StandsFor r g node (records ++ more)
+    pub goes_on : IsRunAfter r limits records more
+    pub hand : IfSome node.hand (IsMade r limits (records ++ more))
+
+  -- whatever the node stood for, it stands for that and a run after it, if a record in hand was one
+  abbrev pub AddsRun : Parts D State Rec → Parts D State Rec → Type 0
+  AddsRun old new = (records : List Rec) → StandsFor r g old records → IfSome old.hand (IsMade r (r.limits_of old.state) records)
+      → StandsOn (r.limits_of old.state) records new
 
 -- ---- what is carried
 

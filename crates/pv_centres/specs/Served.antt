@@ -1,7 +1,7 @@
 -- What has become of a node and of the doors of its ports, once their threads have ended and it was closed.
 use Rattle.std.specs.Prelude.{◌≡◌, ℕ, ◌+◌, ◌<◌, ◌≤◌, List, [], ◌∷◌, ◌++◌, length, map, All, Option, Some, None, slice_index_or}
 use Rattle.pv_edits.specs.declared.record.Record.{Record}
-use Rattle.pv_irc.specs.History.{CentreState}
+use Rattle.pv_irc.specs.History.{CentreState, applied_of}
 use Rattle.pv_irc.specs.declared.record.CentreRecord.{CentreRecord}
 use Rattle.pv_irc.specs.declared.reply.IrcReply.{IrcReply}
 use Rattle.pv_irc.specs.declared.request.IrcRequest.{IrcRequest}
@@ -11,7 +11,8 @@ use Rattle.pv_outside.specs.declared.reports.Reports as reports
 use Rattle.pv_node.specs.declared.rules.Rules as rules
 use Rattle.pv_node.specs.Parts.{Parts}
 use Rattle.pv_live.specs.Closing.{IsClosed}
-use Rattle.pv_live.specs.Pass.{Standing, new_pass}
+use Rattle.pv_live.specs.Entries.{with_opening}
+use Rattle.pv_live.specs.Pass.{Standing, new_pass, told_count, failed_count}
 use Rattle.pv_ports.specs.Ends.{LineState}
 use Rattle.pv_service.specs.Calls.{HasServedCalls}
 use Rattle.pv_service.specs.Doors.{DoorReport}
@@ -22,6 +23,7 @@ use Rattle.pv_service.specs.declared.caller_stand.TheConstants.{MAX_ACCEPTED}
 use Rattle.pv_udc.specs.EditList.{EditList}
 use Rattle.pv_udc.specs.declared.reply.UdcReply.{UdcReply}
 use Rattle.pv_udc.specs.declared.request.UdcRequest.{UdcRequest}
+use Rattle.pv_centres.specs.Carried.{taken_count}
 use Rattle.pv_centres.specs.Parts.{PerCentre, all_rows, row_lengths}
 
 -- a pass that has seen nothing, and was used for nothing
@@ -37,11 +39,15 @@ module _ {T Rec O : Type 0} (accepted : O → ℕ) (pass_of : T → Standing Rec
     pub lines : All (λ stand. calls_of stand ≡ calls) stands
     pub room : All (λ stand. accepted (door_of stand) < MAX_ACCEPTED) stands
 
--- a node that was opened with these records was closed with these passes of its ports, and those of carriers
+-- A node that was opened with these records was closed with these passes of its ports, and those of carriers. If nothing hides what
+-- carriers have stored, the records that were not brought are at most as many as its ports were told of, or failed to store.
 module _ {S State Request Rec Reply D : Type 0} (r : rules.Ghosts S State Request Rec Reply) (d : reports.Ghosts D) (limits : Limits)
-    (opening : List Rec) where
-  abbrev pub IsClosedWith : List (Standing Rec) → Parts D State Rec → Type 0
-  IsClosedWith ports node = (carriers : List (Standing Rec)) × (asked : ℕ) × IsClosed r d limits opening (ports ++ carriers) node asked
+    (opening : List Rec) (brought : List Rec → ℕ) (Quiet : Type 0) where
+  pub record IsClosedWith (ports : List (Standing Rec)) (node : Parts D State Rec) : Type 0 where
+    pub carriers : List (Standing Rec)
+    pub asked : ℕ
+    pub closed : IsClosed r d limits opening (ports ++ carriers) node asked
+    pub few : Quiet → asked + brought opening ≤ told_count ports + failed_count ports + brought (with_opening opening closed.log)
 
 -- How a port has served its door: from this pass and door, to this pass and door, with this report.
 module _ {Rec L R : Type 0} (HasServed : Standing Rec → L → Standing Rec → L → R → Type 0) where
@@ -60,23 +66,24 @@ module _ {Rec L R : Type 0} (HasServed : Standing Rec → L → Standing Rec →
 
   -- A node was opened with these records, its ports have served these doors, each with a report, and it was closed: it has the records of
   -- the opening and those of a run. Each port's pass has seen a prefix of them; so have the passes of carriers.
-  module _ {S State Request Reply D : Type 0} (r : rules.Ghosts S State Request Rec Reply) (d : reports.Ghosts D) (limits : Limits) where
+  module _ {S State Request Reply D : Type 0} (r : rules.Ghosts S State Request Rec Reply) (d : reports.Ghosts D) (limits : Limits)
+      (brought : List Rec → ℕ) (Quiet : Type 0) where
     pub record NodeServed (opening : List Rec) (old new : List L) (reports : List R) (node : Parts D State Rec) : Type 0 where
       pub passes : List (Standing Rec)
       pub ports : EachServes old passes new reports
-      pub closed : IsClosedWith r d limits opening passes node
+      pub closed : IsClosedWith r d limits opening brought Quiet passes node
 
 -- a centre was served from its opening to its closing, each line of its doors by a call
 module _ {S L D F : Type 0} (r : rules.Ghosts S CentreState IrcRequest CentreRecord IrcReply) (d : reports.Ghosts D) (limits : Limits)
-    (opening : List CentreRecord) (shown : Option ℕ) (report_of : L → LineState) (calls : ℕ) where
+    (opening : List CentreRecord) (shown : Option ℕ) (report_of : L → LineState) (calls : ℕ) (Quiet : Type 0) where
   abbrev pub CentreServed : List (DoorReport L) → List (DoorReport L) → List (PortReport D F) → Parts D CentreState CentreRecord → Type 0
-  CentreServed = NodeServed (HasServedCalls r limits opening shown report_of calls) r d limits opening
+  CentreServed = NodeServed (HasServedCalls r limits opening shown report_of calls) r d limits applied_of Quiet opening
 
 -- so was the Update Centre, each line by a session
 module _ {S L D F : Type 0} (r : rules.Ghosts S EditList UdcRequest Record UdcReply) (d : reports.Ghosts D) (limits : Limits)
-    (opening : List Record) (report_of : L → LineState) (calls : ℕ) where
+    (opening : List Record) (report_of : L → LineState) (calls : ℕ) (Quiet : Type 0) where
   abbrev pub UpdateServed : List (DoorReport L) → List (DoorReport L) → List (PortReport D F) → Parts D EditList Record → Type 0
-  UpdateServed = NodeServed (HasServedSessions r limits opening report_of calls) r d limits opening
+  UpdateServed = NodeServed (HasServedSessions r limits opening report_of calls) r d limits taken_count Quiet opening
 
 -- The doors of all callers, old and new, and the reports of their ports, in rows: of each centre those of its ports, as many as are counted.
 pub record ServedRows {L R : Type 0} (counts : PerCentre ℕ) (old new : List L) (reports : List R) : Type 0 where

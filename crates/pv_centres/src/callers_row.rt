@@ -27,7 +27,7 @@ fn stand_of<const C: u8, N: Run<CentreRecord>, D: Disk, O: Door + Drop>(
 }
 
 /// A row of stands: one for each door, each with a pass of its own.
-pub(crate) fn callers_row<const C: u8, N: Run<CentreRecord>, D: Disk, O: Door + Drop>(
+pub fn callers_row<const C: u8, N: Run<CentreRecord>, D: Disk, O: Door + Drop>(
     alloc: Global,
     passes: Vec<Pass<IrcRules<C>, N>>,
     doors: Vec<O>,
@@ -55,7 +55,7 @@ pub(crate) fn callers_row<const C: u8, N: Run<CentreRecord>, D: Disk, O: Door + 
 }
 
 /// Takes a row apart: the passes, the doors and the reports, in order.
-pub(crate) fn take_callers<const C: u8, N: Run<CentreRecord>, D: Disk, O: Door + Drop>(
+pub fn take_callers<const C: u8, N: Run<CentreRecord>, D: Disk, O: Door + Drop>(
     stands: Vec<CallerStand<C, N, D, O>>,
     passes: &mut Vec<Pass<IrcRules<C>, N>>,
     doors: &mut Vec<O>,

@@ -1,25 +1,23 @@
-ghost use Rattle.std.specs.Prelude.{◌≡◌, ℕ, List, ◌+◌, ◌++◌, ◌<◌, None, All, map, vec_len, IfOk, OnOk, IfSome, IsSome};
+ghost use Rattle.std.specs.Prelude.{◌≡◌, ◌+◌, ◌++◌, ◌<◌, None, All, map, vec_len, option_to_list, IfOk, OnOk, IfSome, IsSome};
+ghost use Rattle.std.specs.Option.{option_map};
 ghost use Rattle.pv_edits.specs.Taken.{IsCentre};
 ghost use Rattle.pv_node.specs.Standing.{StandsFor};
-ghost use Rattle.pv_live.specs.Closing.{IsClosed};
 ghost use Rattle.pv_live.specs.Opening.{IsPassCount};
-ghost use Rattle.pv_live.specs.Pass.{Standing};
-ghost use Rattle.pv_irc.specs.declared.record.CentreRecord.{CentreRecord};
+ghost use Rattle.pv_irc.specs.History.{applied_of};
+ghost use Rattle.pv_centres.specs.Carried.{AreQuiet, HasStoredNoMore};
 ghost use Rattle.pv_centres.specs.Parts.{IfThere};
 ghost use Rattle.pv_service.specs.declared.caller_stand.TheConstants.{MAX_ACCEPTED};
-ghost use Rattle.pv_centres.specs.Served.{IsFreshRow};
+ghost use Rattle.pv_centres.specs.Served.{IsClosedWith, IsFreshRow, IsNewPass};
 
 use crate::callers_row::{callers_row, take_callers};
+use crate::centre_carrier::CentreCarrier;
 use crate::collected::Collected;
-use crate::doors::put;
 use pv_edits::Record;
 use pv_irc::{CentreRecord, IrcRules};
 use pv_live::{Live, Pass, Run, Start, open_live};
-use pv_memory::Pipe;
 use pv_node::{Node, Rules};
 use pv_outside::{Disk, Door};
-use pv_ports::Carrier;
-use pv_service::{CallerStand, CarrierReport, CarrierStand};
+use pv_service::CallerStand;
 use pv_udc::UdcRules;
 use std::alloc::{AllocError, Global};
 use std::sync::Wait;
@@ -36,29 +34,11 @@ pub struct OpenCentre<
     H: Wait + Drop,
 > {
     /// Its node, under a lock.
-    pub live: Option<Live<IrcRules<C>, D, N, H>>,
+    pub live: Option<Box<Live<IrcRules<C>, D, N, H>>>,
     /// Its callers' ports with their doors.
     pub callers: Vec<CallerStand<C, N, D, O>>,
-    /// What brings it its records, and takes up its items.
-    pub carriers: Vec<CarrierStand<C, U, N, D, Pipe>>,
-}
-
-/// The stand of a centre's carrier. Its links hold nothing, and no call of them fails.
-fn carriers_of<const C: u8, U: Run<Record>, N: Run<CentreRecord>, D: Disk>(
-    alloc: Global,
-    udc: Pass<UdcRules, U>,
-    centre: Pass<IrcRules<C>, N>,
-) -> Result<Vec<CarrierStand<C, U, N, D, Pipe>>, AllocError>
-    requires { IsCentre C }
-    ensures { IfOk result (λ carriers. vec_len carriers ≡ 1) }
-{
-    let carrier = Carrier::new(udc, centre);
-    let down = Box::new(alloc, Pipe::new(alloc, &[])?)?;
-    let up = Box::new(alloc, Pipe::new(alloc, &[])?)?;
-    let stand = CarrierStand::new(carrier, down, up, CarrierReport::boxed(alloc)?);
-    let mut carriers = Vec::new(alloc);
-    put(&mut carriers, stand)?;
-    Ok(carriers)
+    /// What brings it its records, and takes its items up.
+    pub carrier: Option<CentreCarrier<C, U, N, D>>,
 }
 
 /// Opens a centre for callers: one port for each door. If no memory is found, its disk keeps what it held.
@@ -84,7 +64,8 @@ pub fn open_centre<
     requires limits { node.state.limits ≡ N.limits }
     requires fresh { All (λ d. O.accepted d < MAX_ACCEPTED) doors.items }
 
-    // There is a pass for each door and one for the carrier, and the run is named by its start.
+    // There is a pass for each door and one for the carrier, the Update Centre's is new, and the run is named by its start.
+    requires new_udc { IsNewPass udc }
     requires passes { (vec_len doors + 1 ≡ N.passes) × IsPassCount (vec_len doors + 1) }
     requires start { start ≡ record {
       book = N.book;
@@ -98,17 +79,17 @@ pub fn open_centre<
     ensures fresh { IfOk result (λ centre. IsFreshRow O.accepted (λ s. s.port.pass) (λ s. s.door.value)
         (λ s. s.calls)
         (vec_len doors) calls centre.callers.items) }
-    ensures there { IfOk result (λ centre. IsSome centre.live × (vec_len centre.carriers ≡ 1)) }
+    ensures there { IfOk result (λ centre. IsSome centre.live × IsSome centre.carrier) }
 {
     let count = doors.len() + 1;
     let (live, mut passes) = open_live::<IrcRules<C>, D, N, H>(rt, alloc, node, count, start)?;
     let own = passes.pop().unwrap();
     let callers = callers_row(alloc, passes, doors, calls)?;
-    let carriers = carriers_of(alloc, udc, own)?;
+    let carrier = CentreCarrier::new(alloc, udc, own)?;
     Ok(OpenCentre {
-        live: Some(live),
+        live: Some(Box::new(alloc, live)?),
         callers,
-        carriers,
+        carrier: Some(carrier),
     })
 }
 
@@ -131,19 +112,24 @@ pub fn close_centre<
     collected: &mut Collected<U, D, O>,
 ) -> Result<Option<Node<IrcRules<C>, D>>, AllocError>
     requires { count ≡ N.passes }
-    ensures closed { IfOk result (λ node. IfThere (λ live n. (carriers : List (Standing CentreRecord))
-        × (asked : ℕ)
-        × IsClosed ⟦<IrcRules<C> as Rules>⟧ D.Reports N.limits N.opening
-        (map (λ s. s.port.pass) centre.callers.items ++ carriers) n asked) centre.live node) }
+    ensures closed { IfOk result (λ node. IfThere (λ live n. IsClosedWith ⟦<IrcRules<C> as Rules>⟧ D.Reports
+        N.limits N.opening applied_of (AreQuiet collected.new.carriers.items)
+        (map (λ s. s.port.pass) centre.callers.items) n) centre.live node) }
     ensures doors { OnOk result (collected.new.doors.items
         ≡ collected.old.doors.items ++ map (λ s. s.door.value) centre.callers.items) }
     ensures reports { OnOk result (collected.new.reports.items
         ≡ collected.old.reports.items ++ map (λ s. s.report.value) centre.callers.items) }
+    ensures udc { OnOk result (collected.new.passes.items
+        ≡ collected.old.passes.items ++ option_to_list (option_map (λ c. c.udc) centre.carrier)) }
+
+    // If no carrier has met anything, its own has stored what it has brought, and no more.
+    ensures quiet { OnOk result (AreQuiet collected.new.carriers.items → AreQuiet collected.old.carriers.items
+        × IfSome centre.carrier (HasStoredNoMore U.opening N.opening C)) }
 {
     let OpenCentre {
         live,
         callers,
-        carriers,
+        carrier,
     } = centre;
     let mut passes = Vec::new(alloc);
     take_callers(
@@ -152,9 +138,11 @@ pub fn close_centre<
         &mut collected.doors,
         &mut collected.reports,
     )?;
-    collected.take_carriers(carriers, &mut passes)?;
+    collected.take_carrier(carrier, &mut passes)?;
     match live {
-        Some(live) if passes.len() == count => Ok(Some(live.close(passes).node)),
+        Some(live) if passes.len() == count => {
+            Ok(Some(Box::into_inner(live).close(passes).node))
+        }
         Some(_) => Err(AllocError),
         None => Ok(None),
     }

@@ -1,12 +1,14 @@
-ghost use Rattle.std.specs.Prelude.{◌≡◌, ◌++◌, [], map, OnOk};
+ghost use Rattle.std.specs.Prelude.{◌≡◌, ◌++◌, [], option_to_list, OnOk, IfSome};
+ghost use Rattle.std.specs.Option.{option_map};
+ghost use Rattle.pv_centres.specs.Carried.{AreQuiet, HasStoredNoMore};
 
+use crate::centre_carrier::CentreCarrier;
 use crate::doors::put;
 use pv_edits::Record;
 use pv_irc::{CentreRecord, IrcRules};
 use pv_live::{Pass, Run};
-use pv_memory::Pipe;
 use pv_outside::{Disk, Door};
-use pv_service::{CarrierReport, CarrierStand, PortReport};
+use pv_service::{CarrierReport, PortReport};
 use pv_udc::UdcRules;
 use std::alloc::{AllocError, Global};
 
@@ -26,7 +28,8 @@ pub struct Collected<U: Run<Record>, D: Disk + Drop, O: Door + Drop> {
 impl<U: Run<Record>, D: Disk + Drop, O: Door + Drop> Collected<U, D, O> {
     /// Nothing is collected.
     pub fn new(alloc: Global) -> Collected<U, D, O>
-        ensures { (result.doors.items ≡ []) × (result.reports.items ≡ []) × (result.passes.items ≡ []) }
+        ensures { (result.doors.items ≡ []) × (result.reports.items ≡ []) × (result.passes.items ≡ [])
+            × (result.carriers.items ≡ []) }
     {
         Collected {
             doors: Vec::new(alloc),
@@ -36,28 +39,27 @@ impl<U: Run<Record>, D: Disk + Drop, O: Door + Drop> Collected<U, D, O> {
         }
     }
 
-    /// Adds what carriers have met, and their passes of the Update Centre. Their passes of their centre are appended.
-    pub fn take_carriers<const C: u8, N: Run<CentreRecord>>(
+    /// Adds what a centre's carrier has met, and its pass of the Update Centre. Its pass of the centre is appended.
+    pub fn take_carrier<const C: u8, N: Run<CentreRecord>>(
         &mut self,
-        stands: Vec<CarrierStand<C, U, N, D, Pipe>>,
+        carrier: Option<CentreCarrier<C, U, N, D>>,
         passes: &mut Vec<Pass<IrcRules<C>, N>>,
     ) -> Result<(), AllocError>
-        ensures own { OnOk result (passes.new.items ≡ passes.old.items ++ map
-            (λ s. s.carrier.centre) stands.items) }
+        ensures own { OnOk result (passes.new.items
+            ≡ passes.old.items ++ option_to_list (option_map (λ c. c.centre) carrier)) }
+        ensures udc { OnOk result (self.new.passes.items
+            ≡ self.old.passes.items ++ option_to_list (option_map (λ c. c.udc) carrier)) }
+        ensures quiet { OnOk result (AreQuiet self.new.carriers.items → AreQuiet self.old.carriers.items
+            × IfSome carrier (HasStoredNoMore U.opening N.opening C)) }
         ensures others { (self.new.doors ≡ self.old.doors) × (self.new.reports ≡ self.old.reports) }
     {
-        for stand in stands {
-            let CarrierStand {
-                carrier,
-                down: _,
-                up: _,
-                report,
-            } = stand;
-            let (udc, own) = carrier.into_passes();
-            put(&mut self.carriers, Box::into_inner(report))?;
-            put(&mut self.passes, udc)?;
-            put(passes, own)?;
-        }
+        let Some(carrier) = carrier else {
+            return Ok(());
+        };
+        let (report, udc, own) = carrier.into_parts();
+        put(&mut self.carriers, report)?;
+        put(&mut self.passes, udc)?;
+        put(passes, own)?;
         Ok(())
     }
 }

@@ -56,7 +56,7 @@ pub fn editors_row<N: Run<Record>, D: Disk, O: Door + Drop>(
 }
 
 /// Takes a row apart: the passes, the doors and the reports, in order.
-pub(crate) fn take_editors<N: Run<Record>, D: Disk, O: Door + Drop>(
+pub fn take_editors<N: Run<Record>, D: Disk, O: Door + Drop>(
     stands: Vec<EditorStand<N, D, O>>,
     passes: &mut Vec<Pass<UdcRules, N>>,
     doors: &mut Vec<O>,

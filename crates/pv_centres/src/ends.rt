@@ -1,4 +1,5 @@
 ghost use Rattle.std.specs.Prelude.{◌≡◌, ◌||◌, ◌⊎◌, true, false, None, Some, All};
+ghost use Rattle.pv_centres.specs.Carried.{AreQuiet};
 ghost use Rattle.pv_centres.specs.Ends.{HaveBeenAdded, SomeDoorEnd, first_failure, is_door_end, disk_end, carrier_end, rest_end, is_room_end};
 
 use pv_closing::RestEnd;
@@ -42,6 +43,7 @@ impl<D: Disk> Ends<D> {
             → All (λ report. report.fault ≡ None) callers.items
             × All (λ report. report.fault ≡ None) editors.items }
         ensures door { result.door ≡ true → SomeDoorEnd callers.items ⊎ SomeDoorEnd editors.items }
+        ensures carriers { result.memory ≡ false → result.disk ≡ None → AreQuiet carriers.items }
         ensures no_room { result.no_room ≡ false }
     {
         let mut ends = Ends::new();
@@ -65,6 +67,7 @@ impl<D: Disk> Ends<D> {
     fn add_carriers(&mut self, reports: Vec<CarrierReport<D>>)
         ensures door { self.new.door ≡ self.old.door }
         ensures disk { self.new.disk ≡ None → self.old.disk ≡ None }
+        ensures quiet { self.new.memory ≡ false → self.new.disk ≡ None → AreQuiet reports.items }
         ensures no_room { self.new.no_room ≡ self.old.no_room }
     {
         for report in reports {

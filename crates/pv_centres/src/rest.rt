@@ -4,11 +4,11 @@ ghost use Rattle.pv_edits.specs.Taken.{IsCentre};
 ghost use Rattle.pv_edits.specs.declared.record.Record.{Record};
 ghost use Rattle.pv_node.specs.Standing.{StandsFor};
 ghost use Rattle.pv_centres.specs.Parts.{IfThere};
-ghost use Rattle.pv_centres.specs.Rest.{AddsRecords, TakesItems, AppliesFrom, AreCarried};
+ghost use Rattle.pv_centres.specs.Rest.{AddsRecords, AddsRun, TakesItems, AppliesFrom, AreCarried};
 
 use crate::ends::Ends;
 use crate::nodes::Nodes;
-use pv_closing::{RestEnd, apply_records, take_items};
+use pv_closing::{RestEnd, apply_records, take_items, what_is_lacked_is_to_be_stored};
 use pv_irc::IrcRules;
 use pv_node::{Node, Rules};
 use pv_outside::Disk;
@@ -27,9 +27,16 @@ fn take_from<const C: u8, D: Disk + Drop>(
     ensures door { ends.new.door ≡ ends.old.door }
     ensures disk { ends.new.disk ≡ None → ends.old.disk ≡ None }
 
-    // What was noted stays so.
+    // Nothing is in hand then, and what was noted stays so.
+    ensures rests { ends.new.disk ≡ None → IfSome centre.now (λ n. update.new.hand ≡ None) }
+    ensures kept { ends.new.disk ≡ None → update.old.hand ≡ None → update.new.hand ≡ None }
     ensures noted { ends.old.no_room ≡ true → ends.new.no_room ≡ true }
+    ensures memory { ends.new.memory ≡ ends.old.memory }
+
+    // What was brought goes on as a run.
+    ensures runs { ends.new.disk ≡ None → AddsRun ⟦<UdcRules as Rules>⟧ D.Reports update.old update.new }
 {
+    what_is_lacked_is_to_be_stored();
     if let Some(centre) = centre {
         ends.add_rest(take_items(update, centre));
     }
@@ -46,8 +53,15 @@ fn apply_to<const C: u8, D: Disk + Drop>(
         ends.new.no_room update.now.state.records) centre.old centre.new }
     ensures door { ends.new.door ≡ ends.old.door }
     ensures disk { ends.new.disk ≡ None → ends.old.disk ≡ None }
+
+    // Nothing is in hand then, and what was noted stays so.
+    ensures rests { ends.new.disk ≡ None → IfSome centre.new (λ n. n.hand ≡ None) }
     ensures noted { ends.old.no_room ≡ true → ends.new.no_room ≡ true }
+    ensures memory { ends.new.memory ≡ ends.old.memory }
+    ensures runs { ends.new.disk ≡ None
+        → IfThere (AddsRun ⟦<IrcRules<C> as Rules>⟧ D.Reports) centre.old centre.new }
 {
+    what_is_lacked_is_to_be_stored();
     if let Some(centre) = centre {
         ends.add_rest(apply_records(update, centre));
     }
@@ -79,6 +93,11 @@ fn bring_up<D: Disk + Drop>(
     ensures door { ends.new.door ≡ ends.old.door }
     ensures disk { ends.new.disk ≡ None → ends.old.disk ≡ None }
     ensures noted { ends.old.no_room ≡ true → ends.new.no_room ≡ true }
+    ensures memory { ends.new.memory ≡ ends.old.memory }
+    ensures rests { ends.new.disk ≡ None → IfSome first.now (λ n. update.new.hand ≡ None) }
+
+    // What was brought goes on as a run.
+    ensures runs { ends.new.disk ≡ None → AddsRun ⟦<UdcRules as Rules>⟧ D.Reports update.old update.new }
 {
     take_from(update, first, ends);
     take_from(update, second, ends);
@@ -112,8 +131,22 @@ fn bring_down<D: Disk + Drop>(
     ensures door { ends.new.door ≡ ends.old.door }
     ensures disk { ends.new.disk ≡ None → ends.old.disk ≡ None }
 
-    // What was noted stays so.
+    // Nothing is in hand then, and what was noted stays so.
+    ensures rests { ends.new.disk ≡ None → IfSome first.new (λ n. n.hand ≡ None)
+        × IfSome second.new (λ n. n.hand ≡ None)
+        × IfSome third.new (λ n. n.hand ≡ None) × IfSome fourth.new (λ n. n.hand ≡ None) }
     ensures noted { ends.old.no_room ≡ true → ends.new.no_room ≡ true }
+    ensures memory { ends.new.memory ≡ ends.old.memory }
+
+    // What was brought goes on as a run.
+    ensures first_runs { ends.new.disk ≡ None → IfThere (AddsRun ⟦<IrcRules<0> as Rules>⟧ D.Reports) first.old
+        first.new }
+    ensures second_runs { ends.new.disk ≡ None → IfThere (AddsRun ⟦<IrcRules<1> as Rules>⟧ D.Reports)
+        second.old second.new }
+    ensures third_runs { ends.new.disk ≡ None → IfThere (AddsRun ⟦<IrcRules<2> as Rules>⟧ D.Reports) third.old
+        third.new }
+    ensures fourth_runs { ends.new.disk ≡ None → IfThere (AddsRun ⟦<IrcRules<3> as Rules>⟧ D.Reports)
+        fourth.old fourth.new }
 {
     apply_to(update, first, ends);
     apply_to(update, second, ends);
@@ -147,9 +180,21 @@ pub fn bring_rest<D: Disk + Drop>(nodes: &mut Nodes<D>, ends: &mut Ends<D>)
         ends.new.no_room 3 nodes.old.update nodes.new.update) nodes.old.fourth nodes.new.fourth }
     ensures door { ends.new.door ≡ ends.old.door }
 
-    // The failure of a disk stays.
+    // Nothing is in hand then, if there is a centre. What was met stays.
+    ensures rests { ends.new.disk ≡ None → IfSome nodes.new.first (λ n. nodes.new.update.hand ≡ None)
+        × IfSome nodes.new.first (λ n. n.hand ≡ None) × IfSome nodes.new.second (λ n. n.hand ≡ None)
+        × IfSome nodes.new.third (λ n. n.hand ≡ None) × IfSome nodes.new.fourth (λ n. n.hand ≡ None) }
     ensures disk { ends.new.disk ≡ None → ends.old.disk ≡ None }
     ensures noted { ends.old.no_room ≡ true → ends.new.no_room ≡ true }
+    ensures memory { ends.new.memory ≡ ends.old.memory }
+
+    // What was brought goes on as a run.
+    ensures runs { ends.new.disk ≡ None → AddsRun ⟦<UdcRules as Rules>⟧ D.Reports nodes.old.update
+        nodes.new.update
+        × IfThere (AddsRun ⟦<IrcRules<0> as Rules>⟧ D.Reports) nodes.old.first nodes.new.first
+        × IfThere (AddsRun ⟦<IrcRules<1> as Rules>⟧ D.Reports) nodes.old.second nodes.new.second
+        × IfThere (AddsRun ⟦<IrcRules<2> as Rules>⟧ D.Reports) nodes.old.third nodes.new.third
+        × IfThere (AddsRun ⟦<IrcRules<3> as Rules>⟧ D.Reports) nodes.old.fourth nodes.new.fourth }
 {
     let Nodes {
         update,

@@ -1,11 +1,12 @@
-//! The stands of a network, row by row.
+//! The stands of a network, row by row, and its carriers.
 
+use crate::centre_carrier::CentreCarrier;
 use pv_edits::Record;
 use pv_irc::CentreRecord;
 use pv_live::Run;
-use pv_memory::Pipe;
 use pv_outside::{Disk, Door};
-use pv_service::{CallerStand, CarrierStand, EditorStand};
+use pv_service::{CallerStand, EditorStand};
+use std::alloc::Global;
 
 /// The stands of all ports. A centre that the network does not have has none.
 #[derive(Drop)]
@@ -31,7 +32,29 @@ pub struct AllPorts<
     pub editors: Vec<EditorStand<U, D, E>>,
 }
 
-/// The stands of all carriers, a row for each centre: of one stand, or of none if the network does not have it.
+impl<
+    U: Run<Record>,
+    N0: Run<CentreRecord>,
+    N1: Run<CentreRecord>,
+    N2: Run<CentreRecord>,
+    N3: Run<CentreRecord>,
+    D: Disk + Drop,
+    O: Door + Drop,
+    E: Door + Drop,
+> AllPorts<U, N0, N1, N2, N3, D, O, E> {
+    /// No stands.
+    pub fn none(alloc: Global) -> AllPorts<U, N0, N1, N2, N3, D, O, E> {
+        AllPorts {
+            first: Vec::new(alloc),
+            second: Vec::new(alloc),
+            third: Vec::new(alloc),
+            fourth: Vec::new(alloc),
+            editors: Vec::new(alloc),
+        }
+    }
+}
+
+/// The carriers of all centres. Of a centre that the network does not have there is none.
 #[derive(Drop)]
 pub struct AllCarriers<
     U: Run<Record>,
@@ -42,11 +65,11 @@ pub struct AllCarriers<
     D: Disk + Drop,
 > {
     /// Centre 0.
-    pub first: Vec<CarrierStand<0, U, N0, D, Pipe>>,
+    pub first: Option<CentreCarrier<0, U, N0, D>>,
     /// Centre 1.
-    pub second: Vec<CarrierStand<1, U, N1, D, Pipe>>,
+    pub second: Option<CentreCarrier<1, U, N1, D>>,
     /// Centre 2.
-    pub third: Vec<CarrierStand<2, U, N2, D, Pipe>>,
+    pub third: Option<CentreCarrier<2, U, N2, D>>,
     /// Centre 3.
-    pub fourth: Vec<CarrierStand<3, U, N3, D, Pipe>>,
+    pub fourth: Option<CentreCarrier<3, U, N3, D>>,
 }

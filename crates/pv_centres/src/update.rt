@@ -1,4 +1,4 @@
-ghost use Rattle.std.specs.Prelude.{◌≡◌, ℕ, ◌+◌, ◌++◌, map, vec_len, IfOk, OnOk};
+ghost use Rattle.std.specs.Prelude.{◌≡◌, ℕ, ◌+◌, ◌++◌, map, IfOk};
 ghost use Rattle.pv_live.specs.Closing.{IsClosed};
 
 use crate::editors_row::take_editors;
@@ -24,7 +24,7 @@ pub struct ClosedUpdate<D: Disk + Drop, E: Door + Drop> {
 /// `count` is how many passes it has, which is looked at again. `AllocError` comes if it is another, too.
 pub fn close_update<U: Run<Record>, D: Disk + Drop, E: Door + Drop, H: Wait + Drop>(
     alloc: Global,
-    live: Live<UdcRules, D, U, H>,
+    live: Box<Live<UdcRules, D, U, H>>,
     stands: Vec<EditorStand<U, D, E>>,
     carriers: Vec<Pass<UdcRules, U>>,
     count: usize,
@@ -45,7 +45,7 @@ pub fn close_update<U: Run<Record>, D: Disk + Drop, E: Door + Drop, H: Wait + Dr
     if passes.len() != count {
         return Err(AllocError);
     }
-    let node = live.close(passes).node;
+    let node = Box::into_inner(live).close(passes).node;
     Ok(ClosedUpdate {
         node,
         doors,

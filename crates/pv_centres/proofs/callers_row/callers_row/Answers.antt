@@ -3,7 +3,7 @@ use Rattle.std.proofs.lemmas.List.{map-append}
 use Rattle.std.proofs.lemmas.List.Elements.{All-head, All-tail, All-same}
 use Rattle.std.proofs.lemmas.Grind.{common_steps}
 use Rattle.pv_service.specs.declared.caller_stand.TheConstants.{MAX_ACCEPTED}
-use Rattle.pv_centres.proofs.Filling.{all_more, all_taken}
+use Rattle.pv_centres.proofs.Filling.{all_more, taken_count}
 use Rattle.pv_centres.proofs.callers_row.callers_row.Goals as goal
 
 -- one more door was taken, which was the first of the rest
@@ -29,4 +29,4 @@ loop-pass-preserved g c =
 pub returns-clause-doors : goal.returns-clause-doors
 returns-clause-doors g c =
     let count : vec_len c.loop-pass.stands ≡ vec_len c.args.doors = grind (arith, common_steps) in
-    all_taken _ _ _ _ c.loop-pass.invariant.doors (omega (arith, count, c.loop-pass.stands.ok.0, c.args.doors.ok.0))
+    taken_count _ _ _ _ c.loop-pass.invariant.doors (omega (arith, count, c.loop-pass.stands.ok.0, c.args.doors.ok.0))

@@ -1,5 +1,6 @@
 use Rattle.std.proofs.Common.{◌≡◌, ◌+◌, length, lit<, sym, ◌∙◌, vec_len, arith}
-use Rattle.pv_centres.proofs.Passes.{new_stands, one_fewer}
+use Rattle.pv_live.specs.Pass.{new_passes}
+use Rattle.pv_centres.proofs.Passes.{each_is_new, new_stands, one_fewer, taken_new}
 use Rattle.pv_centres.proofs.centre.open_centre.Goals as goal
 
 -- one pass for each port is left
@@ -22,3 +23,10 @@ returns-clause-fresh g c =
       lines = made.ensures.calls;
       room = made.ensures.fresh;
     }
+
+-- the passes of the carrier are new
+pub new-requires-after_bounds : goal.new-requires-after_bounds
+new-requires-after_bounds g c κs within =
+    let own = taken_new (new_passes (c.len-count.result + 1)) c.pop.new.self.items c.pop.result c.unwrap-own.result
+    (sym c.in_ok-live.ensures.passes ∙ c.pop.ensures.items) c.unwrap-own.ensures (each_is_new (c.len-count.result + 1)) in
+    (lit< tt, (lit< tt, (c.requires.centre, (c.requires.new_udc, own.1))))

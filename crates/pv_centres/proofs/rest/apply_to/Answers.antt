@@ -5,8 +5,9 @@ use Rattle.pv_irc.specs.contracts.rules.IrcRulesRules.TheImpl as irc
 use Rattle.pv_closing.specs.Lacking.{lacked_records}
 use Rattle.pv_centres.specs.Ends.{rest_end}
 use Rattle.pv_centres.proofs.Adding.{none_there}
-use Rattle.pv_centres.proofs.Bringing.{adds_brought}
+use Rattle.pv_centres.proofs.Bringing.{adds_brought, rests}
 use Rattle.pv_centres.proofs.Carrying.{applies}
+use Rattle.pv_centres.proofs.Continuing.{centre_adds_run}
 use Rattle.pv_centres.proofs.rest.apply_to.Goals as goal
 
 -- the records of the edit list were brought
@@ -24,3 +25,18 @@ returns-in-Some-clause-applied g c none =
     (λ state records stands. ap (λ (s : CentreState). s.applied) stands) (λ state rec place. refl) (λ state rec room. room)
     c.in-Some.centre applied.new.centre c.args.update.now.state.records c.args.ends.now.no_room applied.result applied.ensures.ends
     applied.ensures.all (none_there c.args.ends.now.disk (rest_end applied.result) (sym ends.disk ∙ none)).1)
+
+-- nothing is in hand
+pub returns-in-Some-clause-rests : goal.returns-in-Some-clause-rests
+returns-in-Some-clause-rests g c none =
+    let applied = c.apply_records in
+    rests (irc.ghosts (number g.row.C)) g.D.Reports c.in-Some.centre applied.new.centre (lacked_records c.args.update.now.state.records)
+    applied.result applied.ensures.ends (none_there c.args.ends.now.disk (rest_end applied.result) (sym c.add_rest.ensures.disk ∙ none)).1
+
+-- the records that were applied go on as a run
+pub returns-in-Some-clause-runs : goal.returns-in-Some-clause-runs
+returns-in-Some-clause-runs g c none =
+    let applied = c.apply_records in
+    rw c.in-Some.is (centre_adds_run g.row.C c.what_is_lacked_is_to_be_stored.ensures.records c.args.update.now.state.records g.D.Reports
+    c.in-Some.centre applied.new.centre applied.result applied.ensures.ends (none_there c.args.ends.now.disk (rest_end applied.result)
+    (sym c.add_rest.ensures.disk ∙ none)).1 applied.ensures.limits)

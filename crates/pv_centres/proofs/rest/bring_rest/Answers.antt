@@ -1,6 +1,10 @@
+use Rattle.std.proofs.Common.{◌≡◌, None}
+use Rattle.std.specs.Prelude.{IfSome}
 use denote.Param.{number}
 use Rattle.pv_udc.specs.contracts.rules.UdcRulesRules.TheImpl as udc
 use Rattle.pv_irc.specs.contracts.rules.IrcRulesRules.TheImpl as irc
+use Rattle.pv_centres.specs.Rest.{AddsRecords}
+use Rattle.pv_centres.proofs.Bringing.{if_some_there}
 use Rattle.pv_centres.proofs.Carrying.{carried}
 use Rattle.pv_centres.proofs.rest.bring_rest.Goals as goal
 
@@ -32,3 +36,19 @@ returns-clause-fourth_carried g c none =
     c.bring_down.new.fourth c.bring_up.new.ends.no_room c.bring_down.new.ends.no_room c.bring_down.ensures.noted
     (λ edits stands. c.bring_up.ensures.fourth (c.bring_down.ensures.disk none))
     (c.bring_down.ensures.fourth_applies none)
+
+-- nothing is in hand
+pub returns-clause-rests : goal.returns-clause-rests
+returns-clause-rests g c none =
+    let down = c.bring_down.ensures in
+    let each = down.rests none in
+    let update : IfSome c.bring_down.new.first (λ n. c.bring_up.new.update.hand ≡ None) =
+    if_some_there (AddsRecords (irc.ghosts (number 0)) g.D.Reports) (c.bring_up.new.update.hand ≡ None) c.args.nodes.now.first
+    c.bring_down.new.first down.first (c.bring_up.ensures.rests (down.disk none)) in
+    (update, each.0, each.1, each.2, each.3)
+
+-- what was brought goes on as a run
+pub returns-clause-runs : goal.returns-clause-runs
+returns-clause-runs g c none =
+    let down = c.bring_down.ensures in
+    (c.bring_up.ensures.runs (down.disk none), down.first_runs none, down.second_runs none, down.third_runs none, down.fourth_runs none)

@@ -1,7 +1,8 @@
 use Rattle.std.proofs.Common.{refl}
 use Rattle.pv_udc.specs.contracts.rules.UdcRulesRules.TheImpl as udc
-use Rattle.pv_centres.proofs.Bringing.{adds_trans}
+use Rattle.pv_centres.proofs.Bringing.{adds_trans, if_some_later}
 use Rattle.pv_centres.proofs.Carrying.{taken_later}
+use Rattle.pv_centres.proofs.Continuing.{run_trans}
 use Rattle.pv_centres.proofs.rest.bring_up.Goals as goal
 
 -- records were added, centre by centre
@@ -58,3 +59,29 @@ returns-clause-third g c none =
     (trans c.args.update.now first.new.update third.new.update first.ensures.records
     (trans first.new.update second.new.update third.new.update second.ensures.records third.ensures.records))
     fourth.ensures.records fourth.ensures.noted (third.ensures.taken (fourth.ensures.disk none))
+
+-- nothing is in hand since the first items were taken up
+pub returns-clause-rests : goal.returns-clause-rests
+returns-clause-rests g c none =
+    let second = c.take_from-2.ensures in
+    let third = c.take_from-3.ensures in
+    let fourth = c.take_from-4.ensures in
+    if_some_later _ _ _
+    (λ hand. fourth.kept none (third.kept (fourth.disk none) (second.kept (third.disk (fourth.disk none)) hand)))
+    (c.take_from.ensures.rests (second.disk (third.disk (fourth.disk none))))
+
+-- the items of each centre go on after those of the earlier ones
+pub returns-clause-runs : goal.returns-clause-runs
+returns-clause-runs g c none =
+    let first = c.take_from in
+    let second = c.take_from-2 in
+    let third = c.take_from-3 in
+    let fourth = c.take_from-4 in
+    let trans = run_trans udc.ghosts g.D.Reports in
+    let none3 = fourth.ensures.disk none in
+    let none2 = third.ensures.disk none3 in
+    trans c.args.update.now first.new.update fourth.new.update first.ensures.records.limits
+    (first.ensures.runs (second.ensures.disk none2))
+    (trans first.new.update second.new.update fourth.new.update second.ensures.records.limits (second.ensures.runs none2)
+    (trans second.new.update third.new.update fourth.new.update third.ensures.records.limits (third.ensures.runs none3)
+    (fourth.ensures.runs none)))

@@ -1,5 +1,5 @@
 -- How many ports the centres of a network have, and which doors.
-use Rattle.std.proofs.Common.{◌≡◌, ℕ, ◌+◌, ◌*◌, List, [], ◌∷◌, ◌++◌, length, Option, None, Some, refl, sym, ap, ◌∙◌, append-nil, arith}
+use Rattle.std.proofs.Common.{◌≡◌, ℕ, ◌+◌, ◌*◌, List, [], ◌∷◌, ◌++◌, length, Option, None, Some, append-nil, arith}
 use native.Mathlib.Nat.{add-mul}
 use Rattle.pv_centres.specs.Opening.{weigh, count_of}
 
@@ -30,8 +30,8 @@ none_left xs [] none = append-nil xs
 none_left xs (x ∷ rest) none = absurd (omega (arith, none))
 
 -- the doors of four rows, taken two rows at a time until none is left
-pub all_taken : {X : Type 0} (all a b c d middle rest : List X) → all ≡ a ++ (b ++ middle) → middle ≡ c ++ (d ++ rest) → length rest ≡ 0
+pub taken_count : {X : Type 0} (all a b c d middle rest : List X) → all ≡ a ++ (b ++ middle) → middle ≡ c ++ (d ++ rest) → length rest ≡ 0
     → a ++ (b ++ (c ++ d)) ≡ all
-all_taken all a b c d middle rest first second none =
+taken_count all a b c d middle rest first second none =
     let last = none_left d rest none in
     cc
