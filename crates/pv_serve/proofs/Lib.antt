@@ -1,3 +1,8 @@
+pub mod Asked
+mod Counting
 mod Disks
+mod Ended
+mod Ending
 mod Facts
 mod Given
+mod Server

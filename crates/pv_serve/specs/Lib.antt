@@ -1,6 +1,9 @@
+pub mod Ended
 pub mod Formatting
 pub mod Options
+pub mod Serving
 pub mod Status
+pub mod Unopened
 pub use Rattle.pv_journal.specs.Journal
 pub use Rattle.pv_journal.specs.Text
 pub use Rattle.pv_outside.specs.Counts

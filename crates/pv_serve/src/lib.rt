@@ -1,5 +1,9 @@
-//! The server: words of the command line, and the work on the disks before a run and after it.
+//! The server, over any disks and doors and over files and sockets; its words and statuses, and the formatting of disks.
 //!
+//! - [`serve`] serves callers and editors until each port has served as many lines as the words ask for. Whatever comes
+//!   of it, [`Served`] has the status, the disks and the doors.
+//! - [`run_serve`] is the word `serve`: it locks the files of a folder, binds ports of the machine, and calls [`serve`].
+//!   [`ErrorOutput`] says what standard error has then beside faults.
 //! - [`format_all`] makes each disk of a network a journal without records.
 //! - [`is_blank`] says whether a disk can be formatted and nothing is lost.
 //! - [`run_format`] formats a folder of real files, and sets aside what they held.
@@ -10,8 +14,13 @@
 mod blank;
 mod folder;
 mod formatting;
+mod logged_door;
+mod node_file;
 mod options;
 mod real;
+mod real_server;
+mod saying;
+mod serving;
 mod status;
 
 pub use blank::is_blank;
@@ -21,6 +30,9 @@ pub use options::{
     LAST_PORT, MAX_CALLS, MAX_EDITORS, MAX_PORTS, OptionFault, ServeOptions, serve_options,
 };
 pub use real::run_format;
+pub use real_server::run_serve;
+pub use saying::ErrorOutput;
+pub use serving::{Served, serve};
 pub use status::ServeStatus;
 
 #[cfg(test)]

@@ -2,8 +2,9 @@
 
 use crate::blank::is_blank;
 use crate::formatting::{FormatOptions, format_all, format_options};
+use crate::saying::{failed, out_of_memory, path_in, refused};
 use crate::status::ServeStatus;
-use pv_files::{FileDisk, FileFault, NODE_FILES, OpenFault, make_folder, set_aside};
+use pv_files::{FileDisk, NODE_FILES, OpenFault, make_folder, set_aside};
 use std::alloc::{AllocGlobal, Global};
 use std::fs::{File, Files};
 use std::io::{Eprint, ErrorKind, Print};
@@ -151,32 +152,4 @@ fn find_files<R: AllocGlobal + Files<File = File> + Eprint>(
         }
     }
     Ok(found)
-}
-
-/// The path of a file in the folder.
-fn path_in<R: AllocGlobal + Eprint>(rt: &R, folder: &str, name: &str) -> Result<String, u8> {
-    format!(in rt.alloc(); "{folder}/{name}").map_err(|_| out_of_memory(rt))
-}
-
-/// Says why a file could not be had, and returns the number to end with.
-fn refused<R: Eprint>(rt: &R, path: &str, fault: OpenFault) -> u8 {
-    match fault {
-        OpenFault::Memory => out_of_memory(rt),
-        fault => {
-            let _ = eprintln!(rt; "prestel: {path}: {fault}");
-            8
-        }
-    }
-}
-
-/// Says what a file could not do, and returns the number to end with.
-fn failed<R: Eprint>(rt: &R, path: &str, failure: FileFault) -> u8 {
-    let _ = eprintln!(rt; "prestel: {path}: {failure}");
-    8
-}
-
-/// Says that memory ran out, and returns the number to end with.
-fn out_of_memory<R: Eprint>(rt: &R) -> u8 {
-    let _ = eprintln!(rt; "prestel: out of memory");
-    6
 }

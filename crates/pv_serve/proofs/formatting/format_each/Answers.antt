@@ -28,7 +28,8 @@ returns-in_err-format-clause-counted g c =
 -- one disk more is formatted
 pub loop-disk-preserved : goal.loop-disk-preserved
 loop-disk-preserved g c =
-    let there : c.loop-disk.disk-index < length c.loop-disk.disks = omega (arith, c.loop-disk-test.true, c.loop-disk.auto.disk-index-end) in
+    let there : c.loop-disk.disk-index < length c.loop-disk.disks = omega
+    (arith, c.loop-disk-test.true, c.loop-disk.auto.disk-index-end) in
     record {
       done = all_with (IsEmptyJournal g.D.Reports) c.loop-disk.disks c.loop-disk.disk-index c.format.new.disk there
           c.loop-disk.invariant.done c.in_ok-format.ensures.empty;

@@ -1,0 +1,211 @@
+-- A server that has ended, from what is known of its nodes and doors at each step.
+use denote.Param.{number}
+use Rattle.std.proofs.Common.{◌≡◌, ℕ, ◌≤◌, List, [], Option, None, Some, ◌⊎◌, inl, inr, sym, subst, ◌∙◌, arith}
+use Rattle.std.specs.Prelude.{IfSome}
+use Rattle.pv_edits.specs.declared.record.Record.{Record}
+use Rattle.pv_irc.specs.History.{CentreState, applied_of}
+use Rattle.pv_irc.specs.contracts.rules.IrcRulesRules.TheImpl as irc
+use Rattle.pv_irc.specs.declared.record.CentreRecord.{CentreRecord}
+use Rattle.pv_live.specs.Closing.{IsClosed}
+use Rattle.pv_live.specs.Entries.{with_opening}
+use Rattle.pv_live.specs.Pass.{Standing}
+use Rattle.pv_live.specs.Run.{IsMade, IsRun}
+use Rattle.pv_live.specs.declared.entry.Entry.{Entry}
+use Rattle.pv_node.specs.Parts.{Parts}
+use Rattle.pv_node.specs.Standing.{Stands, StandsFor}
+use Rattle.pv_node.specs.Trail.{trail_records}
+use Rattle.pv_node.specs.declared.rules.Rules as rules
+use Rattle.pv_outside.specs.declared.limits.Limits.{Limits}
+use Rattle.pv_outside.specs.declared.reports.Reports as reports
+use Rattle.pv_ports.specs.Ends.{LineState}
+use Rattle.pv_service.specs.Calls.{HasServedCalls}
+use Rattle.pv_service.specs.Doors.{DoorReport}
+use Rattle.pv_service.specs.Sessions.{HasServedSessions}
+use Rattle.pv_service.specs.declared.port_report.PortReport.{PortReport}
+use Rattle.pv_udc.specs.EditList.{EditList}
+use Rattle.pv_udc.specs.contracts.rules.UdcRulesRules.TheImpl as udc
+use Rattle.pv_centres.specs.Carried.{taken_count}
+use Rattle.pv_centres.specs.Ends.{SomeDoorEnd}
+use Rattle.pv_centres.specs.Opening.{AreInOrder, DiskPlaces, IsOpenedOver, IsReady, all_disks, centre_count, count_of, port_counts, weigh}
+use Rattle.pv_centres.specs.Parts.{IfThere}
+use Rattle.pv_centres.specs.Served.{CentreServed, ServesEachDoor, ServedRows, SomeDoorRose, UpdateServed}
+use Rattle.pv_centres.specs.declared.nodes.Nodes.{Nodes}
+use Rattle.pv_centres.specs.declared.nodes.OpenedNodes.{OpenedNodes}
+use Rattle.pv_centres.proofs.Served.{served_quieter, some_rose}
+use Rattle.pv_serve.specs.Ended.{AreHandedBack, IsBrought, IsUpdateBrought, ServerEnded, WouldBeBrought, place_ports}
+use Rattle.pv_serve.specs.Serving.{HasNoDiskFault, HasServedAll}
+use Rattle.pv_serve.specs.declared.status.ServeStatus.{ServeStatus}
+use Rattle.pv_serve.proofs.Ended.{first_is, is_brought, node_has_ended, same_weight}
+
+-- one of the ports ended since its door failed: the count of that door rose
+pub door_rose : {L M D F : Type 0} (calls : ℕ) (olds news : List (DoorReport L)) (met : List (PortReport D F)) (olds' news' : List
+    (DoorReport M))
+    (met' : List (PortReport D F)) → ServesEachDoor calls olds news met → ServesEachDoor calls olds' news' met'
+    → SomeDoorEnd met ⊎ SomeDoorEnd met' → SomeDoorRose olds news ⊎ SomeDoorRose olds' news'
+door_rose calls olds news met olds' news' met' each each' (inl some) =
+    inl (some_rose calls olds news some.before some.report some.after (subst (ServesEachDoor calls olds news) some.reports_are each)
+    some.is_door_end)
+door_rose calls olds news met olds' news' met' each each' (inr some) =
+    inr (some_rose calls olds' news' some.before some.report some.after (subst (ServesEachDoor calls olds' news') some.reports_are each')
+    some.is_door_end)
+
+-- images of a disk stand for one list
+abbrev pub UpdateLaw : Type 0
+UpdateLaw = (image : List ℕ) (one other : List Record) → Stands udc.ghosts image one → Stands udc.ghosts image other → one ≡ other
+
+abbrev pub CentreLaw : ℕ → Type 0
+CentreLaw centre = (image : List ℕ) (one other : List CentreRecord) → Stands (irc.ghosts (number centre)) image one
+    → Stands (irc.ghosts (number centre)) image other → one ≡ other
+
+-- what is known of a node that was closed
+closing : {S State Request Rec Reply D : Type 0} {r : rules.Ghosts S State Request Rec Reply} {d : reports.Ghosts D} {limits : Limits}
+    {opening : List Rec} {passes : List (Standing Rec)} {node : Parts D State Rec} {asked : ℕ}
+    → IsClosed r d limits opening passes node asked
+    → (log : List (Entry Rec)) × IsRun r limits opening log × StandsFor r d node (with_opening opening log)
+    × IfSome node.hand (IsMade r limits (with_opening opening log)) × (r.limits_of node.state ≡ limits)
+closing closed = (closed.log, closed.run, closed.stands, closed.hand, closed.limited)
+
+module _ {D F L M : Type 0} (g : reports.Ghosts D) (left : (disk : D) → IfSome (g.reads disk) (g.may_leave disk))
+    (limits : Limits) (shown : Option ℕ) (caller_of : L → LineState) (editor_of : M → LineState) (ports calls : ℕ)
+    (disks disks' : List D) (callers callers' : List (DoorReport L)) (editors editors' : List (DoorReport M))
+    (callers_met editors_met : List (PortReport D F)) (status : ServeStatus D F) (nodes : OpenedNodes D F) (closed : Nodes D F)
+    (rows : ServedRows (port_counts ports nodes) callers callers' callers_met) (Quiet : Type 0) (quiet : HasServedAll status → Quiet) where
+  -- how the Update Centre was served, and how a centre
+  abbrev pub UpdateIs : Type 0 → List Record → Parts D EditList Record → Type 0
+  UpdateIs Known opening node = UpdateServed udc.ghosts g limits opening editor_of calls Known editors editors' editors_met node
+
+  abbrev pub CentreIs : Type 0 → ℕ → List (DoorReport L) → List (DoorReport L) → List (PortReport D F) → List CentreRecord
+      → Parts D CentreState CentreRecord → Type 0
+  CentreIs Known centre olds news met opening node =
+      CentreServed (irc.ghosts (number centre)) g limits opening shown caller_of calls Known olds news met node
+
+  -- what is known if no carrier has met anything is known if all were served
+  update_as : (opening : List Record) (node : Parts D EditList Record) → UpdateIs Quiet opening node
+      → UpdateIs (HasServedAll status) opening node
+  update_as opening node served =
+      served_quieter udc.ghosts g limits opening taken_count Quiet (HasServedAll status) quiet
+      (HasServedSessions udc.ghosts limits opening editor_of calls) editors editors' editors_met node served
+
+  centre_as : (centre : ℕ) (olds news : List (DoorReport L)) (met : List (PortReport D F)) (opening : List CentreRecord)
+      (node : Parts D CentreState CentreRecord) → CentreIs Quiet centre olds news met opening node
+      → CentreIs (HasServedAll status) centre olds news met opening node
+  centre_as centre olds news met opening node served =
+      served_quieter (irc.ghosts (number centre)) g limits opening applied_of Quiet (HasServedAll status) quiet
+      (HasServedCalls (irc.ghosts (number centre)) limits opening shown caller_of calls) olds news met node served
+
+  pub server_ended : (limits' : Limits) → limits ≡ limits' → UpdateLaw → CentreLaw 0 → CentreLaw 1 → CentreLaw 2 → CentreLaw 3
+      → (at : DiskPlaces D) → disks ≡ all_disks at → AreInOrder nodes → 1 ≤ centre_count nodes
+      → IfThere (λ disk o. IsOpenedOver udc.ghosts g disk o.node) at.update (Some nodes.update)
+      → IfThere (λ disk o. IsOpenedOver (irc.ghosts (number 0)) g disk o.node) at.first nodes.first
+      → IfThere (λ disk o. IsOpenedOver (irc.ghosts (number 1)) g disk o.node) at.second nodes.second
+      → IfThere (λ disk o. IsOpenedOver (irc.ghosts (number 2)) g disk o.node) at.third nodes.third
+      → IfThere (λ disk o. IsOpenedOver (irc.ghosts (number 3)) g disk o.node) at.fourth nodes.fourth
+      → IsReady udc.ghosts g (trail_records nodes.update.trail.items) limits nodes.update.node
+      → IfSome nodes.first (λ o. IsReady (irc.ghosts (number 0)) g (trail_records o.trail.items) limits o.node)
+      → IfSome nodes.second (λ o. IsReady (irc.ghosts (number 1)) g (trail_records o.trail.items) limits o.node)
+      → IfSome nodes.third (λ o. IsReady (irc.ghosts (number 2)) g (trail_records o.trail.items) limits o.node)
+      → IfSome nodes.fourth (λ o. IsReady (irc.ghosts (number 3)) g (trail_records o.trail.items) limits o.node)
+      → UpdateIs Quiet (trail_records nodes.update.trail.items) closed.update
+      → IfThere (λ o n. CentreIs Quiet 0 rows.olds.first rows.news.first rows.met.first (trail_records o.trail.items) n) nodes.first closed.first
+      → IfThere (λ o n. CentreIs Quiet 1 rows.olds.second rows.news.second rows.met.second
+      (trail_records o.trail.items) n) nodes.second closed.second
+      → IfThere (λ o n. CentreIs Quiet 2 rows.olds.third rows.news.third rows.met.third (trail_records o.trail.items) n) nodes.third closed.third
+      → IfThere (λ o n. CentreIs Quiet 3 rows.olds.fourth rows.news.fourth rows.met.fourth
+      (trail_records o.trail.items) n) nodes.fourth closed.fourth
+      → ServesEachDoor calls callers callers' callers_met → ServesEachDoor calls editors editors' editors_met
+      → (back : AreHandedBack g status closed [] disks')
+      → ServerEnded g limits' shown caller_of editor_of ports calls disks disks' callers callers' editors editors' status
+  server_ended limits' same law law0 law1 law2 law3 at places_are order some over over0 over1 over2 over3 ready ready0 ready1 ready2 ready3
+      served served0 served1
+      served2 served3 callers_doors editors_doors back =
+      let ended = back.ended in
+      let stands = served.closed.closed.stands in
+      let weigh0 : (n : ℕ) → weigh (λ there. n) at.first ≡ weigh (λ there. n) nodes.first = λ n.
+      same_weight n at.first nodes.first (λ disk o. IsOpenedOver (irc.ghosts (number 0)) g disk o.node) over0 in
+      let weigh1 : (n : ℕ) → weigh (λ there. n) at.second ≡ weigh (λ there. n) nodes.second = λ n.
+      same_weight n at.second nodes.second (λ disk o. IsOpenedOver (irc.ghosts (number 1)) g disk o.node) over1 in
+      let weigh2 : (n : ℕ) → weigh (λ there. n) at.third ≡ weigh (λ there. n) nodes.third = λ n.
+      same_weight n at.third nodes.third (λ disk o. IsOpenedOver (irc.ghosts (number 2)) g disk o.node) over2 in
+      let weigh3 : (n : ℕ) → weigh (λ there. n) at.fourth ≡ weigh (λ there. n) nodes.fourth = λ n.
+      same_weight n at.fourth nodes.fourth (λ disk o. IsOpenedOver (irc.ghosts (number 3)) g disk o.node) over3 in
+      let served_first : IfThere (λ o n. CentreIs Quiet 0 rows.olds.first rows.news.first rows.met.first
+      (trail_records o.trail.items) n) nodes.first closed.first = served0 in
+      let firsts : count_of ended.first ≡ count_of nodes.first = omega (
+        arith,
+        same_weight 1 nodes.first closed.first _ served_first,
+        same_weight 1 closed.first ended.first (WouldBeBrought g status 0 closed.update ended.update) back.first,
+      ) in
+      let update_rests : HasNoDiskFault status → ended.update.hand ≡ None = λ held.
+      first_is (ended.update.hand ≡ None) ended.first nodes.second nodes.third nodes.fourth (omega (arith, order.second, firsts)) order.third
+      order.fourth (omega (arith, some, firsts)) (back.update_rests held) in
+      let counts : port_counts ports nodes ≡ place_ports ports at = λ i. record {
+        first = sym (weigh0 ports) i;
+        second = sym (weigh1 ports) i;
+        third = sym (weigh2 ports) i;
+        fourth = sym (weigh3 ports) i;
+      } in
+      subst (λ (l : Limits). ServerEnded g l shown caller_of editor_of ports calls disks disks' callers callers' editors editors'
+      status) same
+      record {
+        places = at;
+        places_are = places_are;
+        in_order = record {
+          second = omega (arith, order.second, weigh0 1, weigh1 1);
+          third = omega (arith, order.third, weigh1 1, weigh2 1);
+          fourth = omega (arith, order.fourth, weigh2 1, weigh3 1);
+        };
+        ended = ended;
+        handed_back = back.disks;
+        callers_met = callers_met;
+        editors_met = editors_met;
+        rows = record {
+          olds = rows.olds;
+          news = rows.news;
+          met = rows.met;
+          counted = rows.counted ∙ counts;
+          old_rows = rows.old_rows;
+          new_rows = rows.new_rows;
+          met_rows = rows.met_rows;
+        };
+        update = node_has_ended udc.ghosts g law left limits (UpdateIs Quiet) (UpdateIs (HasServedAll status)) (IsUpdateBrought g status)
+            (IsUpdateBrought g status) update_as (λ opening one serves. closing serves.closed.closed) (λ one end brought. brought.0)
+            (λ opening one end serves brought. brought) (HasNoDiskFault status) (λ one end brought. brought.2) (Some nodes.update) (λ o. o.node) (λ o. trail_records o.trail.items) at.update
+            (Some closed.update) (Some ended.update) over ready served (back.update, update_rests, back.update_runs);
+        first = node_has_ended (irc.ghosts (number 0)) g law0 left limits (CentreIs Quiet 0 rows.olds.first rows.news.first rows.met.first)
+            (CentreIs (HasServedAll status) 0 rows.olds.first rows.news.first rows.met.first)
+            (WouldBeBrought g status 0 closed.update ended.update) (IsBrought g status 0 ended.update)
+            (centre_as 0 rows.olds.first rows.news.first rows.met.first)
+            (λ opening one serves. closing serves.closed.closed) (λ one end would. would.0)
+            (λ opening one end serves would. is_brought g status 0 closed.update ended.update _ stands one end _ serves.closed.closed.stands
+            would)
+            (HasNoDiskFault status) (λ one end would. would.3) nodes.first (λ o. o.node) (λ o. trail_records o.trail.items) at.first closed.first ended.first over0 ready0 served0 back.first;
+        second = node_has_ended (irc.ghosts (number 1)) g law1 left limits (CentreIs Quiet 1 rows.olds.second rows.news.second rows.met.second)
+            (CentreIs (HasServedAll status) 1 rows.olds.second rows.news.second rows.met.second)
+            (WouldBeBrought g status 1 closed.update ended.update) (IsBrought g status 1 ended.update)
+            (centre_as 1 rows.olds.second rows.news.second rows.met.second)
+            (λ opening one serves. closing serves.closed.closed) (λ one end would. would.0)
+            (λ opening one end serves would. is_brought g status 1 closed.update ended.update _ stands one end _ serves.closed.closed.stands
+            would)
+            (HasNoDiskFault status) (λ one end would. would.3) nodes.second (λ o. o.node) (λ o. trail_records o.trail.items) at.second closed.second ended.second over1 ready1 served1
+            back.second;
+        third = node_has_ended (irc.ghosts (number 2)) g law2 left limits (CentreIs Quiet 2 rows.olds.third rows.news.third rows.met.third)
+            (CentreIs (HasServedAll status) 2 rows.olds.third rows.news.third rows.met.third)
+            (WouldBeBrought g status 2 closed.update ended.update) (IsBrought g status 2 ended.update)
+            (centre_as 2 rows.olds.third rows.news.third rows.met.third)
+            (λ opening one serves. closing serves.closed.closed) (λ one end would. would.0)
+            (λ opening one end serves would. is_brought g status 2 closed.update ended.update _ stands one end _ serves.closed.closed.stands
+            would)
+            (HasNoDiskFault status) (λ one end would. would.3) nodes.third (λ o. o.node) (λ o. trail_records o.trail.items) at.third closed.third ended.third over2 ready2 served2 back.third;
+        fourth = node_has_ended (irc.ghosts (number 3)) g law3 left limits (CentreIs Quiet 3 rows.olds.fourth rows.news.fourth rows.met.fourth)
+            (CentreIs (HasServedAll status) 3 rows.olds.fourth rows.news.fourth rows.met.fourth)
+            (WouldBeBrought g status 3 closed.update ended.update) (IsBrought g status 3 ended.update)
+            (centre_as 3 rows.olds.fourth rows.news.fourth rows.met.fourth)
+            (λ opening one serves. closing serves.closed.closed) (λ one end would. would.0)
+            (λ opening one end serves would. is_brought g status 3 closed.update ended.update _ stands one end _ serves.closed.closed.stands
+            would)
+            (HasNoDiskFault status) (λ one end would. would.3) nodes.fourth (λ o. o.node) (λ o. trail_records o.trail.items) at.fourth closed.fourth ended.fourth over3 ready3 served3
+            back.fourth;
+        callers_doors = callers_doors;
+        editors_doors = editors_doors;
+        full = back.full;
+      }
