@@ -77,13 +77,16 @@ wrong_is_not_taken words NoCommand is (inr ((Help None), asks)) = let both = sym
 wrong_is_not_taken words NoCommand is (inr ((Version None), asks)) = let both = sym is ∙ asks in absurd cc
 wrong_is_not_taken words NoCommand is (inr ((Help (Some other)), asks)) = let both = sym is ∙ asks in absurd cc
 wrong_is_not_taken words NoCommand is (inr ((Version (Some other)), asks)) = let both = sym is ∙ asks in absurd cc
-wrong_is_not_taken words (UnknownCommand word) ((later, is), no_about, no_task) (inl (task, number, asks)) = no_task task (first_same _ _ (sym is ∙ asks.asked))
+wrong_is_not_taken words (UnknownCommand word) ((later, is), no_about, no_task) (inl (task, number, asks)) =
+    no_task task (first_same _ _ (sym is ∙ asks.asked))
 wrong_is_not_taken words (UnknownCommand word) ((later, is), no_about, no_task) (inr ((Help None), asks)) =
     no_about (Help None) (ap (λ (w : List ℕ). w ∷ []) (first_same _ _ (sym is ∙ asks)))
 wrong_is_not_taken words (UnknownCommand word) ((later, is), no_about, no_task) (inr ((Version None), asks)) =
     no_about (Version None) (ap (λ (w : List ℕ). w ∷ []) (first_same _ _ (sym is ∙ asks)))
-wrong_is_not_taken words (UnknownCommand word) ((later, is), no_about, no_task) (inr ((Help (Some other)), asks)) = no_task other (first_same _ _ (sym is ∙ asks))
-wrong_is_not_taken words (UnknownCommand word) ((later, is), no_about, no_task) (inr ((Version (Some other)), asks)) = no_task other (first_same _ _ (sym is ∙ asks))
+wrong_is_not_taken words (UnknownCommand word) ((later, is), no_about, no_task) (inr ((Help (Some other)), asks)) =
+    no_task other (first_same _ _ (sym is ∙ asks))
+wrong_is_not_taken words (UnknownCommand word) ((later, is), no_about, no_task) (inr ((Version (Some other)), asks)) =
+    no_task other (first_same _ _ (sym is ∙ asks))
 wrong_is_not_taken words (NoNumber task) is (inl (other, number, asks)) = let both = sym is ∙ asks.asked in absurd cc
 wrong_is_not_taken words (NoNumber task) is (inr ((Help None), asks)) = task_has_no_dash task _ (first_same _ _ (sym is ∙ asks))
 wrong_is_not_taken words (NoNumber task) is (inr ((Version None), asks)) = task_has_no_dash task _ (first_same _ _ (sym is ∙ asks))
@@ -93,37 +96,59 @@ wrong_is_not_taken words (NotNumber task word) ((later, is), no_about, no_number
     let both = sym is ∙ asks.asked in
     let same = one_task task other (first_same _ _ both) in
     no_number (number, asks.some, subst (λ (t : Task). number ≤ last_number t) (sym same) asks.few, second_same _ _ both)
-wrong_is_not_taken words (NotNumber task word) ((later, is), no_about, no_number) (inr ((Help None), asks)) = let both = sym is ∙ asks in absurd cc
-wrong_is_not_taken words (NotNumber task word) ((later, is), no_about, no_number) (inr ((Version None), asks)) = let both = sym is ∙ asks in absurd cc
+wrong_is_not_taken words (NotNumber task word) ((later, is), no_about, no_number) (inr ((Help None), asks)) =
+    let both = sym is ∙ asks in absurd cc
+wrong_is_not_taken words (NotNumber task word) ((later, is), no_about, no_number) (inr ((Version None), asks)) =
+    let both = sym is ∙ asks in absurd cc
 wrong_is_not_taken words (NotNumber task word) ((later, is), no_about, no_number) (inr ((Help (Some other)), asks)) =
     no_about (Help (Some task)) (ap (λ (w : List ℕ). task_word task ∷ w ∷ []) (second_same _ _ (sym is ∙ asks)))
 wrong_is_not_taken words (NotNumber task word) ((later, is), no_about, no_number) (inr ((Version (Some other)), asks)) =
     no_about (Version (Some task)) (ap (λ (w : List ℕ). task_word task ∷ w ∷ []) (second_same _ _ (sym is ∙ asks)))
-wrong_is_not_taken words (AfterNumber task word) (number, some, few, (later, is)) (inl (other, value, asks)) = let both = sym is ∙ asks.asked in absurd cc
-wrong_is_not_taken words (AfterNumber task word) (number, some, few, (later, is)) (inr ((Help None), asks)) = let both = sym is ∙ asks in absurd cc
-wrong_is_not_taken words (AfterNumber task word) (number, some, few, (later, is)) (inr ((Version None), asks)) = let both = sym is ∙ asks in absurd cc
-wrong_is_not_taken words (AfterNumber task word) (number, some, few, (later, is)) (inr ((Help (Some other)), asks)) = let both = sym is ∙ asks in absurd cc
-wrong_is_not_taken words (AfterNumber task word) (number, some, few, (later, is)) (inr ((Version (Some other)), asks)) = let both = sym is ∙ asks in absurd cc
-wrong_is_not_taken words (AfterAbout (Help None) word) (later, is) (inl (other, number, asks)) = task_has_no_dash other _ (sym (first_same _ _ (sym is ∙ asks.asked)))
+wrong_is_not_taken words (AfterNumber task word) (number, some, few, (later, is)) (inl (other, value, asks)) =
+    let both = sym is ∙ asks.asked in absurd cc
+wrong_is_not_taken words (AfterNumber task word) (number, some, few, (later, is)) (inr ((Help None), asks)) =
+    let both = sym is ∙ asks in absurd cc
+wrong_is_not_taken words (AfterNumber task word) (number, some, few, (later, is)) (inr ((Version None), asks)) =
+    let both = sym is ∙ asks in absurd cc
+wrong_is_not_taken words (AfterNumber task word) (number, some, few, (later, is)) (inr ((Help (Some other)), asks)) =
+    let both = sym is ∙ asks in absurd cc
+wrong_is_not_taken words (AfterNumber task word) (number, some, few, (later, is)) (inr ((Version (Some other)), asks)) =
+    let both = sym is ∙ asks in absurd cc
+wrong_is_not_taken words (AfterAbout (Help None) word) (later, is) (inl (other, number, asks)) =
+    task_has_no_dash other _ (sym (first_same _ _ (sym is ∙ asks.asked)))
 wrong_is_not_taken words (AfterAbout (Help None) word) (later, is) (inr ((Help None), asks)) = let both = sym is ∙ asks in absurd cc
 wrong_is_not_taken words (AfterAbout (Help None) word) (later, is) (inr ((Version None), asks)) = let both = sym is ∙ asks in absurd cc
-wrong_is_not_taken words (AfterAbout (Help None) word) (later, is) (inr ((Help (Some other)), asks)) = task_has_no_dash other _ (sym (first_same _ _ (sym is ∙ asks)))
-wrong_is_not_taken words (AfterAbout (Help None) word) (later, is) (inr ((Version (Some other)), asks)) = task_has_no_dash other _ (sym (first_same _ _ (sym is ∙ asks)))
-wrong_is_not_taken words (AfterAbout (Help (Some task)) word) (later, is) (inl (other, number, asks)) = let both = sym is ∙ asks.asked in absurd cc
+wrong_is_not_taken words (AfterAbout (Help None) word) (later, is) (inr ((Help (Some other)), asks)) =
+    task_has_no_dash other _ (sym (first_same _ _ (sym is ∙ asks)))
+wrong_is_not_taken words (AfterAbout (Help None) word) (later, is) (inr ((Version (Some other)), asks)) =
+    task_has_no_dash other _ (sym (first_same _ _ (sym is ∙ asks)))
+wrong_is_not_taken words (AfterAbout (Help (Some task)) word) (later, is) (inl (other, number, asks)) =
+    let both = sym is ∙ asks.asked in absurd cc
 wrong_is_not_taken words (AfterAbout (Help (Some task)) word) (later, is) (inr ((Help None), asks)) = let both = sym is ∙ asks in absurd cc
-wrong_is_not_taken words (AfterAbout (Help (Some task)) word) (later, is) (inr ((Version None), asks)) = let both = sym is ∙ asks in absurd cc
-wrong_is_not_taken words (AfterAbout (Help (Some task)) word) (later, is) (inr ((Help (Some other)), asks)) = let both = sym is ∙ asks in absurd cc
-wrong_is_not_taken words (AfterAbout (Help (Some task)) word) (later, is) (inr ((Version (Some other)), asks)) = let both = sym is ∙ asks in absurd cc
-wrong_is_not_taken words (AfterAbout (Version None) word) (later, is) (inl (other, number, asks)) = task_has_no_dash other _ (sym (first_same _ _ (sym is ∙ asks.asked)))
+wrong_is_not_taken words (AfterAbout (Help (Some task)) word) (later, is) (inr ((Version None), asks)) =
+    let both = sym is ∙ asks in absurd cc
+wrong_is_not_taken words (AfterAbout (Help (Some task)) word) (later, is) (inr ((Help (Some other)), asks)) =
+    let both = sym is ∙ asks in absurd cc
+wrong_is_not_taken words (AfterAbout (Help (Some task)) word) (later, is) (inr ((Version (Some other)), asks)) =
+    let both = sym is ∙ asks in absurd cc
+wrong_is_not_taken words (AfterAbout (Version None) word) (later, is) (inl (other, number, asks)) =
+    task_has_no_dash other _ (sym (first_same _ _ (sym is ∙ asks.asked)))
 wrong_is_not_taken words (AfterAbout (Version None) word) (later, is) (inr ((Help None), asks)) = let both = sym is ∙ asks in absurd cc
 wrong_is_not_taken words (AfterAbout (Version None) word) (later, is) (inr ((Version None), asks)) = let both = sym is ∙ asks in absurd cc
-wrong_is_not_taken words (AfterAbout (Version None) word) (later, is) (inr ((Help (Some other)), asks)) = task_has_no_dash other _ (sym (first_same _ _ (sym is ∙ asks)))
-wrong_is_not_taken words (AfterAbout (Version None) word) (later, is) (inr ((Version (Some other)), asks)) = task_has_no_dash other _ (sym (first_same _ _ (sym is ∙ asks)))
-wrong_is_not_taken words (AfterAbout (Version (Some task)) word) (later, is) (inl (other, number, asks)) = let both = sym is ∙ asks.asked in absurd cc
-wrong_is_not_taken words (AfterAbout (Version (Some task)) word) (later, is) (inr ((Help None), asks)) = let both = sym is ∙ asks in absurd cc
-wrong_is_not_taken words (AfterAbout (Version (Some task)) word) (later, is) (inr ((Version None), asks)) = let both = sym is ∙ asks in absurd cc
-wrong_is_not_taken words (AfterAbout (Version (Some task)) word) (later, is) (inr ((Help (Some other)), asks)) = let both = sym is ∙ asks in absurd cc
-wrong_is_not_taken words (AfterAbout (Version (Some task)) word) (later, is) (inr ((Version (Some other)), asks)) = let both = sym is ∙ asks in absurd cc
+wrong_is_not_taken words (AfterAbout (Version None) word) (later, is) (inr ((Help (Some other)), asks)) =
+    task_has_no_dash other _ (sym (first_same _ _ (sym is ∙ asks)))
+wrong_is_not_taken words (AfterAbout (Version None) word) (later, is) (inr ((Version (Some other)), asks)) =
+    task_has_no_dash other _ (sym (first_same _ _ (sym is ∙ asks)))
+wrong_is_not_taken words (AfterAbout (Version (Some task)) word) (later, is) (inl (other, number, asks)) =
+    let both = sym is ∙ asks.asked in absurd cc
+wrong_is_not_taken words (AfterAbout (Version (Some task)) word) (later, is) (inr ((Help None), asks)) =
+    let both = sym is ∙ asks in absurd cc
+wrong_is_not_taken words (AfterAbout (Version (Some task)) word) (later, is) (inr ((Version None), asks)) =
+    let both = sym is ∙ asks in absurd cc
+wrong_is_not_taken words (AfterAbout (Version (Some task)) word) (later, is) (inr ((Help (Some other)), asks)) =
+    let both = sym is ∙ asks in absurd cc
+wrong_is_not_taken words (AfterAbout (Version (Some task)) word) (later, is) (inr ((Version (Some other)), asks)) =
+    let both = sym is ∙ asks in absurd cc
 wrong_is_not_taken words NotText is taken = absurd is
 
 -- so words that are taken have none

@@ -12,6 +12,7 @@ const HELP: &str = "usage: prestel play N < SCRIPT
        prestel gen N > SCRIPT
        prestel evening N
        prestel format DIR N
+       prestel serve DIR --centres N ..
        prestel tape DIR < TAPE
        prestel statement DIR ACCOUNT YYYY-MM
        prestel --help
@@ -21,9 +22,10 @@ play runs a script on a network of N centres, 1 to 4, and answers each event.
 gen writes the script that is made by rule for N, 1 to 999.
 evening plays it, and sums up in one line what came of it.
 format makes the disks of N centres in a folder.
+serve lets callers and editors reach them over sockets.
 tape loads the pages of an information provider there.
 statement writes what an account was charged in a month.
-Each of the six has a --help of its own.
+Each of the seven has a --help of its own.
 
 Exit status:
   0  everything was done
@@ -35,7 +37,9 @@ Exit status:
   7  the script or tape is longer than 1048576 bytes
   8  a file could not be made or opened, is in use, or failed
   9  the records of a file could not be read
-  12 the Update Centre is full
+  10 a port of the machine could not be had, or failed
+  11 the threads could not be started
+  12 a node is full
   13 the tape's account or password is not known
   14 an edit of the tape was refused
   15 there is no such account

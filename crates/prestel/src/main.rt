@@ -1,12 +1,13 @@
 //! The program: `prestel play N` runs a script on a viewdata network of N retrieval centres, 1 to 4. `prestel gen N`
 //! writes the script that is made by rule for the number N, and `prestel evening N` plays it and sums it up. `prestel format`
-//! makes the disks of a network in a folder, `prestel tape` loads an information provider's pages there, and `prestel statement`
-//! writes a month's statement of an account from there.
+//! makes the disks of a network in a folder, and `prestel serve` serves it over sockets. `prestel tape` loads an information
+//! provider's pages there, and `prestel statement` writes a month's statement of an account from there.
 //!
 //! A script comes in by standard input, and what is written goes out by standard output; a fault is one
 //! line on standard error, and the exit status says which. All that the first three words do is
 //! [`program::run_program`], over the source and the writer that it is handed; `main` makes the real ones,
-//! and ends with the status. The others are `pv_serve::run_format` and `pv_office::run_office`.
+//! and ends with the status. The others are `pv_serve::run_format` and `run_serve`, and
+//! `pv_office::run_office`.
 #![tactic(auto)]
 
 ghost use Rattle.std.specs.Prelude.{◌≡◌, drop};
@@ -28,12 +29,16 @@ use crate::words_error::{WordsError, error_of};
 use pv_files::{StandardInput, StandardOutput};
 use pv_office::run_office;
 use pv_outside::Status;
-use pv_serve::run_format;
-use std::env;
+use pv_serve::{ErrorOutput, run_format, run_serve};
+use std::env::{self, VarError};
 use std::fs::{File, Files};
 use std::io::{self, ErrorKind, IsTerminal};
+use std::net::{Net, TcpListener, TcpStream};
 use std::process::ExitCode;
 use std::rt::Env;
+use std::sync::Wait;
+use std::thread::Threads;
+use std::time::Clock;
 
 fn main(rt: HostRuntime) -> ExitCode {
     let args = match args_of(&rt) {
@@ -42,7 +47,11 @@ fn main(rt: HostRuntime) -> ExitCode {
     };
     let words = words_of(&args);
     let is_seen = rt.stderr().is_terminal();
-    if let Some(number) = run_on_files(&rt, words, is_seen) {
+    let output = ErrorOutput {
+        is_seen,
+        is_logged: is_logged(&rt),
+    };
+    if let Some(number) = run_on_files(&rt, words, output) {
         return ExitCode::from(number);
     }
     let status = run(&rt, words, is_seen);
@@ -64,14 +73,24 @@ fn end<R: Eprint>(rt: &R, status: Status, wrong: Option<WordsError<'_>>) -> Exit
 
 /// Runs a word that works on files, and returns the number to end with. `None` if the first word is no such word. Long work says
 /// on standard error how far it is, if that is seen.
-fn run_on_files<R: AllocGlobal + Files<File = File> + Input + Print + Eprint>(
-    rt: &R,
-    words: &[String],
-    is_seen: bool,
-) -> Option<u8> {
-    match run_format(rt, words) {
+fn run_on_files<
+    R: AllocGlobal
+        + Files<File = File>
+        + Net<Listener = TcpListener, Stream = TcpStream>
+        + Clock
+        + Wait
+        + Threads
+        + Sync
+        + Input
+        + Print
+        + Eprint,
+>(rt: &R, words: &[String], output: ErrorOutput) -> Option<u8> {
+    if let Some(number) = run_format(rt, words) {
+        return Some(number);
+    }
+    match run_serve(rt, words, output) {
         Some(number) => Some(number),
-        None => run_office(rt, words, is_seen),
+        None => run_office(rt, words, output.is_seen),
     }
 }
 
@@ -85,6 +104,11 @@ fn run<R: AllocGlobal + Input + Print + Eprint>(rt: &R, words: &[String], is_see
     };
     let mut script = StandardInput::new(rt.reader());
     run_program(alloc, words, &mut script, &mut out)
+}
+
+/// Whether the environment asks for a log.
+fn is_logged<R: AllocGlobal + Env>(rt: &R) -> bool {
+    !matches!(env::var(rt, "PRESTEL_LOG"), Err(VarError::NotPresent))
 }
 
 /// The command line: the program's name, and its words. Words that are no text are none of the program's.
