@@ -147,11 +147,13 @@ def built():
         written, said, status = at.run("evening", "999")
         yield "command: what takes too long is proved first, and answered", (written, status) == ("proved evening 999\n", 3) and "it took over 60 seconds; the program is proved first" in said
         yield "command: then it is proved", at.run("gen", "7") == ("proved gen 7\n", "", 3)
-    with place() as at:
-        at.builds(f"import pathlib, sys\np = pathlib.Path(sys.argv[1]) / 'out/prestel'\np.write_text({PROGRAM!r})\np.chmod(0o755)\n")
-        yield "command: the help of a word that works on files is answered at once", NOT_PROVED in at.run("format", "--help")[1]
-        written, said, status = at.run("format", "d", "1")
-        yield "command: what works on files is proved first", (written, status) == ("proved format d 1\n", 3) and "format works on files; the program is proved first" in said
+    for words in (("format", "d", "1"), ("serve", "d")):
+        with place() as at:
+            at.builds(f"import pathlib, sys\np = pathlib.Path(sys.argv[1]) / 'out/prestel'\np.write_text({PROGRAM!r})\np.chmod(0o755)\n")
+            yield f"command: the help of {words[0]}, which works on files, is answered at once", NOT_PROVED in at.run(words[0], "--help")[1]
+            written, said, status = at.run(*words)
+            proved_first = f"{words[0]} works on files; the program is proved first" in said
+            yield f"command: {words[0]} itself is proved first", (written, status) == (f"proved {' '.join(words)}\n", 3) and proved_first
     with place() as at:
         at.builds("import sys\nprint('pv_low: not proved, 3 left', file=sys.stderr)\nprint('/a/log')\nsys.exit(1)\n")
         _, said, status = at.run("--prove")
