@@ -6,7 +6,7 @@ use Rattle.pv_node.specs.declared.fault.NodeFault.{NodeFault}
 use Rattle.pv_node.specs.declared.fault.NodeFault.TheVariants as faults
 use Rattle.pv_outside.specs.declared.limits.Limits.{Limits}
 use Rattle.pv_outside.specs.declared.reports.Reports as reports
-use Rattle.pv_serve.specs.Serving.{HasNoDiskFault, HasServedAll, WasBegun, IfNotOpen, EndsBy, SaysFull, end_by_node, end_by_work}
+use Rattle.pv_serve.specs.Serving.{HasNoDiskFault, HasServedAll, WasBegun, OnNodeFault, EndsBy, SaysFull, end_by_node, end_by_work}
 use Rattle.pv_serve.specs.Unopened.{IsUnreadable, NodeShows}
 use Rattle.pv_serve.specs.declared.status.ServeStatus.{ServeStatus}
 use Rattle.pv_serve.specs.declared.status.ServeStatus.TheVariants.{Usage, NoStart, Memory, Done, Full, DiskFault, DoorFault, Unopened}
@@ -32,7 +32,7 @@ module _ {D F : Type 0} where
   unreadable_by_node : (g : reports.Ghosts D) (limits : Limits) (disks : List D) (node : ℕ) (fault : NodeFault D F) → node < length disks
       → IsOpenFault limits fault
       → IfSome (slice_get disks node) (λ disk. IfSome (g.reads disk) (λ text. NodeShows limits node text fault))
-      → IfNotOpen (IsUnreadable g limits disks) (end_by_node node fault)
+      → OnNodeFault (IsUnreadable g limits disks) (end_by_node node fault)
   unreadable_by_node g limits disks node faults.Memory there known shown = tt
   unreadable_by_node g limits disks node (faults.Disk failure) there known shown = tt
   unreadable_by_node g limits disks node (faults.NotFormatted kept) there known shown =
@@ -47,7 +47,7 @@ module _ {D F : Type 0} where
   pub unreadable : (g : reports.Ghosts D) (limits : Limits) (disks : List D) (node : ℕ) (fault : NodeFault D F) → node < length disks
       → length disks ≤ 5 → IsOpenFault limits fault → (node ≡ 0 → Shows g limits disks fault 0) → (node ≡ 1 → Shows g limits disks fault 1)
       → (node ≡ 2 → Shows g limits disks fault 2) → (node ≡ 3 → Shows g limits disks fault 3) → (node ≡ 4 → Shows g limits disks fault 4)
-      → IfNotOpen (IsUnreadable g limits disks) (end_by_node node fault)
+      → OnNodeFault (IsUnreadable g limits disks) (end_by_node node fault)
   unreadable g limits disks node fault there few known at0 at1 at2 at3 at4 =
       unreadable_by_node g limits disks node fault there known (shown_at g limits disks fault node there few at0 at1 at2 at3 at4)
 
@@ -55,7 +55,7 @@ module _ {D F : Type 0} where
 
   -- what is known of the nodes of a server that was begun is known of the server
   pub work_says : (Holds : ℕ → NodeFault D F → Type 0) (NotBegun Before After : Type 0) (status : ServeStatus D F) → (Before → After)
-      → EndsBy ⊥ Before status → IfNotOpen Holds status × EndsBy NotBegun After status
+      → EndsBy ⊥ Before status → OnNodeFault Holds status × EndsBy NotBegun After status
   work_says Holds NotBegun Before After (Unopened node fault) then ends = absurd ends
   work_says Holds NotBegun Before After (DiskFault failure) then (inl none) = absurd none
   work_says Holds NotBegun Before After (DiskFault failure) then (inr ended) = (tt, inr (then ended))

@@ -54,9 +54,9 @@ HandsAllBack Memory = ⊥
 HandsAllBack _ = Unit {0}
 
 -- this holds of the node that was not opened, and of why not
-abbrev pub IfNotOpen : {D F : Type 0} → (ℕ → NodeFault D F → Type 0) → ServeStatus D F → Type 0
-IfNotOpen Holds (Unopened node fault) = Holds node fault
-IfNotOpen Holds _ = Unit {0}
+abbrev pub OnNodeFault : {D F : Type 0} → (ℕ → NodeFault D F → Type 0) → ServeStatus D F → Type 0
+OnNodeFault Holds (Unopened node fault) = Holds node fault
+OnNodeFault Holds _ = Unit {0}
 
 -- Once threads may start: the server was not begun, since a node was not opened, or it was begun and has ended. A disk may have failed
 -- before or after. If memory ran out nothing is said.

@@ -10,7 +10,7 @@ ghost use Rattle.pv_centres.specs.Served.{SomeDoorRose, GiveBackMore};
 ghost use Rattle.pv_service.specs.Doors.{door_of};
 ghost use Rattle.pv_serve.specs.Ended.{AreHandedBack, ServerEnded};
 ghost use Rattle.pv_serve.specs.Options.{AskToServe, AskNoServe};
-ghost use Rattle.pv_serve.specs.Serving.{ArePartsOf, EndsBy, HandsAllBack, HasServedAll, IfNotOpen, WasBegun, end_by_node, end_by_words, end_by_work, node_limits};
+ghost use Rattle.pv_serve.specs.Serving.{ArePartsOf, EndsBy, HandsAllBack, HasServedAll, OnNodeFault, WasBegun, end_by_node, end_by_words, end_by_work, node_limits};
 ghost use Rattle.pv_serve.specs.Unopened.{IsUnreadable, IsUnserved};
 ghost use Rattle.pv_serve.specs.declared.options.ServeOptions.{ServeOptions};
 
@@ -93,7 +93,7 @@ where
         × (result.disks ≡ disks) × (result.callers ≡ callers) × (result.editors ≡ editors) }
 
     // A node is not opened only if its disk is why. If the disk reports its bytes, they show the fault.
-    ensures unopened { IfNotOpen (IsUnreadable D.Reports node_limits disks.items) result.status }
+    ensures unopened { OnNodeFault (IsUnreadable D.Reports node_limits disks.items) result.status }
 
     // A door has failed only if the count of one that is handed back rose.
     ensures door_fault { result.status ≡ ServeStatus.DoorFault

@@ -7,7 +7,7 @@ use Rattle.pv_centres.specs.Opening.{centre_count}
 use Rattle.pv_centres.proofs.Served.{all_finished}
 use Rattle.pv_serve.specs.Ended.{AreHandedBack, ServerEnded}
 use Rattle.pv_serve.specs.Options.{AskToServe}
-use Rattle.pv_serve.specs.Serving.{IfNotOpen, end_by_node, node_limits}
+use Rattle.pv_serve.specs.Serving.{OnNodeFault, end_by_node, node_limits}
 use Rattle.pv_serve.specs.Unopened.{IsUnreadable, IsUnserved}
 use Rattle.pv_serve.specs.declared.options.ServeOptions.{ServeOptions}
 use Rattle.pv_serve.proofs.Counting.{disks_back, doors_back, ended_if_back, length_kept}
@@ -24,8 +24,8 @@ returns-in-Err-open_nodes-clause-unopened g c =
     let shown = c.in-Err-open_nodes.ensures in
     let disks = c.args.disks in
     let not = c.in-Err-open_nodes.not in
-    let why : IfNotOpen (IsUnreadable g.D.Reports node_limits disks.items) (end_by_node not.node not.fault) =
-    subst (λ (l : Limits). IfNotOpen (IsUnreadable g.D.Reports l disks.items)
+    let why : OnNodeFault (IsUnreadable g.D.Reports node_limits disks.items) (end_by_node not.node not.fault) =
+    subst (λ (l : Limits). OnNodeFault (IsUnreadable g.D.Reports l disks.items)
     (end_by_node not.node not.fault)) c.node_limits-limits.ensures
     (unreadable g.D.Reports c.node_limits-limits.result disks.items not.node not.fault (omega (arith, shown.not_node, disks.ok.0))
     (omega (arith, parts.nodes, asked.1.numbers.centres.few, disks.ok.0)) shown.fault shown.update_shown shown.first_shown
