@@ -28,7 +28,7 @@ fn stand_of<N: Run<Record>, D: Disk, O: Door + Drop>(
 }
 
 /// A row of stands: one for each door, each with a pass of its own.
-pub fn editors_row<N: Run<Record>, D: Disk, O: Door + Drop>(
+pub fn row_of_editors<N: Run<Record>, D: Disk, O: Door + Drop>(
     alloc: Global,
     passes: Vec<Pass<UdcRules, N>>,
     doors: Vec<O>,

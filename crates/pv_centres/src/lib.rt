@@ -41,7 +41,7 @@ pub use centre::{OpenCentre, close_centre, open_centre};
 pub use centre_carrier::CentreCarrier;
 pub use collected::Collected;
 pub use doors::next_doors;
-pub use editors_row::editors_row;
+pub use editors_row::row_of_editors;
 pub use ends::Ends;
 pub use nodes::{Nodes, OpenedNodes};
 pub use opening::{NotOpened, open_nodes};

@@ -8,7 +8,7 @@ ghost use Rattle.pv_centres.specs.Opening.{IsReady, weigh, count_of, centre_coun
 ghost use Rattle.pv_centres.specs.Served.{IsNewPass, IsFreshRow};
 
 use pv_centres::{
-    AllCarriers, AllPorts, OpenCentre, OpenedNodes, editors_row, next_doors, open_centre,
+    AllCarriers, AllPorts, OpenCentre, OpenedNodes, next_doors, open_centre, row_of_editors,
 };
 use pv_edits::Record;
 use pv_irc::{CentreRecord, IrcRules};
@@ -469,7 +469,7 @@ fn fresh_editors<U: Run<Record>, D: Disk, E: Door + Drop>(
         (vec_len doors) calls stands.items) }
     ensures doors { IfOk result (λ stands. map (λ s. s.door.value) stands.items ≡ doors.items) }
 {
-    let stands = editors_row(alloc, passes, doors, calls)?;
+    let stands = row_of_editors(alloc, passes, doors, calls)?;
     Ok(stands)
 }
 

@@ -4,7 +4,7 @@ use Rattle.std.proofs.lemmas.List.Elements.{All-head, All-tail, All-same}
 use Rattle.std.proofs.lemmas.Grind.{common_steps}
 use Rattle.pv_service.specs.declared.caller_stand.TheConstants.{MAX_ACCEPTED}
 use Rattle.pv_centres.proofs.Filling.{all_more, taken_count}
-use Rattle.pv_centres.proofs.editors_row.editors_row.Goals as goal
+use Rattle.pv_centres.proofs.editors_row.row_of_editors.Goals as goal
 
 -- one more door was taken, which was the first of the rest
 pub loop-pass-preserved : goal.loop-pass-preserved

@@ -2,7 +2,7 @@ use Rattle.std.proofs.Common.{◌≡◌, ◌<◌, ◌≤◌, ◌++◌, map, vec_
 use Rattle.std.specs.Prelude.{All}
 use Rattle.std.specs.Vec.Iter.{into_iter_items}
 use Rattle.pv_service.specs.declared.caller_stand.TheConstants.{MAX_ACCEPTED}
-use Rattle.pv_centres.proofs.editors_row.editors_row.Given as goal
+use Rattle.pv_centres.proofs.editors_row.row_of_editors.Given as goal
 
 -- the passes up to here stand with their doors, and there is room for the rest
 abbrev pub invariant-loop-pass : goal.invariant-loop-pass
