@@ -1,0 +1,155 @@
+"""What becomes of a server when the outside fails: its disk, its files, its rights, and its peers."""
+import os
+import shutil
+import socket
+import struct
+import subprocess
+from pathlib import Path
+
+from journals import MARK, UpdateCentre
+from serving import Place
+from viewdata import Line, Page
+
+CALLER = 1_000_000_001
+NOBODY = 65_534
+# How large the device is that gets full, in bytes.
+SMALL = 64 << 10
+
+
+def with_account(place):
+    """A server over this place, and the operator, who has made an account."""
+    server = place.server(calls=2)
+    operator = server.editor()
+    operator.says(f"ACCOUNT 1 {CALLER} ABCD 0 -")
+    return server, operator
+
+
+def full_device(program):
+    """A device is full: the editor reads it, the server ends with its line, and nothing that was acknowledged is lost."""
+    with Place(program) as place:
+        device = Path(place.folder) / "net"
+        shutil.rmtree(device)
+        device.mkdir()
+        if subprocess.run(["mount", "-t", "tmpfs", "-o", f"size={SMALL}", "none", device], capture_output=True).returncode:
+            yield "outside: a full device (not tried: this user may mount nothing)", True
+            return
+        try:
+            place.run("format", "net", "1")
+            server = place.server()
+            editor, replies = server.editor(), []
+            for number in range(1, 1000):
+                replies.append(editor.store(number, Page(1), number))
+                if not replies[-1].startswith("OK "):
+                    break
+            yield "outside: an editor reads that the disk has failed", replies[-1] == "NO 15 DISK" and len(replies) > 10
+            server.caller().hang_up()
+            out, said, status = server.end()
+            yield "outside: the server ends with the system's words", (out, status) == ("", 8) and said.startswith("prestel: ") and "No space" in said and said.count("\n") == 1
+            subprocess.run(["mount", "-o", f"remount,size={64 * SMALL}", device], check=True)
+            server = place.server()
+            last = server.editor()
+            yield "outside: with room again each acknowledged edit is there", last.says("LAST")[0] in (f"OK {len(replies) - 1}", f"OK {len(replies)}")
+            yield "outside: and the next one is stored", last.store(len(replies) + 1, Page(2), 1).startswith("OK ") or last.store(len(replies), Page(2), 1).startswith("OK ")
+            last.hang_up()
+            server.caller().hang_up()
+            yield "outside: and the server ends as it should", server.end() == ("", "", 0)
+        finally:
+            subprocess.run(["umount", "-l", device], capture_output=True)
+
+
+def no_rights(program):
+    """A user without rights on the folder is refused in one line."""
+    with Place(program) as place:
+        copied = Path(place.folder) / "prestel"
+        shutil.copy(program, copied)
+        os.chmod(place.folder, 0o755)
+        os.chmod(Path(place.folder) / "net", 0o700)
+        lower = (lambda: os.setuid(NOBODY)) if os.getuid() == 0 else None
+        if lower is None:
+            os.chmod(place.file("udc.pv"), 0o000)
+        words = ["serve", "net", "--centres", "1", "--ports", "1", "--editors", "1", "--calls", "1", "--port", "20000", "--editor-port", "20001"]
+        run = subprocess.run([copied, *words], cwd=place.folder, preexec_fn=lower, stdin=subprocess.DEVNULL, capture_output=True, timeout=60)
+        said = run.stderr.decode()
+        yield "outside: a folder without rights", run.returncode == 8 and said.startswith("prestel: net/udc.pv: the file could not be opened: ") and said.count("\n") == 1
+
+
+def damaged(program):
+    """A file that was cut or changed is no disk of the network, and which byte or record shows it is said in one line; with what it had
+    before, all is there again."""
+    with Place(program) as place:
+        server, operator = with_account(place)
+        operator.store(2, Page(1), 1)
+        operator.hang_up()
+        server.editor().hang_up()
+        for _ in range(2):
+            server.caller().hang_up()
+        server.end()
+        file = place.file("udc.pv")
+        whole = file.read_bytes()
+        first = len(MARK)
+        second = first + 3 + int.from_bytes(whole[first + 1 : first + 3], "big")
+
+        def changed(at, byte):
+            return whole[:at] + bytes([byte]) + whole[at + 1 :]
+
+        byte_is_damaged = "prestel: node 0: byte {} of its disk is damaged\n"
+        cases = {
+            "cut within its mark": (whole[:5], "prestel: node 0: its disk is not formatted\n"),
+            "with another mark": (changed(0, 0x51), "prestel: node 0: its disk is not formatted\n"),
+            "cut within a length": (whole[: first + 2], None),
+            "cut within a record": (whole[: second + 10], None),
+            "cut after a record": (whole[:second], None),
+            "with another gate": (changed(first, 2), None),
+            "with another length": (changed(first + 2, whole[first + 2] - 1), None),
+            "with another record": (changed(first + 3, 0xFF), None),
+            "of another node": (place.file("irc0.pv").read_bytes(), None),
+        }
+        for what, (text, wanted) in cases.items():
+            file.write_bytes(text)
+            out, said, status = place.server().end()
+            told = said == wanted if wanted else said.startswith("prestel: node 0: ") and said.count("\n") == 1
+            yield f"outside: a file {what} is no disk", (out, status) == ("", 9) and told
+        file.write_bytes(whole)
+        server = place.server()
+        yield "outside: with its bytes again all is there", server.editor().says("LAST") == ["OK 2"] and UpdateCentre(file).count >= 2
+
+
+def peers(program):
+    """A peer that resets in the middle of a screen ends his own call, and one that never reads holds his own port alone."""
+    with Place(program) as place:
+        server = place.server(ports=2, calls=3)
+        editor = server.editor()
+        editor.says(f"ACCOUNT 1 {CALLER} ABCD 0 -")
+        editor.store(2, Page(1), 1)
+        caller = server.caller()
+        caller.log_on(CALLER)
+        caller.waits_for(Page(1), 1)
+        for _ in range(2):
+            reset = Line(server.first)
+            reset.key(f"{CALLER}ABCD".encode() + b"*1#" * 200)
+            reset.socket.setsockopt(socket.SOL_SOCKET, socket.SO_LINGER, struct.pack("ii", 1, 0))
+            reset.socket.close()
+        deaf = Line(server.first)
+        deaf.key(f"{CALLER}ABCD".encode())
+        deaf.socket.settimeout(0.5)
+        try:
+            for _ in range(4000):
+                deaf.key(b"*1#" * 1000)
+        except TimeoutError:
+            pass
+        yield "outside: beside a peer that never reads another one is served", caller.version_of(Page(1)) == 1 and caller.ends()
+        deaf.socket.close()
+        later = server.caller()
+        later.log_on(CALLER)
+        yield "outside: after a reset and a peer that never reads the port serves the next one", later.version_of(Page(1)) == 1 and later.ends()
+        server.caller().hang_up()
+        editor.hang_up()
+        for _ in range(2):
+            server.editor().hang_up()
+        yield "outside: and the server ends as it should", server.end() == ("", "", 0)
+
+
+def failures(program):
+    """A line for each failure of the outside."""
+    for part in (full_device, no_rights, damaged, peers):
+        yield from part(program)
