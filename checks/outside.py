@@ -99,7 +99,6 @@ def damaged(program):
             "cut within a length": (whole[: first + 2], None),
             "cut within a record": (whole[: second + 10], None),
             "cut after a record": (whole[:second], None),
-            "with another gate": (changed(first, 2), None),
             "with another length": (changed(first + 2, whole[first + 2] - 1), None),
             "with another record": (changed(first + 3, 0xFF), None),
             "of another node": (place.file("irc0.pv").read_bytes(), None),

@@ -8,7 +8,7 @@ use crate::logged_door::{LoggedDoor, Place};
 use crate::node_file::NodeFile;
 use crate::options::{OptionFault, ServeOptions, serve_options};
 use crate::saying::{ErrorOutput, out_of_memory, path_in, refused};
-use crate::serving::serve;
+use crate::serving::{Served, serve};
 use crate::status::ServeStatus;
 use pv_files::{
     FileDisk, FileFault, MachineClock, NODE_FILES, OpenFault, TcpDoor, ThreadSpawner, open_file,
@@ -147,7 +147,13 @@ fn serve_with<
         &clock,
         &mut spawner,
     );
-    Ok(end(rt, &served.status))
+    let Served {
+        status,
+        disks: _,
+        callers: _,
+        editors: _,
+    } = served;
+    Ok(end(rt, status))
 }
 
 /// Says where callers and editors are waited for.
@@ -168,8 +174,8 @@ fn say_open<R: Eprint>(rt: &R, options: &ServeOptions)
 }
 
 /// Says how the server ended, if something failed, and returns its number.
-fn end<R: Eprint, D: Disk<Failure = FileFault>>(rt: &R, status: &ServeStatus<D>) -> u8 {
-    match status {
+fn end<R: Eprint, D: Disk<Failure = FileFault>>(rt: &R, status: ServeStatus<D>) -> u8 {
+    match &status {
         ServeStatus::Done => {}
         ServeStatus::DiskFault(failure) => {
             let _ = eprintln!(rt; "prestel: {failure}");
