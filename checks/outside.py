@@ -129,11 +129,10 @@ def peers(program):
             reset.socket.setsockopt(socket.SOL_SOCKET, socket.SO_LINGER, struct.pack("ii", 1, 0))
             reset.socket.close()
         deaf = Line(server.first)
-        deaf.key(f"{CALLER}ABCD".encode())
+        deaf.socket.setsockopt(socket.SOL_SOCKET, socket.SO_RCVBUF, 4096)
         deaf.socket.settimeout(0.5)
         try:
-            for _ in range(4000):
-                deaf.key(b"*1#" * 1000)
+            deaf.key(f"{CALLER}ABCD".encode() + b"*1#" * 4000)
         except TimeoutError:
             pass
         yield "outside: beside a peer that never reads another one is served", caller.version_of(Page(1)) == 1 and caller.ends()

@@ -98,9 +98,9 @@ class Line:
         self.sent, self.screens = b"", 0
 
     def take(self):
-        """What it is sent next, and nothing once it has ended. Each screen begins with a form feed."""
+        """What it is sent next, and nothing once it has ended. A screen begins with a form feed, or with a move to the first cell."""
         part = self.socket.recv(4096)
-        self.screens += part.count(b"\f")
+        self.screens += part.count(b"\f") + part.count(b"\x1e")
         return part
 
     def key(self, keys):
