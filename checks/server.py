@@ -197,6 +197,11 @@ def opened(program):
         yield f"serve: a terminal is told how far it is ({sizes})", len(wanted) >= 2 and said[2:] == wanted
 
 
+def now():
+    """This moment, as a log says it."""
+    return time.strftime("%Y-%m-%dT%H:%M:%SZ", time.gmtime())
+
+
 LOGGED = re.compile(r"prestel: (\d{4}-\d\d-\d\dT\d\d:\d\d:\d\dZ) (.*)")
 
 
@@ -204,7 +209,7 @@ def logged(program):
     """If a log is asked for, it has a line when each call and session begins, and one when it ends."""
     page = Page(1, 2)
     with Place(program) as place:
-        begun = time.strftime("%Y-%m-%dT%H:%M:%SZ", time.gmtime())
+        begun = now()
         server = place.server(calls=3, is_logged=True)
         editor = server.editor()
         count = len(editor.says(f"ACCOUNT 1 {CALLER} ABCD 0 -")) + len(page.lines(2, 1)) + 2
@@ -222,7 +227,7 @@ def logged(program):
         server.editor(CALLER, "ABCD").hang_up()
         out, said, status = server.end()
         lines = [LOGGED.fullmatch(line) for line in said.splitlines()]
-        yield "serve: each line of a log has its moment", ended == [True, True] and (out, status) == ("", 0) and all(lines) and sorted(lines, key=lambda line: line[1]) == lines and lines[0][1] >= begun
+        yield "serve: each line of a log has its moment", ended == [True, True] and (out, status) == ("", 0) and all(line and begun <= line[1] <= now() for line in lines)
         told = {who: [line[2][len(who) :] for line in lines if line and line[2].startswith(who)] for who in ("centre 0 port 0 ", "editors port 0 ")}
         calls = [
             f"account {CALLER}, finished, screens {caller.screens}, pence {2 * shown.count(1)}",

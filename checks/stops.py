@@ -14,6 +14,8 @@ KILLS = 25
 CENTRES, PORTS, EDITORS = 2, 2, 2
 # A server runs for so many seconds before it is killed, at least and at most.
 SHORTEST, LONGEST = 0.15, 0.75
+# How long a caller or an editor waits before he asks for more, so that no node gets full.
+PAUSE = 0.003
 PAGES = [Page(10 * at, at) for at in range(1, EDITORS + 1)]
 
 
@@ -64,6 +66,7 @@ class Told:
                     self.amiss.append((account, page, version))
                 last[page] = version
                 self.shown[account] += 1
+                time.sleep(PAUSE)
         except (OSError, EOFError):
             pass
 
@@ -79,6 +82,7 @@ class Told:
                 number += 1
                 if editor.store(number, PAGES[at], number).startswith("OK "):
                     self.acknowledged[account].add(number)
+                time.sleep(PAUSE)
         except (OSError, EOFError):
             pass
 
