@@ -13,7 +13,8 @@ use pv_live::{Live, Pass, Run, Start};
 use pv_memory::{MemDisk, MemDoor, MemLine, SetClock};
 use pv_node::{Opened, Rules};
 use pv_outside::{Door, Failed, Reports};
-use pv_service::{Signals, run_editors};
+use pv_ports::LogEntry;
+use pv_service::{Log, Signals, run_editors};
 use pv_udc::UdcRules;
 use std::alloc::{AllocError, Global};
 use std::marker::Brand;
@@ -52,6 +53,10 @@ fn wait<N: Run<CentreRecord>>(pass: &mut Pass<IrcRules<0>, N>) {
         }
         thread::yield_now();
     }
+}
+
+impl<N: Run<CentreRecord>> Log for LateDoor<N> {
+    fn log(&self, _entry: &LogEntry) {}
 }
 
 impl<N: Run<CentreRecord>> Door for LateDoor<N> {

@@ -10,7 +10,7 @@ use pv_memory::{MemDisk, MemDoor, Pipe, SetClock};
 use pv_outside::{Clock, Door, Link};
 use pv_ports::{CallerPort, Carrier, EditorPort};
 use pv_service::{
-    CallerStand, CarrierReport, CarrierStand, EditorStand, PortReport, Signals, run_centre,
+    CallerStand, CarrierReport, CarrierStand, EditorStand, Log, PortReport, Signals, run_centre,
 };
 use pv_udc::UdcRules;
 use std::alloc::{AllocError, Global};
@@ -90,7 +90,7 @@ fn run_beside<
     U: Run<Record> + Send + Sync,
     N: Run<CentreRecord> + Send + Sync,
     H: Wait + Drop + Send + Sync,
-    O: Door + Drop + Send,
+    O: Door + Log + Drop + Send,
     K: Clock + Sync,
     L: Link + Drop + Send,
     R: Wait + Threads + Sync,
@@ -115,7 +115,7 @@ pub fn run_at<
     U: Run<Record> + Send + Sync,
     N: Run<CentreRecord> + Send + Sync,
     H: Wait + Drop + Send + Sync,
-    O: Door + Drop + Send,
+    O: Door + Log + Drop + Send,
     R: Wait + Threads + Sync,
 >(
     rt: &R,
