@@ -1,6 +1,6 @@
 """What the command prestel does while the program is not proved, tried on a stand-in for rt.
 
-A copy of the script stands over a crate of one line. The stand-in answers `rt try` with what it finds in files, and counts its
+A copy of the script stands over crates of one line. The stand-in answers `rt try` with what it finds in files, and counts its
 calls, so that each case takes a moment: what is compared is the script's own work.
 """
 import os
@@ -15,7 +15,7 @@ ROOT = Path(__file__).resolve().parent.parent
 
 STAND_IN = """#!/usr/bin/env bash
 here="$(dirname "$0")"
-echo "$*" >> "$here/calls"
+echo "$(basename "$PWD"): $*" >> "$here/calls"
 cat > "$here/stdin"
 cat "$here/stdout"
 cat "$here/stderr" >&2
@@ -32,17 +32,19 @@ NOT_PROVED = "this answer comes from the sources alone"
 
 
 class Place:
-    """A repository of one crate, with the command and a stand-in for rt."""
+    """A repository of two crates, the program and that which is tried, with the command and a stand-in for rt."""
 
     def __init__(self, folder):
         self.root, self.bin = folder / "repository", folder / "bin"
         self.crate = self.root / "crates/prestel"
-        for it in (self.bin, self.crate / "src", self.crate / "out", self.root / "tools"):
+        tried = self.root / "crates/prestel_play"
+        for it in (self.bin, self.crate / "src", self.crate / "out", tried / "src", self.root / "tools"):
             it.mkdir(parents=True)
         shutil.copy(ROOT / "prestel", self.root)
         shutil.copy(ROOT / "tools/sources", self.root / "tools")
-        (self.root / "crates.txt").write_text("prestel:\n")
-        (self.crate / "src/main.rt").write_text("fn main() {}\n")
+        (self.root / "crates.txt").write_text("prestel:\nprestel_play:\n")
+        for it in (self.crate, tried):
+            (it / "src/main.rt").write_text("fn main() {}\n")
         self.write(self.bin / "rt", STAND_IN)
         self.answers()
 
@@ -106,7 +108,9 @@ def unproved():
         yield "command: the script is handed on whole", (at.bin / "stdin").read_bytes() == b"seed 1a A\nx\n"
         at.run("gen", "7", script=b"not read")
         yield "command: nothing is read for other words", (at.bin / "stdin").read_bytes() == b""
-        yield "command: the words are handed on", (at.bin / "calls").read_text().splitlines() == ["try -- play 1", "try -- gen 7"]
+        at.run("serve", "--help")
+        calls = ["prestel_play: try -- play 1", "prestel_play: try -- gen 7", "prestel: try -- serve --help"]
+        yield "command: the words are handed on, to the smaller program if it takes them", (at.bin / "calls").read_text().splitlines() == calls
         with open("/dev/full", "wb") as full:
             _, said, status = at.run("gen", "7", stdout=full)
         yield "command: a full device", (said.splitlines()[-1], status) == ("prestel: the output could not be written", 5)
