@@ -81,15 +81,24 @@ module _ {D F : Type 0} (g : reports.Ghosts D) (status : ServeStatus D F) (centr
     runs,
   )
 
+-- What is known of a node that was closed: its log is a run, it stands for all records, and by these it was served so.
+module _ {S State Request Rec Reply D : Type 0} (r : rules.Ghosts S State Request Rec Reply) (g : reports.Ghosts D) (limits : Limits)
+    (Served : List (Entry Rec) → Parts D State Rec → Type 0) where
+  pub record ClosesSo (opening : List Rec) (closed : Parts D State Rec) : Type 0 where
+    pub log : List (Entry Rec)
+    pub run : IsRun r limits opening log
+    pub stands : StandsFor r g closed (with_opening opening log)
+    pub hand : IfSome closed.hand (IsMade r limits (with_opening opening log))
+    pub limited : r.limits_of closed.state ≡ limits
+    pub served : Served log closed
+
 -- A node that was opened over its disk, if it is there, was served and then closed, and brought what it lacked.
 module _ {S State Request Rec Reply D : Type 0} (r : rules.Ghosts S State Request Rec Reply) (g : reports.Ghosts D)
     (one_list : (image : List ℕ) (one other : List Rec) → Stands r image one → Stands r image other → one ≡ other)
     (left : (disk : D) → IfSome (g.reads disk) (g.may_leave disk)) (limits : Limits)
-    (Serves Served : List Rec → Parts D State Rec → Type 0) (Would Brings : Parts D State Rec → Parts D State Rec → Type 0)
-    (serves_as : (opening : List Rec) (closed : Parts D State Rec) → Serves opening closed → Served opening closed)
-    (closes : (opening : List Rec) (closed : Parts D State Rec) → Serves opening closed
-    → (log : List (Entry Rec)) × IsRun r limits opening log × StandsFor r g closed (with_opening opening log)
-    × IfSome closed.hand (IsMade r limits (with_opening opening log)) × (r.limits_of closed.state ≡ limits))
+    (Serves : List Rec → Parts D State Rec → Type 0) (Served : List Rec → List (Entry Rec) → Parts D State Rec → Type 0)
+    (Would Brings : Parts D State Rec → Parts D State Rec → Type 0)
+    (closes : (opening : List Rec) (closed : Parts D State Rec) → Serves opening closed → ClosesSo r g limits (Served opening) opening closed)
     (adds : (closed ended : Parts D State Rec) → Would closed ended → AddsRecords r g closed ended)
     (then : (opening : List Rec) (closed ended : Parts D State Rec) → Serves opening closed → Would closed ended
     → Brings closed ended)
@@ -103,21 +112,21 @@ module _ {S State Request Rec Reply D : Type 0} (r : rules.Ghosts S State Reques
   node_has_ended None node_of opening_of None None None over ready served would = tt
   node_has_ended (Some o) node_of opening_of (Some disk) (Some n) (Some end) over ready served would =
       let close = closes (opening_of o) n served in
-      let all = (adds n end would).stands (with_opening (opening_of o) close.0) close.2 in
+      let records = with_opening (opening_of o) close.log in
+      let all = (adds n end would).stands records close.stands in
       record {
         opening = opening_of o;
         opened = λ records stood. opening_is r g one_list left disk (node_of o)
             (opening_of o) records over ready.stands ready.at_rest stood;
         closed = n;
-        served = serves_as (opening_of o) n served;
-        log = close.0;
-        run = close.1;
+        log = close.log;
+        run = close.run;
+        served = close.served;
         brought = then (opening_of o) n end served would;
         more = all.0;
         stands = all.1;
-        runs = λ held. subst (λ (l : Limits). StandsOn r g l (with_opening (opening_of o) close.0) end) close.4
-            (run n end would held (with_opening (opening_of o) close.0) close.2
-            (subst (λ (l : Limits). IfSome n.hand (IsMade r l (with_opening (opening_of o) close.0))) (sym close.4) close.3));
+        runs = λ held. subst (λ (l : Limits). StandsOn r g l records end) close.limited (run n end would held records close.stands
+            (subst (λ (l : Limits). IfSome n.hand (IsMade r l records)) (sym close.limited) close.hand));
       }
   node_has_ended (Some o) node_of opening_of None closed ended over ready served would = absurd over
   node_has_ended None node_of opening_of (Some disk) closed ended over ready served would = absurd over

@@ -5,4 +5,5 @@ mod Ended
 mod Ending
 mod Facts
 mod Given
+mod Kept
 mod Server

@@ -6,15 +6,10 @@ use Rattle.pv_edits.specs.declared.record.Record.{Record}
 use Rattle.pv_irc.specs.History.{CentreState, applied_of}
 use Rattle.pv_irc.specs.contracts.rules.IrcRulesRules.TheImpl as irc
 use Rattle.pv_irc.specs.declared.record.CentreRecord.{CentreRecord}
-use Rattle.pv_live.specs.Closing.{IsClosed}
-use Rattle.pv_live.specs.Entries.{with_opening}
-use Rattle.pv_live.specs.Pass.{Standing}
-use Rattle.pv_live.specs.Run.{IsMade, IsRun}
 use Rattle.pv_live.specs.declared.entry.Entry.{Entry}
 use Rattle.pv_node.specs.Parts.{Parts}
-use Rattle.pv_node.specs.Standing.{Stands, StandsFor}
+use Rattle.pv_node.specs.Standing.{Stands}
 use Rattle.pv_node.specs.Trail.{trail_records}
-use Rattle.pv_node.specs.declared.rules.Rules as rules
 use Rattle.pv_outside.specs.declared.limits.Limits.{Limits}
 use Rattle.pv_outside.specs.declared.reports.Reports as reports
 use Rattle.pv_ports.specs.Ends.{LineState}
@@ -33,9 +28,11 @@ use Rattle.pv_centres.specs.declared.nodes.Nodes.{Nodes}
 use Rattle.pv_centres.specs.declared.nodes.OpenedNodes.{OpenedNodes}
 use Rattle.pv_centres.proofs.Served.{served_quieter, some_rose}
 use Rattle.pv_serve.specs.Ended.{AreHandedBack, IsBrought, IsUpdateBrought, ServerEnded, WouldBeBrought, place_ports}
+use Rattle.pv_serve.specs.Kept.{CentreKept, StoresChargesFirst, UpdateKept}
 use Rattle.pv_serve.specs.Serving.{HasNoDiskFault, HasServedAll}
 use Rattle.pv_serve.specs.declared.status.ServeStatus.{ServeStatus}
-use Rattle.pv_serve.proofs.Ended.{first_is, is_brought, node_has_ended, same_weight}
+use Rattle.pv_serve.proofs.Kept.{centre_keeps, update_keeps}
+use Rattle.pv_serve.proofs.Ended.{ClosesSo, first_is, is_brought, node_has_ended, same_weight}
 
 -- one of the ports ended since its door failed: the count of that door rose
 pub door_rose : {L M D F : Type 0} (calls : ℕ) (olds news : List (DoorReport L)) (met : List (PortReport D F)) (olds' news' : List
@@ -49,21 +46,13 @@ door_rose calls olds news met olds' news' met' each each' (inr some) =
     inr (some_rose calls olds' news' some.before some.report some.after (subst (ServesEachDoor calls olds' news') some.reports_are each')
     some.is_door_end)
 
--- images of a disk stand for one list
+-- Images of a disk stand for one list. At a centre, charges are stored first.
 abbrev pub UpdateLaw : Type 0
 UpdateLaw = (image : List ℕ) (one other : List Record) → Stands udc.ghosts image one → Stands udc.ghosts image other → one ≡ other
 
 abbrev pub CentreLaw : ℕ → Type 0
-CentreLaw centre = (image : List ℕ) (one other : List CentreRecord) → Stands (irc.ghosts (number centre)) image one
-    → Stands (irc.ghosts (number centre)) image other → one ≡ other
-
--- what is known of a node that was closed
-closing : {S State Request Rec Reply D : Type 0} {r : rules.Ghosts S State Request Rec Reply} {d : reports.Ghosts D} {limits : Limits}
-    {opening : List Rec} {passes : List (Standing Rec)} {node : Parts D State Rec} {asked : ℕ}
-    → IsClosed r d limits opening passes node asked
-    → (log : List (Entry Rec)) × IsRun r limits opening log × StandsFor r d node (with_opening opening log)
-    × IfSome node.hand (IsMade r limits (with_opening opening log)) × (r.limits_of node.state ≡ limits)
-closing closed = (closed.log, closed.run, closed.stands, closed.hand, closed.limited)
+CentreLaw centre = ((image : List ℕ) (one other : List CentreRecord) → Stands (irc.ghosts (number centre)) image one
+    → Stands (irc.ghosts (number centre)) image other → one ≡ other) × StoresChargesFirst (irc.ghosts (number centre))
 
 module _ {D F L M : Type 0} (g : reports.Ghosts D) (left : (disk : D) → IfSome (g.reads disk) (g.may_leave disk))
     (limits : Limits) (shown : Option ℕ) (caller_of : L → LineState) (editor_of : M → LineState) (ports calls : ℕ)
@@ -92,6 +81,30 @@ module _ {D F L M : Type 0} (g : reports.Ghosts D) (left : (disk : D) → IfSome
   centre_as centre olds news met opening node served =
       served_quieter (irc.ghosts (number centre)) g limits opening applied_of Quiet (HasServedAll status) quiet
       (HasServedCalls (irc.ghosts (number centre)) limits opening shown caller_of calls) olds news met node served
+
+  -- what each keeps, when it is closed
+  abbrev UpdateKeeps : List Record → List (Entry Record) → Parts D EditList Record → Type 0
+  UpdateKeeps opening log node =
+      UpdateKept udc.ghosts limits opening editor_of log g calls (HasServedAll status) editors editors' editors_met node
+
+  abbrev CentreKeeps : ℕ → List (DoorReport L) → List (DoorReport L) → List (PortReport D F) → List CentreRecord → List (Entry CentreRecord)
+      → Parts D CentreState CentreRecord → Type 0
+  CentreKeeps centre olds news met opening log node =
+      CentreKept (irc.ghosts (number centre)) limits opening shown caller_of log g calls (HasServedAll status) olds news met node
+
+  update_closes : (opening : List Record) (node : Parts D EditList Record) → UpdateIs Quiet opening node
+      → ClosesSo udc.ghosts g limits (UpdateKeeps opening) opening node
+  update_closes opening node served =
+      update_keeps udc.ghosts g limits editor_of calls (HasServedAll status) editors editors' editors_met opening node
+      (update_as opening node served)
+
+  centre_closes : (centre : ℕ) → StoresChargesFirst (irc.ghosts (number centre)) → (olds news : List (DoorReport L))
+      (met : List (PortReport D F)) (opening : List CentreRecord) (node : Parts D CentreState CentreRecord)
+      → CentreIs Quiet centre olds news met opening node
+      → ClosesSo (irc.ghosts (number centre)) g limits (CentreKeeps centre olds news met opening) opening node
+  centre_closes centre law olds news met opening node served =
+      centre_keeps (irc.ghosts (number centre)) law g limits shown caller_of calls (HasServedAll status) olds news met opening node
+      (centre_as centre olds news met opening node served)
 
   pub server_ended : (limits' : Limits) → limits ≡ limits' → UpdateLaw → CentreLaw 0 → CentreLaw 1 → CentreLaw 2 → CentreLaw 3
       → (at : DiskPlaces D) → disks ≡ all_disks at → AreInOrder nodes → 1 ≤ centre_count nodes
@@ -167,40 +180,36 @@ module _ {D F L M : Type 0} (g : reports.Ghosts D) (left : (disk : D) → IfSome
           new_rows = rows.new_rows;
           met_rows = rows.met_rows;
         };
-        update = node_has_ended udc.ghosts g law left limits (UpdateIs Quiet) (UpdateIs (HasServedAll status)) (IsUpdateBrought g status)
-            (IsUpdateBrought g status) update_as (λ opening one serves. closing serves.closed.closed) (λ one end brought. brought.0)
+        update = node_has_ended udc.ghosts g law left limits (UpdateIs Quiet) UpdateKeeps (IsUpdateBrought g status)
+            (IsUpdateBrought g status) update_closes (λ one end brought. brought.0)
             (λ opening one end serves brought. brought) (HasNoDiskFault status) (λ one end brought. brought.2) (Some nodes.update) (λ o. o.node) (λ o. trail_records o.trail.items) at.update
             (Some closed.update) (Some ended.update) over ready served (back.update, update_rests, back.update_runs);
-        first = node_has_ended (irc.ghosts (number 0)) g law0 left limits (CentreIs Quiet 0 rows.olds.first rows.news.first rows.met.first)
-            (CentreIs (HasServedAll status) 0 rows.olds.first rows.news.first rows.met.first)
+        first = node_has_ended (irc.ghosts (number 0)) g law0.0 left limits (CentreIs Quiet 0 rows.olds.first rows.news.first rows.met.first)
+            (CentreKeeps 0 rows.olds.first rows.news.first rows.met.first)
             (WouldBeBrought g status 0 closed.update ended.update) (IsBrought g status 0 ended.update)
-            (centre_as 0 rows.olds.first rows.news.first rows.met.first)
-            (λ opening one serves. closing serves.closed.closed) (λ one end would. would.0)
+            (centre_closes 0 law0.1 rows.olds.first rows.news.first rows.met.first) (λ one end would. would.0)
             (λ opening one end serves would. is_brought g status 0 closed.update ended.update _ stands one end _ serves.closed.closed.stands
             would)
             (HasNoDiskFault status) (λ one end would. would.3) nodes.first (λ o. o.node) (λ o. trail_records o.trail.items) at.first closed.first ended.first over0 ready0 served0 back.first;
-        second = node_has_ended (irc.ghosts (number 1)) g law1 left limits (CentreIs Quiet 1 rows.olds.second rows.news.second rows.met.second)
-            (CentreIs (HasServedAll status) 1 rows.olds.second rows.news.second rows.met.second)
+        second = node_has_ended (irc.ghosts (number 1)) g law1.0 left limits (CentreIs Quiet 1 rows.olds.second rows.news.second rows.met.second)
+            (CentreKeeps 1 rows.olds.second rows.news.second rows.met.second)
             (WouldBeBrought g status 1 closed.update ended.update) (IsBrought g status 1 ended.update)
-            (centre_as 1 rows.olds.second rows.news.second rows.met.second)
-            (λ opening one serves. closing serves.closed.closed) (λ one end would. would.0)
+            (centre_closes 1 law1.1 rows.olds.second rows.news.second rows.met.second) (λ one end would. would.0)
             (λ opening one end serves would. is_brought g status 1 closed.update ended.update _ stands one end _ serves.closed.closed.stands
             would)
             (HasNoDiskFault status) (λ one end would. would.3) nodes.second (λ o. o.node) (λ o. trail_records o.trail.items) at.second closed.second ended.second over1 ready1 served1
             back.second;
-        third = node_has_ended (irc.ghosts (number 2)) g law2 left limits (CentreIs Quiet 2 rows.olds.third rows.news.third rows.met.third)
-            (CentreIs (HasServedAll status) 2 rows.olds.third rows.news.third rows.met.third)
+        third = node_has_ended (irc.ghosts (number 2)) g law2.0 left limits (CentreIs Quiet 2 rows.olds.third rows.news.third rows.met.third)
+            (CentreKeeps 2 rows.olds.third rows.news.third rows.met.third)
             (WouldBeBrought g status 2 closed.update ended.update) (IsBrought g status 2 ended.update)
-            (centre_as 2 rows.olds.third rows.news.third rows.met.third)
-            (λ opening one serves. closing serves.closed.closed) (λ one end would. would.0)
+            (centre_closes 2 law2.1 rows.olds.third rows.news.third rows.met.third) (λ one end would. would.0)
             (λ opening one end serves would. is_brought g status 2 closed.update ended.update _ stands one end _ serves.closed.closed.stands
             would)
             (HasNoDiskFault status) (λ one end would. would.3) nodes.third (λ o. o.node) (λ o. trail_records o.trail.items) at.third closed.third ended.third over2 ready2 served2 back.third;
-        fourth = node_has_ended (irc.ghosts (number 3)) g law3 left limits (CentreIs Quiet 3 rows.olds.fourth rows.news.fourth rows.met.fourth)
-            (CentreIs (HasServedAll status) 3 rows.olds.fourth rows.news.fourth rows.met.fourth)
+        fourth = node_has_ended (irc.ghosts (number 3)) g law3.0 left limits (CentreIs Quiet 3 rows.olds.fourth rows.news.fourth rows.met.fourth)
+            (CentreKeeps 3 rows.olds.fourth rows.news.fourth rows.met.fourth)
             (WouldBeBrought g status 3 closed.update ended.update) (IsBrought g status 3 ended.update)
-            (centre_as 3 rows.olds.fourth rows.news.fourth rows.met.fourth)
-            (λ opening one serves. closing serves.closed.closed) (λ one end would. would.0)
+            (centre_closes 3 law3.1 rows.olds.fourth rows.news.fourth rows.met.fourth) (λ one end would. would.0)
             (λ opening one end serves would. is_brought g status 3 closed.update ended.update _ stands one end _ serves.closed.closed.stands
             would)
             (HasNoDiskFault status) (λ one end would. would.3) nodes.fourth (λ o. o.node) (λ o. trail_records o.trail.items) at.fourth closed.fourth ended.fourth over3 ready3 served3

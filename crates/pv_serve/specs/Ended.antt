@@ -24,8 +24,9 @@ use Rattle.pv_udc.specs.contracts.rules.UdcRulesRules.TheImpl as udc
 use Rattle.pv_centres.specs.Opening.{DiskPlaces, all_disks, count_of, weigh}
 use Rattle.pv_centres.specs.Parts.{IfThere, PerCentre}
 use Rattle.pv_centres.specs.Rest.{AddsRecords, AddsRun, AreCarried, NextHasNoRoom, StandsOn, first_full}
-use Rattle.pv_centres.specs.Served.{CentreServed, ServesEachDoor, ServedRows, UpdateServed}
+use Rattle.pv_centres.specs.Served.{ServesEachDoor, ServedRows}
 use Rattle.pv_centres.specs.declared.nodes.Nodes.{Nodes}
+use Rattle.pv_serve.specs.Kept.{CentreKept, UpdateKept}
 use Rattle.pv_serve.specs.Serving.{HasNoDiskFault, HasServedAll, SaysFull}
 use Rattle.pv_serve.specs.declared.status.ServeStatus.{ServeStatus}
 
@@ -108,18 +109,18 @@ module _ {D F : Type 0} (g : reports.Ghosts D) (status : ServeStatus D F) where
 
 -- ---- the whole
 
--- A node from its disk on: it was opened with the records that the disk stood for, served so, and closed with those of a run after them.
--- Then it was brought what it lacked, and in the end it stands for all of these; so does each image that a crash may leave of its disk. Unless
--- a disk failed, what was brought goes on as a run, too.
+-- A node from its disk on: it was opened with the records that the disk stood for, and closed with those of a run after them, which is its
+-- log; by these it was served so. Then it was brought what it lacked, and in the end it stands for all of these; so does each image that a
+-- crash may leave of its disk. Unless a disk failed, what was brought goes on as a run, too.
 module _ {S State Request Rec Reply D : Type 0} (r : rules.Ghosts S State Request Rec Reply) (g : reports.Ghosts D) (limits : Limits)
-    (Serves : List Rec → Parts D State Rec → Type 0) (Brings : Parts D State Rec → Parts D State Rec → Type 0) (Held : Type 0) where
+    (Serves : List Rec → List (Entry Rec) → Parts D State Rec → Type 0) (Brings : Parts D State Rec → Parts D State Rec → Type 0) (Held : Type 0) where
   pub record HasEnded (disk : D) (ended : Parts D State Rec) : Type 0 where
     pub opening : List Rec
     pub opened : (records : List Rec) → DiskStands r g disk records → opening ≡ records
     pub closed : Parts D State Rec
-    pub served : Serves opening closed
     pub log : List (Entry Rec)
     pub run : IsRun r limits opening log
+    pub served : Serves opening log closed
     pub brought : Brings closed ended
     pub more : List Rec
     pub stands : StandsFor r g ended (with_opening opening log ++ more)
@@ -140,22 +141,22 @@ module _ {D F L M : Type 0} (g : reports.Ghosts D) (limits : Limits) (shown : Op
     pub callers_met : List (PortReport D F)
     pub editors_met : List (PortReport D F)
     pub rows : ServedRows (place_ports ports places) callers callers' callers_met
-    pub update : IfThere (HasEnded udc.ghosts g limits (λ opening closed. UpdateServed udc.ghosts g limits opening editor_of calls
+    pub update : IfThere (HasEnded udc.ghosts g limits (λ opening log closed. UpdateKept udc.ghosts limits opening editor_of log g calls
         (HasServedAll status) editors editors' editors_met closed) (IsUpdateBrought g status) (HasNoDiskFault status)) places.update (Some ended.update)
-    pub first : IfThere (HasEnded (irc.ghosts (number 0)) g limits (λ opening closed. CentreServed (irc.ghosts
-        (number 0)) g limits opening shown caller_of calls (HasServedAll status)
+    pub first : IfThere (HasEnded (irc.ghosts (number 0)) g limits (λ opening log closed. CentreKept (irc.ghosts
+        (number 0)) limits opening shown caller_of log g calls (HasServedAll status)
         rows.olds.first rows.news.first rows.met.first closed) (IsBrought g status 0 ended.update)
         (HasNoDiskFault status)) places.first ended.first
-    pub second : IfThere (HasEnded (irc.ghosts (number 1)) g limits (λ opening closed. CentreServed (irc.ghosts
-        (number 1)) g limits opening shown caller_of calls (HasServedAll status)
+    pub second : IfThere (HasEnded (irc.ghosts (number 1)) g limits (λ opening log closed. CentreKept (irc.ghosts
+        (number 1)) limits opening shown caller_of log g calls (HasServedAll status)
         rows.olds.second rows.news.second rows.met.second closed) (IsBrought g status 1 ended.update)
         (HasNoDiskFault status)) places.second ended.second
-    pub third : IfThere (HasEnded (irc.ghosts (number 2)) g limits (λ opening closed. CentreServed (irc.ghosts
-        (number 2)) g limits opening shown caller_of calls (HasServedAll status)
+    pub third : IfThere (HasEnded (irc.ghosts (number 2)) g limits (λ opening log closed. CentreKept (irc.ghosts
+        (number 2)) limits opening shown caller_of log g calls (HasServedAll status)
         rows.olds.third rows.news.third rows.met.third closed) (IsBrought g status 2 ended.update)
         (HasNoDiskFault status)) places.third ended.third
-    pub fourth : IfThere (HasEnded (irc.ghosts (number 3)) g limits (λ opening closed. CentreServed (irc.ghosts
-        (number 3)) g limits opening shown caller_of calls (HasServedAll status)
+    pub fourth : IfThere (HasEnded (irc.ghosts (number 3)) g limits (λ opening log closed. CentreKept (irc.ghosts
+        (number 3)) limits opening shown caller_of log g calls (HasServedAll status)
         rows.olds.fourth rows.news.fourth rows.met.fourth closed) (IsBrought g status 3 ended.update)
         (HasNoDiskFault status)) places.fourth ended.fourth
     pub callers_doors : ServesEachDoor calls callers callers' callers_met

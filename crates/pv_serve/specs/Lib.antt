@@ -1,5 +1,6 @@
 pub mod Ended
 pub mod Formatting
+pub mod Kept
 pub mod Options
 pub mod Serving
 pub mod Status

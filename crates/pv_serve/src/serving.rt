@@ -9,6 +9,7 @@ ghost use Rattle.pv_centres.specs.Ends.{SomeDoorEnd};
 ghost use Rattle.pv_centres.specs.Served.{SomeDoorRose, GiveBackMore};
 ghost use Rattle.pv_service.specs.Doors.{door_of};
 ghost use Rattle.pv_serve.specs.Ended.{AreHandedBack, ServerEnded};
+ghost use Rattle.pv_serve.specs.Kept.{StoresChargesFirst};
 ghost use Rattle.pv_serve.specs.Options.{AskToServe, AskNoServe};
 ghost use Rattle.pv_serve.specs.Serving.{ArePartsOf, EndsBy, HandsAllBack, HasServedAll, OnNodeFault, WasBegun, end_by_node, end_by_words, end_by_work, node_limits};
 ghost use Rattle.pv_serve.specs.Unopened.{IsUnreadable, IsUnserved};
@@ -21,6 +22,7 @@ use pv_edits::Record;
 use pv_irc::{CentreRecord, IrcRules};
 use pv_node::{NodeFault, Rules, image_stands_for_one_list};
 use pv_outside::{Clock, Disk, Door, Limits, MAX_FRAMES, MAX_RECORDS, Sink, Source, Spawner};
+use pv_ports::charges_are_stored_first;
 use pv_running::{ClosedNetwork, Plan, serve_nodes};
 use pv_service::Log;
 use pv_udc::UdcRules;
@@ -113,7 +115,8 @@ where
     ensures all { HandsAllBack result.status → (vec_len result.disks ≡ vec_len disks)
         × (vec_len result.callers ≡ vec_len callers) × (vec_len result.editors ≡ vec_len editors) }
 
-    // If a node was not opened nothing has become of them. Else each node was served from its disk on, and each door by its port.
+    // If a node was not opened nothing has become of them. Else each node was served from its disk on, and each door by its port;
+    // the closed list of a centre has each charge of each call, stored before the screen was sent.
     // A node is said to be full exactly if it is the first that is, and if all were served, what the nodes lacked is carried.
     ensures ends { EndsBy (IsUnserved D.Reports disks.items result.disks.items callers result.callers
         editors result.editors)
@@ -131,6 +134,7 @@ where
         Err(fault) => return Served::untouched(unasked(fault), disks, callers, editors),
     };
     images_stand_for_one_list::<D>();
+    charges_are_stored_first_at_each_centre();
     let threads = callers.len() + editors.len() + options.centres as usize;
     if spawner.start(threads).is_err() {
         return Served::untouched(ServeStatus::NoStart, disks, callers, editors);
@@ -234,6 +238,19 @@ fn images_stand_for_one_list<D: Disk>()
     image_stands_for_one_list::<IrcRules<1>>();
     image_stands_for_one_list::<IrcRules<2>>();
     image_stands_for_one_list::<IrcRules<3>>();
+}
+
+/// Laws: each charge that a call had stored is among the records that its pass has seen, whichever its centre is.
+fn charges_are_stored_first_at_each_centre()
+    ensures first { StoresChargesFirst ⟦<IrcRules<0> as Rules>⟧ }
+    ensures second { StoresChargesFirst ⟦<IrcRules<1> as Rules>⟧ }
+    ensures third { StoresChargesFirst ⟦<IrcRules<2> as Rules>⟧ }
+    ensures fourth { StoresChargesFirst ⟦<IrcRules<3> as Rules>⟧ }
+{
+    charges_are_stored_first::<0>();
+    charges_are_stored_first::<1>();
+    charges_are_stored_first::<2>();
+    charges_are_stored_first::<3>();
 }
 
 /// Brings the nodes of a network that was closed what they lack of each other, and hands everything back.

@@ -85,6 +85,7 @@ returns-in-Ok-serve_nodes-clause-ends g c =
     let served = c.in-Ok-serve_nodes.ensures in
     let rows = served.callers in
     let law = c.images_stand_for_one_list.ensures in
+    let charges = c.charges_are_stored_first_at_each_centre.ensures in
     let closed = c.in-Ok-serve_nodes.closed in
     let asked = c.in-Ok.ensures.ok in
     let parts = c.requires.parts c.in-Ok.options asked in
@@ -107,7 +108,8 @@ returns-in-Ok-serve_nodes-clause-ends g c =
       c.in-Ok.options,
       c.in-Ok.ensures.ok,
       server_ended g.D.Reports law.left c.node_limits-limits.result _ _ _ _ _ _ _ _ _ _ _ _ _ _ c.in-Ok-open_nodes.nodes
-          closed.nodes rows.0 (AreQuiet closed.carriers_met.items) c.close.ensures.carriers node_limits c.node_limits-limits.ensures law.update law.first law.second law.third law.fourth over.0 over.1
+          closed.nodes rows.0 (AreQuiet closed.carriers_met.items) c.close.ensures.carriers node_limits c.node_limits-limits.ensures law.update (law.first, charges.first) (law.second, charges.second)
+          (law.third, charges.third) (law.fourth, charges.fourth) over.0 over.1
           opened.order some over.2 over.3 over.4 over.5 over.6 opened.update opened.first opened.second opened.third opened.fourth
           served.update rows.1
           rows.2 rows.3 rows.4 served.callers_doors served.editors_doors
