@@ -1,3 +1,7 @@
+//! The opening of a network's nodes for its ports and carriers.
+//!
+//! Where it fails, what is there already is dropped by name. Left to fall out of scope it is dropped field by field, and a
+//! proof goes through each of them.
 ghost use Rattle.std.specs.Prelude.{◌≡◌, ◌+◌, ◌*◌, ◌++◌, ◌<◌, ◌≤◌, All, length, map, vec_len, IfOk, IfSome, IsSome, None};
 ghost use Rattle.std.specs.Vec.Iter.{into_iter_items};
 ghost use Rattle.pv_edits.specs.Taken.{IsCentre};
@@ -18,6 +22,7 @@ use pv_outside::{Disk, Door};
 use pv_service::EditorStand;
 use pv_udc::UdcRules;
 use std::alloc::{AllocError, Global};
+use std::mem;
 use std::sync::Wait;
 use std::vec::IntoIter;
 
@@ -146,7 +151,16 @@ fn open_next<
         ≡ map (λ s. s.door.value) centre.callers.items ++ into_iter_items doors.new) }
     ensures waiting { All (λ d. O.accepted d < MAX_ACCEPTED) (into_iter_items doors.new) }
 {
-    let next = next_doors(alloc, doors, plan.ports)?;
+    let next = match next_doors(alloc, doors, plan.ports) {
+        Ok(next) => next,
+        Err(error) => {
+            mem::drop(node);
+            mem::drop(start);
+            mem::drop(udc);
+            mem::drop(rt);
+            return Err(error);
+        }
+    };
     let centre = open_centre(rt, alloc, node, start, udc, next, plan.calls)?;
     Ok(centre)
 }
@@ -229,7 +243,6 @@ struct OpenPair<
 
 /// Opens two centres, as far as the network has them, for the next doors.
 fn open_pair<
-    'a,
     const A: u8,
     const B: u8,
     U: Run<Record>,
@@ -237,9 +250,9 @@ fn open_pair<
     NB: Run<CentreRecord>,
     D: Disk + Drop,
     O: Door + Drop,
-    R: Wait,
+    H: Wait + Copy + Drop,
 >(
-    rt: &'a R,
+    rt: H,
     alloc: Global,
     one: Option<Opened<IrcRules<A>, D>>,
     one_start: Start<CentreRecord>,
@@ -248,7 +261,7 @@ fn open_pair<
     udc: &mut Vec<Pass<UdcRules, U>>,
     doors: &mut IntoIter<O>,
     plan: Plan,
-) -> Result<OpenPair<A, B, U, NA, NB, D, O, &'a R>, AllocError>
+) -> Result<OpenPair<A, B, U, NA, NB, D, O, H>, AllocError>
     requires centres { IsCentre A × IsCentre B }
     requires one { IfSome one
         (λ o. IsReady ⟦<IrcRules<A> as Rules>⟧ D.Reports NA.opening NA.limits o.node) }
@@ -294,9 +307,21 @@ fn open_pair<
         ≡ length (into_iter_items doors.old)) }
     ensures waiting { All (λ d. O.accepted d < MAX_ACCEPTED) (into_iter_items doors.new) }
 {
-    let one = open_if_there(rt, alloc, one, one_start, udc, doors, plan)?;
-    let other = open_if_there(rt, alloc, other, other_start, udc, doors, plan)?;
-    Ok(OpenPair { one, other })
+    let one = match open_if_there(rt, alloc, one, one_start, udc, doors, plan) {
+        Ok(one) => one,
+        Err(error) => {
+            mem::drop(other);
+            mem::drop(other_start);
+            return Err(error);
+        }
+    };
+    match open_if_there(rt, alloc, other, other_start, udc, doors, plan) {
+        Ok(other) => Ok(OpenPair { one, other }),
+        Err(error) => {
+            mem::drop(one);
+            Err(error)
+        }
+    }
 }
 
 /// The centres of a network at work.
@@ -317,9 +342,7 @@ struct OpenCentres<
     fourth: OpenCentre<3, U, N3, D, O, H>,
 }
 
-/// Opens those centres that the network has, each with its part of the doors and a pass of the Update Centre.
-fn open_centres<
-    'a,
+impl<
     U: Run<Record>,
     N0: Run<CentreRecord>,
     N1: Run<CentreRecord>,
@@ -327,9 +350,86 @@ fn open_centres<
     N3: Run<CentreRecord>,
     D: Disk + Drop,
     O: Door + Drop,
-    R: Wait,
+    H: Wait + Drop,
+> OpenCentres<U, N0, N1, N2, N3, D, O, H> {
+    /// The network of these centres and the Update Centre, with its editors' stands. So many passes has each node.
+    fn with_update<E: Door + Drop>(
+        self,
+        update: Box<Live<UdcRules, D, U, H>>,
+        editors: Vec<EditorStand<U, D, E>>,
+        update_passes: usize,
+        centre_passes: usize,
+    ) -> OpenNetwork<U, N0, N1, N2, N3, D, O, E, H>
+        ensures { result ≡ record {
+          update = update;
+          centres = record {
+            first = self.first.live;
+            second = self.second.live;
+            third = self.third.live;
+            fourth = self.fourth.live;
+          };
+          ports = record {
+            first = self.first.callers;
+            second = self.second.callers;
+            third = self.third.callers;
+            fourth = self.fourth.callers;
+            editors = editors;
+          };
+          carriers = record {
+            first = self.first.carrier;
+            second = self.second.carrier;
+            third = self.third.carrier;
+            fourth = self.fourth.carrier;
+          };
+          update_passes = update_passes;
+          centre_passes = centre_passes;
+        } }
+    {
+        let OpenCentres {
+            first,
+            second,
+            third,
+            fourth,
+        } = self;
+        OpenNetwork {
+            update,
+            centres: Lives {
+                first: first.live,
+                second: second.live,
+                third: third.live,
+                fourth: fourth.live,
+            },
+            ports: AllPorts {
+                first: first.callers,
+                second: second.callers,
+                third: third.callers,
+                fourth: fourth.callers,
+                editors,
+            },
+            carriers: AllCarriers {
+                first: first.carrier,
+                second: second.carrier,
+                third: third.carrier,
+                fourth: fourth.carrier,
+            },
+            update_passes,
+            centre_passes,
+        }
+    }
+}
+
+/// Opens those centres that the network has, each with its part of the doors and a pass of the Update Centre.
+fn open_centres<
+    U: Run<Record>,
+    N0: Run<CentreRecord>,
+    N1: Run<CentreRecord>,
+    N2: Run<CentreRecord>,
+    N3: Run<CentreRecord>,
+    D: Disk + Drop,
+    O: Door + Drop,
+    H: Wait + Copy + Drop,
 >(
-    rt: &'a R,
+    rt: H,
     alloc: Global,
     first: Option<Opened<IrcRules<0>, D>>,
     first_start: Start<CentreRecord>,
@@ -342,7 +442,7 @@ fn open_centres<
     udc: &mut Vec<Pass<UdcRules, U>>,
     doors: Vec<O>,
     plan: Plan,
-) -> Result<OpenCentres<U, N0, N1, N2, N3, D, O, &'a R>, AllocError>
+) -> Result<OpenCentres<U, N0, N1, N2, N3, D, O, H>, AllocError>
     requires first { IfSome first
         (λ o. IsReady ⟦<IrcRules<0> as Rules>⟧ D.Reports N0.opening N0.limits o.node) }
     requires second { IfSome second
@@ -416,10 +516,7 @@ fn open_centres<
         (λ s. s.door.value) n.fourth.callers.items)) ≡ doors.items) }
 {
     let mut doors = doors.into_iter();
-    let OpenPair {
-        one: first,
-        other: second,
-    } = open_pair(
+    let (first, second) = match open_pair(
         rt,
         alloc,
         first,
@@ -429,11 +526,17 @@ fn open_centres<
         udc,
         &mut doors,
         plan,
-    )?;
-    let OpenPair {
-        one: third,
-        other: fourth,
-    } = open_pair(
+    ) {
+        Ok(OpenPair { one, other }) => (one, other),
+        Err(error) => {
+            mem::drop(third);
+            mem::drop(third_start);
+            mem::drop(fourth);
+            mem::drop(fourth_start);
+            return Err(error);
+        }
+    };
+    match open_pair(
         rt,
         alloc,
         third,
@@ -443,13 +546,19 @@ fn open_centres<
         udc,
         &mut doors,
         plan,
-    )?;
-    Ok(OpenCentres {
-        first,
-        second,
-        third,
-        fourth,
-    })
+    ) {
+        Ok(OpenPair { one, other }) => Ok(OpenCentres {
+            first,
+            second,
+            third: one,
+            fourth: other,
+        }),
+        Err(error) => {
+            mem::drop(first);
+            mem::drop(second);
+            Err(error)
+        }
+    }
 }
 
 /// A row of new stands for editors: one for each door, with a pass that was used for nothing.
@@ -473,6 +582,30 @@ fn fresh_editors<U: Run<Record>, D: Disk, E: Door + Drop>(
     Ok(stands)
 }
 
+/// Opens the Update Centre, with as many new passes as it is to have.
+fn open_update<U: Run<Record>, D: Disk + Drop, H: Wait + Drop>(
+    rt: H,
+    alloc: Global,
+    node: Node<UdcRules, D>,
+    passes: usize,
+    start: Start<Record>,
+) -> Result<(Box<Live<UdcRules, D, U, H>>, Vec<Pass<UdcRules, U>>), AllocError>
+    requires ready { IsReady ⟦<UdcRules as Rules>⟧ D.Reports U.opening U.limits node }
+    requires passes { (passes ≡ U.passes) × IsPassCount passes }
+    requires start { start ≡ record {
+      book = U.book;
+      told = U.told;
+      failed = U.failed;
+      passes = U.passes;
+    } }
+    ensures new { IfOk result (λ r. All IsNewPass r.1.items) }
+    ensures count { IfOk result (λ r. vec_len r.1 ≡ passes) }
+{
+    let (live, passes) = open_live::<UdcRules, D, U, H>(rt, alloc, node, passes, start)?;
+    let live = Box::new(alloc, live)?;
+    Ok((live, passes))
+}
+
 /// Opens the nodes of a network for their editors and callers, under the names of their runs.
 pub(crate) fn open_network<
     U: Run<Record>,
@@ -483,16 +616,16 @@ pub(crate) fn open_network<
     D: Disk + Drop,
     O: Door + Drop,
     E: Door + Drop,
-    R: Wait,
+    H: Wait + Copy + Drop,
 >(
-    rt: &R,
+    rt: H,
     alloc: Global,
     nodes: OpenedNodes<D>,
     starts: Starts,
     callers: Vec<O>,
     editors: Vec<E>,
     plan: Plan,
-) -> Result<OpenNetwork<U, N0, N1, N2, N3, D, O, E, &R>, AllocError>
+) -> Result<OpenNetwork<U, N0, N1, N2, N3, D, O, E, H>, AllocError>
     requires update { IsReady ⟦<UdcRules as Rules>⟧ D.Reports U.opening U.limits nodes.update.node }
     requires first { IfSome nodes.first
         (λ o. IsReady ⟦<IrcRules<0> as Rules>⟧ D.Reports N0.opening N0.limits o.node) }
@@ -580,56 +713,76 @@ pub(crate) fn open_network<
         third,
         fourth,
     } = nodes;
-    let (live, mut passes) = open_live::<UdcRules, D, U, &R>(
+    let Starts {
+        update: start,
+        first: first_start,
+        second: second_start,
+        third: third_start,
+        fourth: fourth_start,
+    } = starts;
+    let (update, mut passes) = match open_update::<U, D, H>(
         rt,
         alloc,
         update.node,
         passes_of_update,
-        starts.update,
-    )?;
-    let OpenCentres {
-        first,
-        second,
-        third,
-        fourth,
-    } = open_centres(
+        start,
+    ) {
+        Ok((update, passes)) => (update, passes),
+        Err(error) => {
+            mem::drop(first);
+            mem::drop(first_start);
+            mem::drop(second);
+            mem::drop(second_start);
+            mem::drop(third);
+            mem::drop(third_start);
+            mem::drop(fourth);
+            mem::drop(fourth_start);
+            mem::drop(callers);
+            mem::drop(editors);
+            return Err(error);
+        }
+    };
+    let centres = match open_centres(
         rt,
         alloc,
         first,
-        starts.first,
+        first_start,
         second,
-        starts.second,
+        second_start,
         third,
-        starts.third,
+        third_start,
         fourth,
-        starts.fourth,
+        fourth_start,
         &mut passes,
         callers,
         plan,
-    )?;
-    let editors = fresh_editors(alloc, passes, editors, plan.calls)?;
-    Ok(OpenNetwork {
-        update: Box::new(alloc, live)?,
-        centres: Lives {
-            first: first.live,
-            second: second.live,
-            third: third.live,
-            fourth: fourth.live,
+    ) {
+        Ok(
+            OpenCentres {
+                first,
+                second,
+                third,
+                fourth,
+            },
+        ) => OpenCentres {
+            first,
+            second,
+            third,
+            fourth,
         },
-        ports: AllPorts {
-            first: first.callers,
-            second: second.callers,
-            third: third.callers,
-            fourth: fourth.callers,
-            editors,
-        },
-        carriers: AllCarriers {
-            first: first.carrier,
-            second: second.carrier,
-            third: third.carrier,
-            fourth: fourth.carrier,
-        },
-        update_passes: passes_of_update,
-        centre_passes: plan.ports + 1,
-    })
+        Err(error) => {
+            mem::drop(update);
+            mem::drop(passes);
+            mem::drop(editors);
+            return Err(error);
+        }
+    };
+    match fresh_editors(alloc, passes, editors, plan.calls) {
+        Ok(editors) => Ok(centres.with_update(update, editors, passes_of_update, plan.ports + 1)),
+        Err(error) => {
+            mem::drop(update);
+            mem::drop(centres);
+            Err(error)
+        }
+    }
 }

@@ -211,7 +211,7 @@ where
 {
     let _ = limits;
     let ports = editors.len() + callers.len();
-    let mut network = open_network::<U, N0, N1, N2, N3, D, O, E, R>(
+    let mut network = open_network::<U, N0, N1, N2, N3, D, O, E, &R>(
         rt, alloc, nodes, starts, callers, editors, plan,
     )?;
     let signals = Signals::new(ports as u64);

@@ -1,12 +1,6 @@
 use Rattle.std.proofs.Common.{◌+◌, sym, ◌∙◌}
 use Rattle.pv_running.proofs.Ports.{all_of_them}
-use Rattle.pv_centres.proofs.Served.{all_new}
 use Rattle.pv_running.proofs.network.open_network.Goals as goal
-
--- the passes of the opening are new
-pub open_centres-requires-clause-new_udc : goal.open_centres-requires-clause-new_udc
-open_centres-requires-clause-new_udc g c κs within =
-    all_new c.in_ok-live.passes.items (c.len.result + c.centres.result) c.in_ok-live.ensures.passes
 
 -- each centre has its doors
 pub open_centres-requires-clause-doors : goal.open_centres-requires-clause-doors
