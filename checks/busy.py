@@ -10,6 +10,7 @@ from collections import Counter
 from concurrent.futures import ThreadPoolExecutor
 
 from journals import Centre, UpdateCentre
+from people import account_at, editor_at, prepare
 from serving import MEMORY, Place
 from viewdata import Page
 
@@ -20,36 +21,9 @@ SECONDS, TURNS = 60, 6
 PAGES = [(Page(10 * at), Page(10 * at + 1, at)) for at in range(1, EDITORS + 1)]
 
 
-def account_at(centre, port):
-    return 1_000_000_001 + 100 * centre + port
-
-
-def editor_at(at):
-    return 2_000_000_001 + at
-
-
 def number_of(at, version):
     """The number of the edit by which an editor stores this version of his page `at`: he stores his two pages by turns."""
     return 2 * version - 1 + at
-
-
-def prepare(place):
-    """The accounts of all callers and editors, and the first version of each page: a server that has ended has them at every centre."""
-    server = place.server(centres=CENTRES)
-    operator = server.editor()
-    callers = [f"{account_at(centre, port)} ABCD {centre} -" for centre in range(CENTRES) for port in range(PORTS)]
-    accounts = [*callers, *(f"{editor_at(at)} NEWS 0 -" for at in range(EDITORS))]
-    replies = operator.says(*(f"ACCOUNT {number} {account}" for number, account in enumerate(accounts, 1)))
-    for at, pages in enumerate(PAGES):
-        for page in pages:
-            number = len(replies) + 1
-            replies += operator.says(f"LEASE {number} {page.number} {editor_at(at)}")
-    for at, pages in enumerate(PAGES):
-        operator.says(f"LOGON {editor_at(at)} NEWS")
-        replies += [operator.store(number_of(which, 1), page, 1) for which, page in enumerate(pages)]
-    for centre in range(CENTRES):
-        server.caller(centre).hang_up()
-    return replies == [f"OK {at}" for at in range(len(replies))] and operator.quits() and server.end() == ("", "", 0)
 
 
 class Evening:
@@ -155,7 +129,7 @@ def kept_once(place, evening):
 def an_evening(program):
     """Sixteen callers at each of four centres and four editors, all at once, for a minute."""
     with Place(program, CENTRES, MEMORY) as place:
-        yield "an evening: accounts and first versions are at every centre", prepare(place)
+        yield "an evening: accounts and first versions are at every centre", prepare(place, PORTS, PAGES)
         evening = Evening(place.server(centres=CENTRES, ports=PORTS, editors=EDITORS, calls=TURNS))
         with ThreadPoolExecutor(EDITORS + CENTRES * PORTS) as pool:
             jobs = [pool.submit(evening.edits, at) for at in range(EDITORS)]

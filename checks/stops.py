@@ -7,6 +7,7 @@ import time
 from concurrent.futures import ThreadPoolExecutor
 
 from journals import Centre, UpdateCentre, bodies
+from people import account_at, editor_at, prepare
 from serving import MEMORY, Place
 from viewdata import Page
 
@@ -17,31 +18,6 @@ SHORTEST, LONGEST = 0.15, 0.75
 # How long a caller or an editor waits before he asks for more, so that no node gets full.
 PAUSE = 0.003
 PAGES = [Page(10 * at, at) for at in range(1, EDITORS + 1)]
-
-
-def account_at(centre, port):
-    return 1_000_000_001 + 100 * centre + port
-
-
-def editor_at(at):
-    return 2_000_000_001 + at
-
-
-def prepare(place):
-    """The accounts of all callers and editors, with a page for each editor: a server that has ended has them at every centre."""
-    server = place.server(centres=CENTRES)
-    operator = server.editor()
-    callers = [f"{account_at(centre, port)} ABCD {centre} -" for centre in range(CENTRES) for port in range(PORTS)]
-    accounts = [*callers, *(f"{editor_at(at)} NEWS 0 -" for at in range(EDITORS))]
-    replies = operator.says(*(f"ACCOUNT {number} {account}" for number, account in enumerate(accounts, 1)))
-    for at, page in enumerate(PAGES):
-        replies += operator.says(f"LEASE {len(replies) + 1} {page.number} {editor_at(at)}")
-    for at, page in enumerate(PAGES):
-        operator.says(f"LOGON {editor_at(at)} NEWS")
-        replies.append(operator.store(1, page, 1))
-    for centre in range(CENTRES):
-        server.caller(centre).hang_up()
-    return replies == [f"OK {at}" for at in range(len(replies))] and operator.quits() and server.end() == ("", "", 0)
 
 
 class Told:
@@ -118,7 +94,7 @@ def is_brought(place):
 def stops(program):
     """A server that is killed at any moment loses nothing that it has acknowledged, and charges nothing twice."""
     with Place(program, CENTRES, MEMORY) as place:
-        yield "stops: accounts and pages are at every centre", prepare(place)
+        yield "stops: accounts and pages are at every centre", prepare(place, PORTS, [[page] for page in PAGES])
         told, records = Told(), [counts(place)]
         for _ in range(KILLS):
             records.append(killed(place, told))
