@@ -77,12 +77,26 @@ fn an_account_is_read_as_it_is_spelled(rt: HostRuntime) {
 }
 
 #[test]
+fn each_prefix_is_no_account_and_is_left(rt: HostRuntime) {
+    for end in 0..SPELLING.len() {
+        let mut bytes = In::new(&SPELLING[..end]);
+        let read = Account::decode(&mut bytes);
+        assert_eq!(rt; (read, bytes.left()), (None, end));
+    }
+}
+
+#[test]
 fn another_byte_is_another_account_or_none(rt: HostRuntime) {
     let account = account();
     for at in 0..SPELLING.len() {
-        let mut bytes = SPELLING;
-        bytes[at] ^= 1;
-        assert!(rt; Account::decode(&mut In::new(&bytes)) != account);
+        for by in 1..=u8::MAX {
+            let mut bytes = SPELLING;
+            bytes[at] ^= by;
+            assert!(rt;
+                Account::decode(&mut In::new(&bytes)) != account,
+                "{by} at {at}"
+            );
+        }
     }
 }
 

@@ -46,9 +46,23 @@ fn a_line_is_read_before_other_bytes(rt: HostRuntime) {
 
 #[test]
 fn a_part_of_a_line_is_none_and_is_left(rt: HostRuntime) {
-    let mut bytes = In::new(&SPELLING[..LINE_BYTES - 1]);
-    let read = Line::decode(&mut bytes);
-    assert_eq!(rt; (read, bytes.left()), (None, LINE_BYTES - 1));
+    for end in 0..LINE_BYTES {
+        let mut bytes = In::new(&SPELLING[..end]);
+        let read = Line::decode(&mut bytes);
+        assert_eq!(rt; (read, bytes.left()), (None, end));
+    }
+}
+
+#[test]
+fn another_byte_is_another_line_or_none(rt: HostRuntime) {
+    let line = line();
+    for at in 0..LINE_BYTES {
+        for by in 1..=u8::MAX {
+            let mut bytes = SPELLING;
+            bytes[at] ^= by;
+            assert!(rt; Line::decode(&mut In::new(&bytes)) != line, "{by} at {at}");
+        }
+    }
 }
 
 /// A byte of the spelling, and a value that makes it no line's.
