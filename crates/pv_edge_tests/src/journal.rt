@@ -4,7 +4,7 @@ ghost use Rattle.pv_journal.specs.Log.{IsAtRest};
 use pv_journal::{AppendFault, Journal, MAX_BODY, OpenFault, format};
 use pv_memory::MemDisk;
 use pv_outside::{Disk, Failed, Fused, Limits};
-use std::alloc::Global;
+use std::alloc::{AllocError, Global};
 use std::test::Fail;
 
 /// A fault of opening a disk in memory.
@@ -176,6 +176,63 @@ fn each_prefix_of_a_journal_is_read_as_far_as_it_goes(rt: HostRuntime) -> Result
     }
     let bodies = bodies_of(rt.alloc(), disk_of(rt.alloc(), THREE, &[])?)?;
     assert_eq!(rt; bodies.as_slice(), b"A.BC.DEF.".as_slice());
+    Ok(())
+}
+
+/// What is read of [`ONE`] with another byte at a place: the bodies, each with a `.` after it, and the fault.
+fn reading_with(alloc: Global, at: usize, byte: u8) -> Result<(Vec<u8>, Option<Fault>), Fail> {
+    let mut bytes = Vec::from_slice(alloc, ONE)?;
+    change(&mut bytes, at, byte);
+    reading_of(alloc, disk_of(alloc, &bytes, &[])?)
+}
+
+/// Puts another byte at a place, if there is one.
+fn change(bytes: &mut [u8], at: usize, byte: u8) {
+    if let Some(changed) = bytes.get_mut(at) {
+        *changed = byte;
+    }
+}
+
+/// The mark with another byte at a place.
+fn mark_with(at: usize, byte: u8) -> [u8; 8] {
+    let mut mark = *b"PVJOURN1";
+    change(&mut mark, at, byte);
+    mark
+}
+
+/// What is to be read of [`ONE`] with another byte at a place, by the part that the byte belongs to: the mark, the gate, the
+/// length, the body, and the gate after it.
+fn wanted_with(alloc: Global, at: usize, byte: u8) -> Result<(Vec<u8>, Option<Fault>), AllocError> {
+    let none: &[u8] = b"";
+    let first = [byte, b'B', b'.'];
+    let second = [b'A', byte, b'.'];
+    let (bodies, fault): (&[u8], Option<Fault>) = match (at, byte) {
+        (0..8, _) => (none, Some(Fault::NotFormatted(mark_with(at, byte)))),
+        // A gate that is not open is closed.
+        (8, _) => (none, None),
+        // The body is shorter, and the gate after it is closed; or it takes that gate in, and no byte comes after it.
+        (10, 1) => (b"A.", None),
+        (10, 3) => (b"AB\0.", Some(Fault::Broken { at: 14 })),
+        (9..11, _) => (none, Some(Fault::Broken { at: 8 })),
+        (11, _) => (&first, None),
+        (12, _) => (&second, None),
+        // The gate after it is open, with no body.
+        (_, 1) => (b"AB.", Some(Fault::Broken { at: 13 })),
+        (_, _) => (b"AB.", None),
+    };
+    Ok((Vec::from_slice(alloc, bodies)?, fault))
+}
+
+#[test]
+fn each_other_byte_is_read_by_the_part_that_it_belongs_to(rt: HostRuntime) -> Result<(), Fail> {
+    for at in 0..ONE.len() {
+        for by in 1..=u8::MAX {
+            let byte = ONE[at] ^ by;
+            let read = reading_with(rt.alloc(), at, byte)?;
+            let wanted = wanted_with(rt.alloc(), at, byte)?;
+            assert_eq!(rt; read, wanted, "{byte} at {at}");
+        }
+    }
     Ok(())
 }
 
