@@ -258,6 +258,30 @@ fn one_changed_byte_has_the_error_of_what_it_breaks(rt: HostRuntime) {
     }
 }
 
+/// Each bit of a byte.
+const BITS: [u8; 8] = [1, 2, 4, 8, 16, 32, 64, 128];
+
+/// The first byte of the spelled frame of which a bit can be another one without the frame being another one or none.
+fn first_unread() -> Option<usize> {
+    let whole = spelled();
+    let frame = Frame::decode(&whole);
+    for at in 0..whole.len() {
+        for bit in BITS {
+            let mut bytes = whole;
+            bytes[at] ^= bit;
+            if Frame::decode(&bytes) == frame {
+                return Some(at);
+            }
+        }
+    }
+    None
+}
+
+#[test]
+fn another_bit_is_another_frame_or_none(rt: HostRuntime) {
+    assert_eq!(rt; first_unread(), None);
+}
+
 #[test]
 fn of_two_errors_the_first_is_returned(rt: HostRuntime) {
     let rows: [(&[(usize, u8)], FrameCodecError); 10] = [

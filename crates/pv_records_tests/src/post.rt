@@ -95,13 +95,55 @@ fn a_letter_has_cells_that_can_be_keyed_and_all_of_them(rt: HostRuntime) {
     assert_eq!(rt; Item::decode(&mut In::new(&MAIL_HEAD)), None);
 }
 
+/// The first prefix of an item's spelling of which something is read.
+fn first_read(bytes: &[u8]) -> Option<usize> {
+    for end in 0..bytes.len() {
+        let mut reader = In::new(&bytes[..end]);
+        if Item::decode(&mut reader).is_some() || reader.left() != end {
+            return Some(end);
+        }
+    }
+    None
+}
+
 #[test]
-fn another_byte_is_another_reply_or_none(rt: HostRuntime) -> Result<(), Fail> {
-    let item = reply();
-    for at in 0..REPLY.len() {
-        let mut bytes = REPLY;
-        bytes[at] ^= 1;
-        assert!(rt; Item::decode(&mut In::new(&bytes)) != item);
+fn each_prefix_is_no_item_and_is_left(rt: HostRuntime) {
+    let letter = letter_bytes(b'~');
+    let spellings: [&[u8]; 3] = [&REPLY, &CHARGE, &letter];
+    for bytes in spellings {
+        assert_eq!(rt; first_read(bytes), None, "{bytes:?}");
+    }
+}
+
+/// Puts another byte at a place, if there is one.
+fn change(bytes: &mut [u8], at: usize, byte: u8) {
+    if let Some(changed) = bytes.get_mut(at) {
+        *changed = byte;
+    }
+}
+
+/// The first byte of an item's spelling that can be another one without the item being another one or none.
+fn first_unread(alloc: Global, bytes: &[u8]) -> Result<Option<usize>, Fail> {
+    let item = Item::decode(&mut In::new(bytes));
+    let mut other = Vec::from_slice(alloc, bytes)?;
+    for (at, byte) in bytes.iter().enumerate() {
+        for by in 1..=u8::MAX {
+            change(&mut other, at, *byte ^ by);
+            if Item::decode(&mut In::new(&other)) == item {
+                return Ok(Some(at));
+            }
+        }
+        change(&mut other, at, *byte);
+    }
+    Ok(None)
+}
+
+#[test]
+fn another_byte_is_another_item_or_none(rt: HostRuntime) -> Result<(), Fail> {
+    let letter = letter_bytes(b'~');
+    let spellings: [&[u8]; 3] = [&REPLY, &CHARGE, &letter];
+    for bytes in spellings {
+        assert_eq!(rt; first_unread(rt.alloc(), bytes)?, None, "{bytes:?}");
     }
     Ok(())
 }
