@@ -6,6 +6,7 @@ use pv_frame::{CheckedFrame, Frame};
 use pv_outside::Limits;
 use pv_page::{AccountNo, FrameName, PageNo};
 use pv_post::{Item, Letter, Mailboxes, TEXT_CELLS};
+use std::alloc::Global;
 use std::test::Fail;
 
 /// A lease of page 12 to account 1000000001, by the operator.
@@ -143,12 +144,74 @@ fn a_put_takes_a_frame_and_no_byte_more(rt: HostRuntime) -> Result<(), Fail> {
     Ok(())
 }
 
+/// How many bytes the longest of these records has: one that puts a frame without fields.
+const LONGEST: usize = 968;
+
+/// A record of each kind.
+fn each_kind() -> [Option<Record>; 5] {
+    [put(), drop(), new_account(), lease(), taken()]
+}
+
+/// The spelling of a record.
+fn spelled(alloc: Global, record: Option<Record>) -> Result<Vec<u8>, Fail> {
+    let mut slice = [0xee; LONGEST];
+    let mut out = Out::new(&mut slice);
+    record.ok_or("a record")?.encode(&mut out)?;
+    let written = out.written();
+    Ok(Vec::from_slice(alloc, &slice[..written])?)
+}
+
+/// The first prefix of a record's spelling that is read as a record.
+fn first_read(bytes: &[u8]) -> Option<usize> {
+    for end in 0..bytes.len() {
+        if Record::decode(&bytes[..end]).is_some() {
+            return Some(end);
+        }
+    }
+    None
+}
+
+#[test]
+fn each_prefix_is_no_record(rt: HostRuntime) -> Result<(), Fail> {
+    for record in each_kind() {
+        let bytes = spelled(rt.alloc(), record)?;
+        assert_eq!(rt; Record::decode(&bytes), record);
+        assert_eq!(rt; first_read(&bytes), None);
+    }
+    Ok(())
+}
+
+/// Puts another byte at a place, if there is one.
+fn change(bytes: &mut [u8], at: usize, byte: u8) {
+    if let Some(changed) = bytes.get_mut(at) {
+        *changed = byte;
+    }
+}
+
+/// Each bit of a byte.
+const BITS: [u8; 8] = [1, 2, 4, 8, 16, 32, 64, 128];
+
+/// The first byte of a record's spelling of which a bit can be another one without the record being another one or none.
+fn first_unread(alloc: Global, bytes: &[u8]) -> Result<Option<usize>, Fail> {
+    let record = Record::decode(bytes);
+    let mut other = Vec::from_slice(alloc, bytes)?;
+    for (at, byte) in bytes.iter().enumerate() {
+        for bit in BITS {
+            change(&mut other, at, *byte ^ bit);
+            if Record::decode(&other) == record {
+                return Ok(Some(at));
+            }
+        }
+        change(&mut other, at, *byte);
+    }
+    Ok(None)
+}
+
 #[test]
 fn another_byte_is_another_record_or_none(rt: HostRuntime) -> Result<(), Fail> {
-    for at in 0..TAKEN.len() {
-        let mut bytes = TAKEN;
-        bytes[at] ^= 1;
-        assert!(rt; Record::decode(&bytes) != taken());
+    for record in each_kind() {
+        let bytes = spelled(rt.alloc(), record)?;
+        assert_eq!(rt; first_unread(rt.alloc(), &bytes)?, None, "{bytes:?}");
     }
     Ok(())
 }
