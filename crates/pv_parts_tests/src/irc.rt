@@ -1,9 +1,13 @@
+use super::bytes::change;
+use pv_charge::Line;
 use pv_edits::{DownRecord, Record};
 use pv_frame::{CheckedFrame, Frame};
 use pv_irc::{CentreRecord, IrcReply, IrcRequest, IrcState};
 use pv_node::Decision;
 use pv_outside::Limits;
 use pv_page::{AccountNo, FrameName};
+use pv_post::Item;
+use std::alloc::Global;
 use std::test::Fail;
 
 /// Room for one frame and one record.
@@ -76,27 +80,60 @@ fn a_letter_that_does_not_wait_is_not_removed(rt: HostRuntime) -> Result<(), Fai
     Ok(())
 }
 
+/// Record 9 of the edit list, which does not go down whole.
+const BLANK: &[u8] = b"\x01\0\0\0\0\0\0\0\x09\x06";
+
+/// Record 9: the operator's second edit drops frame 12a.
+const DROP: &[u8] = b"\x01\0\0\0\0\0\0\0\x09\x02\0\0\0\0\0\0\0\0\0\0\0\x02\0\0\0\x0ca";
+
+/// Account 5 logs on.
+const LOG_ON: &[u8] = b"\x02\0\0\0\0\0\0\0\x05";
+
+/// A charge of 25 pence to account 5 for frame 40a.
+const CHARGE: &[u8] =
+    b"\x03\x01\0\0\0\0\0\0\0\x07\0\0\0\x03\0\0\0\0\0\0\0\x05\0\0\0\x28a\0\x19\0\0\0\x09";
+
+/// Letter 9 of account 5 is removed.
+const REMOVAL: &[u8] = b"\x04\0\0\0\0\0\0\0\x05\0\0\0\0\0\0\0\x09";
+
+/// A record of each kind, and one applied that is not whole.
+const KINDS: [&[u8]; 5] = [BLANK, DROP, LOG_ON, CHARGE, REMOVAL];
+
+/// The drop of [`DROP`].
+fn drop() -> Option<DownRecord> {
+    Some(DownRecord::Whole(Record::Drop {
+        editor: AccountNo::of_number(0)?,
+        q: 2,
+        name: FrameName::of_text(b"12a")?,
+    }))
+}
+
+/// The charge of [`CHARGE`].
+fn charge() -> Option<Item> {
+    Some(Item::Charge(Line {
+        serial: 7,
+        number: 3,
+        account: AccountNo::of_number(5)?,
+        name: FrameName::of_text(b"40a")?,
+        price: 25,
+        moment: 9,
+    }))
+}
+
 #[test]
 fn a_record_has_one_spelling() -> Result<(), Fail> {
     let account = AccountNo::of_number(5).ok_or("an account")?;
-    let spellings: [(&[u8], Option<CentreRecord>); 7] = [
-        (
-            b"\x01\0\0\0\0\0\0\0\x09\x06",
-            Some(CentreRecord::Applied {
-                n: 9,
-                rec: DownRecord::Blank,
-            }),
-        ),
-        (
-            b"\x02\0\0\0\0\0\0\0\x05",
-            Some(CentreRecord::LogOn { account }),
-        ),
+    let rec = drop().ok_or("a drop")?;
+    let item = charge().ok_or("a charge")?;
+    let blank = DownRecord::Blank;
+    let spellings: [(&[u8], Option<CentreRecord>); 9] = [
+        (BLANK, Some(CentreRecord::Applied { n: 9, rec: blank })),
+        (DROP, Some(CentreRecord::Applied { n: 9, rec })),
+        (LOG_ON, Some(CentreRecord::LogOn { account })),
         (b"\x02\0\0\0\0\0\0\0\x05\0", None),
         (b"\x02\0\0\0\0\0\0\0", None),
-        (
-            b"\x04\0\0\0\0\0\0\0\x05\0\0\0\0\0\0\0\x09",
-            Some(CentreRecord::Removed { account, number: 9 }),
-        ),
+        (CHARGE, Some(CentreRecord::Kept { item })),
+        (REMOVAL, Some(CentreRecord::Removed { account, number: 9 })),
         (b"\x04\0\0\0\0\0\0\0\x05\0\0\0\0\0\0\0", None),
         (b"\x05\0\0\0\0\0\0\0\x05", None),
     ];
@@ -104,6 +141,40 @@ fn a_record_has_one_spelling() -> Result<(), Fail> {
         if CentreRecord::decode(bytes) != rec {
             return Err("another record".into());
         }
+    }
+    Ok(())
+}
+
+#[test]
+fn each_prefix_is_no_record(rt: HostRuntime) {
+    for bytes in KINDS {
+        for end in 0..bytes.len() {
+            let read = CentreRecord::decode(&bytes[..end]);
+            assert_eq!(rt; read, None, "{end} of {bytes:?}");
+        }
+    }
+}
+
+/// The first byte of a record's spelling that can be another one without the record being another one or none.
+fn first_unread(alloc: Global, bytes: &[u8]) -> Result<Option<usize>, Fail> {
+    let record = CentreRecord::decode(bytes);
+    let mut other = Vec::from_slice(alloc, bytes)?;
+    for (at, byte) in bytes.iter().enumerate() {
+        for by in 1..=u8::MAX {
+            change(&mut other, at, *byte ^ by);
+            if CentreRecord::decode(&other) == record {
+                return Ok(Some(at));
+            }
+        }
+        change(&mut other, at, *byte);
+    }
+    Ok(None)
+}
+
+#[test]
+fn another_byte_is_another_record_or_none(rt: HostRuntime) -> Result<(), Fail> {
+    for bytes in KINDS {
+        assert_eq!(rt; first_unread(rt.alloc(), bytes)?, None, "{bytes:?}");
     }
     Ok(())
 }

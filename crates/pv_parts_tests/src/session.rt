@@ -469,6 +469,33 @@ fn a_log_on_is_stored_first(rt: HostRuntime) -> Result<(), Fail> {
     Ok(())
 }
 
+/// What a caller is sent at each byte if he keys all of them in turn, from 0 on, at a centre with the frames 0a and 2a.
+/// At `#` he is shown 0a. `*0` waits for a key, and 1 is none that can come after it. Then 2 is a route of 0a, and no
+/// other digit is one of 2a. `_` is `#`, and there is no frame 2b. All other bytes are no keys.
+fn sent_in_turn(byte: u8) -> Sent {
+    match byte {
+        b'#' => Page(b"0a"),
+        b'1' => Row(Message::KeysNotUnderstood),
+        b'2' => Page(b"2a"),
+        b'3'..=b'9' => Row(Message::NoSuchRoute),
+        b'_' => Row(Message::PageNotAvailable),
+        _ => Nothing,
+    }
+}
+
+#[test]
+fn each_byte_in_turn_after_a_log_on(rt: HostRuntime) -> Result<(), Fail> {
+    let base = base_of(rt.alloc(), &[b"0a", b"2a"])?;
+    let mut seat = logged_on(b"1000000001ABCD", &base);
+    for byte in 0..=u8::MAX {
+        let keys = [byte];
+        play(&rt, &mut seat, &base, &[(&keys, sent_in_turn(byte))])?;
+    }
+    // The account, the password, and eleven commands.
+    assert_eq!(rt; seat.entries(), 13);
+    Ok(())
+}
+
 /// Keys this many spaces, and returns whether each of them is answered by nothing.
 fn are_quiet(seat: &mut Seat, sight: &Sight, count: u32) -> bool {
     for _ in 0..count {

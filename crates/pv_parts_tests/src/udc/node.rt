@@ -21,15 +21,23 @@ fn open(disk: MemDisk, alloc: Global, limits: Limits) -> Result<Udc, Fail> {
     }
 }
 
-/// The reply to the operator's edit under a number, and the place of the record that it stored.
-fn edit(node: &mut Udc, q: u32, asked: Ask) -> Result<(UdcReply, Option<u64>), Fail> {
+/// The reply to an edit, and the place of the record that it stored.
+type Told = (UdcReply, Option<u64>);
+
+/// What the operator's edit under a number is told. `None` if the disk failed.
+fn answer(node: &mut Udc, q: u32, asked: Ask) -> Result<Option<Told>, Fail> {
     let editor = account_no(0)?;
     let wish = wish(asked)?;
     match node.ask(&UdcRequest::Edit { editor, q, wish }) {
-        Ok(told) => Ok((told.reply, told.number)),
+        Ok(told) => Ok(Some((told.reply, told.number))),
         Err(AskFault::Full { .. }) => Err("full".into()),
-        Err(AskFault::Disk(_)) => Err("the disk failed".into()),
+        Err(AskFault::Disk(_)) => Ok(None),
     }
+}
+
+/// What it is told, of a disk that does not fail.
+fn edit(node: &mut Udc, q: u32, asked: Ask) -> Result<Told, Fail> {
+    Ok(answer(node, q, asked)?.ok_or("the disk failed")?)
 }
 
 /// A number of the operator's, what he asks, the reply, and the place of the record that it stored.
@@ -81,5 +89,41 @@ fn stored_edits_are_there_after_a_crash(rt: HostRuntime) -> Result<(), Fail> {
     assert!(rt; has_the_drop(&node)?);
     let (_, amiss) = edited(node.into_disk(), rt.alloc(), &AFTER)?;
     assert_eq!(rt; amiss, None);
+    Ok(())
+}
+
+/// A fresh node, of whose disk this call fails.
+fn failing_at(alloc: Global, call: u64) -> Result<Udc, Fail> {
+    let mut disk = MemDisk::new(alloc, 10_000, &[call])?;
+    format(&mut disk)?;
+    open(disk, alloc, LARGE)
+}
+
+/// The first edit, asked twice: what it is told each time, and how many records there are at the node and in its state.
+fn asked_twice(node: &mut Udc) -> Result<([Option<Told>; 2], u64, u64), Fail> {
+    let first = answer(node, 1, Ask::Put(b"1a"))?;
+    let second = answer(node, 1, Ask::Put(b"1a"))?;
+    Ok(([first, second], node.count(), node.state().front()))
+}
+
+/// The call of the disk that fails in the first ask, and what the second is told. Seven calls are those of the formatting
+/// and the opening; then the block is written and synced, and then its gate.
+const FAULTS: [(u64, Told); 4] = [
+    (7, (UdcReply::Stored(0), Some(0))),
+    (8, (UdcReply::Stored(0), Some(0))),
+    (9, (UdcReply::Stored(0), Some(0))),
+    (10, (UdcReply::Again(0), None)),
+];
+
+#[test]
+fn an_edit_is_stored_once_wherever_the_disk_fails(rt: HostRuntime) -> Result<(), Fail> {
+    for (call, told) in FAULTS {
+        let mut node = failing_at(rt.alloc(), call)?;
+        assert_eq!(rt;
+            asked_twice(&mut node)?,
+            ([None, Some(told)], 1, 1),
+            "call {call} failed"
+        );
+    }
     Ok(())
 }
