@@ -183,13 +183,15 @@ fn edit_is_seen_by_the_next_look(rt: HostRuntime) -> Result<(), Fail> {
 #[test]
 fn edit_is_stored_once_wherever_the_disk_fails(rt: HostRuntime) -> Result<(), Fail> {
     // The calls 7 to 10 are those of the first append: two writes, each with its sync. The next two are those of
-    // a settling.
-    let table: [(&[u64], UdcReply, Option<u64>); 6] = [
+    // a settling: a sync and a read.
+    let table: [(&[u64], UdcReply, Option<u64>); 8] = [
         (&[7], UdcReply::Stored(0), Some(0)),
         (&[8], UdcReply::Stored(0), Some(0)),
         (&[9], UdcReply::Stored(0), Some(0)),
         (&[10], UdcReply::Again(0), None),
         (&[9, 10], UdcReply::Stored(0), Some(0)),
+        (&[9, 11], UdcReply::Stored(0), Some(0)),
+        (&[10, 12], UdcReply::Again(0), None),
         (&[10, 11, 12], UdcReply::Again(0), None),
     ];
     for (fails, reply, number) in table {
