@@ -7,9 +7,11 @@ use super::network::ACCOUNT;
 use super::parts::{
     ONE_EACH, Outcome, Parts, door_of, formatted, outcome_of, parts_of, serve_parts,
 };
+use super::screens::{Sent, bytes_of};
 use pv_files::ThreadSpawner;
 use pv_memory::{MemDisk, MemDoor};
 use pv_outside::{Failed, Spawner};
+use pv_session::Message;
 use std::alloc::Global;
 use std::sync::Wait;
 use std::test::Fail;
@@ -19,8 +21,9 @@ use std::thread::Threads;
 const TWO_CALLS: &str =
     "serve d --centres 1 --ports 1 --editors 1 --calls 2 --port 9000 --editor-port 9100";
 
-/// The words, the calls that fail of the Update Centre's disk, the centre's disk, the callers' door and the editors', and the
-/// number of the status. An editor makes an account, and one caller comes in.
+/// The words, the calls that fail of the Update Centre's disk, the centre's disk, the callers' door and the editors'; and
+/// what comes of it: what the caller and the editor are sent, and the number of the status. An editor makes an account,
+/// and one caller comes in and hangs up.
 #[derive(Clone, Copy)]
 struct Case {
     words: &'static str,
@@ -28,6 +31,8 @@ struct Case {
     centre: &'static [u64],
     caller: &'static [u64],
     editor: &'static [u64],
+    screens: &'static [Sent],
+    replies: &'static [u8],
     number: u8,
 }
 
@@ -38,15 +43,18 @@ const DONE: Case = Case {
     centre: &[],
     caller: &[],
     editor: &[],
+    screens: &[Sent::Alone(Message::KeyAccount)],
+    replies: b"OK\nOK 0\nBYE\n",
     number: 0,
 };
 
 /// A disk fails at its eighth call, which is the first after its formatting and its opening. A door fails at its first
-/// accept, or since no second line comes in.
+/// accept, or since no second line comes in. The ports that met no fault serve their lines all the same.
 const CASES: [Case; 6] = [
     DONE,
     Case {
         update: &[7],
+        replies: b"OK\nNO 15 DISK\n",
         number: 8,
         ..DONE
     },
@@ -57,11 +65,13 @@ const CASES: [Case; 6] = [
     },
     Case {
         caller: &[0],
+        screens: &[],
         number: 10,
         ..DONE
     },
     Case {
         editor: &[0],
+        replies: b"",
         number: 10,
         ..DONE
     },
@@ -106,6 +116,11 @@ fn whatever_fails_all_is_handed_back(rt: HostRuntime) -> Result<(), Fail> {
     for case in CASES {
         let outcome = played(&rt, rt.alloc(), case, &mut ThreadSpawner::new())?;
         assert_eq!(rt; (outcome.number, outcome.back), (case.number, (2, 1, 1)));
+        let screens = bytes_of(rt.alloc(), case.screens)?;
+        assert_eq!(rt;
+            (outcome.caller.as_slice(), outcome.editor.as_slice()),
+            (screens.as_slice(), case.replies)
+        );
     }
     Ok(())
 }
