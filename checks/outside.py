@@ -1,4 +1,4 @@
-"""What becomes of a server when the outside fails: its disk, its files, its rights, and its peers."""
+"""What becomes of a server when the outside fails: its disk, its files, its rights, and its peers, and what they send."""
 import os
 import shutil
 import socket
@@ -147,7 +147,34 @@ def peers(program):
         yield "outside: and the server ends as it should", server.end() == ("", "", 0)
 
 
+def bad_input(program):
+    """Lines that are too long, bytes that are no keys and in no line, a million bytes, and half a line: each is refused by its name or
+    ignored, and changes nothing."""
+    with Place(program) as place:
+        server = place.server(calls=2)
+        editor = server.editor()
+        editor.says(f"ACCOUNT 1 {CALLER} ABCD 0 -")
+        lines = [b"A" * 513, bytes(range(128, 256)), bytes(byte for byte in range(32) if byte != 10)]
+        editor.key(b"".join(line + b"\n" for line in lines))
+        yield "outside: a line that is too long or has other bytes is a bad line", [editor.until(b"\n") for _ in lines] == [b"NO 11 BAD LINE\n"] * len(lines)
+        yield "outside: and the session goes on", editor.store(2, Page(1), 1).startswith("OK ")
+        editor.key(b"DROP 3 1a")
+        editor.hang_up()
+        yield "outside: half a line and then the end is no line", editor.sent == b""
+        caller = server.caller()
+        caller.key(bytes(byte for byte in range(256) if not 0x20 <= byte < 0x7F))
+        caller.log_on(CALLER)
+        yield "outside: bytes that cannot be printed are no keys", caller.waits_for(Page(1), 1)[-1] == 1 and caller.ends()
+        other = server.caller()
+        other.key(b"\0" * 1_000_001)
+        yield "outside: a million bytes and one more end a call", other.rest().rstrip().endswith(b"CALL ENDED")
+        last = server.editor()
+        yield "outside: after all of that each edit is there once", last.says("LAST") == ["OK 2"]
+        last.hang_up()
+        yield "outside: and the server ends as it should", server.end() == ("", "", 0)
+
+
 def failures(program):
     """A line for each failure of the outside."""
-    for part in (full_device, no_rights, damaged, peers):
+    for part in (full_device, no_rights, damaged, peers, bad_input):
         yield from part(program)
