@@ -2,15 +2,15 @@
 ghost use Rattle.std.specs.Prelude.{◌≡◌, None, false};
 ghost use Rattle.pv_node.specs.Standing.{StandsFor};
 
-use super::nodes::{LIMITS, apply_first, fresh, line_of};
-use Sent::{Alone, Row};
+use super::nodes::{LIMITS, apply_first, fresh, line_of, name, priced_frame};
+use Sent::{Alone, Frame, Row};
 use pv_irc::{CentreRecord, IrcRules};
 use pv_live::{Run, Start, open_live};
 use pv_memory::{MemDisk, MemLine, SetClock};
 use pv_node::{Opened, Rules};
 use pv_outside::Reports;
 use pv_ports::{CallEnd, CallerPort};
-use pv_screen::{BUFFER, Grid, ROWS, Screen};
+use pv_screen::{BUFFER, Grid, ROWS, Screen, compose};
 use pv_session::Message;
 use std::alloc::Global;
 use std::marker::Brand;
@@ -39,23 +39,29 @@ enum Sent {
     Alone(Message),
     /// A message in row 24.
     Row(Message),
+    /// The frame of the centre.
+    Frame,
 }
 
+/// The price of the centre's frame.
+const PRICE: u16 = 7;
+
 /// How many records a centre has before a call, what is keyed, which calls of the line and of the disk fail, and what
-/// comes of it: what the caller is sent, and how the call ended.
+/// comes of it: what the caller is sent, how the call ended, and how many records the centre has then.
 #[derive(Clone, Copy)]
-struct Case {
+struct Case<'a> {
     applied: u8,
-    keys: &'static [u8],
-    reads: &'static [u64],
-    writes: &'static [u64],
-    disk: &'static [u64],
-    sent: &'static [Sent],
+    keys: &'a [u8],
+    reads: &'a [u64],
+    writes: &'a [u64],
+    disk: &'a [u64],
+    sent: &'a [Sent],
     end: Ended,
+    records: u64,
 }
 
 /// A call of a known caller, in which nothing fails.
-const CALL: Case = Case {
+const CALL: Case<'static> = Case {
     applied: 1,
     keys: b"1000000001ABCD*90#",
     reads: &[],
@@ -68,17 +74,19 @@ const CALL: Case = Case {
         Row(Message::CallEnded),
     ],
     end: Ended::Finished,
+    records: 2,
 };
 
 /// A call that ends before he is logged on.
-const ASKING: Case = Case {
+const ASKING: Case<'static> = Case {
     sent: &[Alone(Message::KeyAccount), Row(Message::KeyPassword)],
+    records: 1,
     ..CALL
 };
 
 /// Calls in which nothing fails. At a centre that has no account his is not known, and then `*` and `#` are ignored and
 /// 90 begins an account.
-const CALLS: [Case; 4] = [
+const CALLS: [Case<'static>; 4] = [
     CALL,
     Case {
         applied: 0,
@@ -88,6 +96,7 @@ const CALLS: [Case; 4] = [
             Row(Message::NotKnown),
         ],
         end: Ended::Hung,
+        records: 0,
         ..CALL
     },
     Case {
@@ -102,6 +111,7 @@ const CALLS: [Case; 4] = [
             Row(Message::CallRefused),
         ],
         end: Ended::Refused,
+        records: 1,
         ..CALL
     },
     Case {
@@ -112,18 +122,19 @@ const CALLS: [Case; 4] = [
             Row(Message::PleaseTryLater),
         ],
         end: Ended::Full(4),
+        records: 4,
         ..CALL
     },
 ];
 
 /// Calls on a line of which a read or a write fails. What is queued is written before the centre is asked, and the last
-/// two screens are one write.
-const LINE_FAULTS: [Case; 6] = [
+/// two screens are one write. A log-on is stored also if its screen cannot be written.
+const LINE_FAULTS: [Case<'static>; 6] = [
     Case {
         reads: &[0],
         sent: &[Alone(Message::KeyAccount)],
         end: Ended::ReadFault,
-        ..CALL
+        ..ASKING
     },
     Case {
         keys: b"1000000001",
@@ -135,17 +146,18 @@ const LINE_FAULTS: [Case; 6] = [
         writes: &[0],
         sent: &[],
         end: Ended::WriteFault,
-        ..CALL
+        ..ASKING
     },
     Case {
         writes: &[1],
         sent: &[Alone(Message::KeyAccount)],
         end: Ended::WriteFault,
-        ..CALL
+        ..ASKING
     },
     Case {
         writes: &[2],
         end: Ended::WriteFault,
+        records: 2,
         ..ASKING
     },
     Case {
@@ -154,14 +166,74 @@ const LINE_FAULTS: [Case; 6] = [
     },
 ];
 
-/// The calls of the disk that store the log-on: seven are those of the formatting and the opening, and four apply the
-/// account.
-const STORING: [&[u64]; 4] = [&[11], &[12], &[13], &[14]];
+/// A call that asks for the frame and ends before its charge is stored: the centre has the account, the frame and the
+/// log-on.
+const CHARGING: Case<'static> = Case {
+    applied: 2,
+    keys: b"1000000001ABCD*1#*90#",
+    sent: &[
+        Alone(Message::KeyAccount),
+        Row(Message::KeyPassword),
+        Alone(Message::Welcome),
+    ],
+    records: 3,
+    ..CALL
+};
+
+/// Calls that ask for the frame. It is shown once its charge is stored. At a full centre it is not, and if it cannot be
+/// written its charge stands.
+const CHARGES: [Case<'static>; 3] = [
+    Case {
+        sent: &[
+            Alone(Message::KeyAccount),
+            Row(Message::KeyPassword),
+            Alone(Message::Welcome),
+            Frame,
+            Row(Message::CallEnded),
+        ],
+        records: 4,
+        ..CHARGING
+    },
+    Case {
+        applied: 3,
+        sent: &[
+            Alone(Message::KeyAccount),
+            Row(Message::KeyPassword),
+            Alone(Message::Welcome),
+            Row(Message::PleaseTryLater),
+        ],
+        end: Ended::Full(4),
+        records: 4,
+        ..CHARGING
+    },
+    Case {
+        writes: &[3],
+        end: Ended::WriteFault,
+        records: 4,
+        ..CHARGING
+    },
+];
+
+/// A call, and the call of the disk that fails in it. Seven are those of the formatting and the opening, and each record
+/// takes four: the account and the log-on; or the account, the frame, the log-on and the charge.
+const STORING: [(Case<'static>, &[u64]); 8] = [
+    (ASKING, &[11]),
+    (ASKING, &[12]),
+    (ASKING, &[13]),
+    (ASKING, &[14]),
+    (CHARGING, &[19]),
+    (CHARGING, &[20]),
+    (CHARGING, &[21]),
+    (CHARGING, &[22]),
+];
+
+/// What a known caller keys: his account, his password and a command, each in two parts.
+const PARTS: [&[u8]; 6] = [b"10000", b"00001", b"AB", b"CD", b"*9", b"0#"];
 
 #[test]
 fn calls_end_as_they_should(rt: HostRuntime) -> Result<(), Fail> {
     for case in CALLS {
-        played(&rt, rt.alloc(), case)?;
+        served(&rt, rt.alloc(), case)?;
     }
     Ok(())
 }
@@ -169,20 +241,28 @@ fn calls_end_as_they_should(rt: HostRuntime) -> Result<(), Fail> {
 #[test]
 fn line_that_fails_ends_the_call(rt: HostRuntime) -> Result<(), Fail> {
     for case in LINE_FAULTS {
-        played(&rt, rt.alloc(), case)?;
+        served(&rt, rt.alloc(), case)?;
     }
     Ok(())
 }
 
 #[test]
 fn disk_that_fails_in_an_ask_ends_the_call(rt: HostRuntime) -> Result<(), Fail> {
-    for disk in STORING {
+    for (case, disk) in STORING {
         let case = Case {
             disk,
             end: Ended::DiskFault,
-            ..ASKING
+            ..case
         };
-        played(&rt, rt.alloc(), case)?;
+        served(&rt, rt.alloc(), case)?;
+    }
+    Ok(())
+}
+
+#[test]
+fn frame_is_shown_once_its_charge_is_stored(rt: HostRuntime) -> Result<(), Fail> {
+    for case in CHARGES {
+        served(&rt, rt.alloc(), case)?;
     }
     Ok(())
 }
@@ -199,6 +279,28 @@ fn call_is_spent_after_a_million_bytes(rt: HostRuntime) -> Result<(), Fail> {
     zeros(&rt, rt.alloc(), 1_000_001, sent, Ended::Spent)
 }
 
+#[test]
+fn bytes_over_127_are_no_keys(rt: HostRuntime) -> Result<(), Fail> {
+    let keys = parted(rt.alloc(), &PARTS)?;
+    let case = Case {
+        keys: &keys,
+        ..CALL
+    };
+    served(&rt, rt.alloc(), case)
+}
+
+/// These parts, with each byte over 127 before each of them.
+fn parted(alloc: Global, parts: &[&[u8]]) -> Result<Vec<u8>, Fail> {
+    let mut keys = Vec::new(alloc);
+    for part in parts {
+        for byte in 128..=u8::MAX {
+            keys.push(byte)?;
+        }
+        keys.extend_from_slice(part)?;
+    }
+    Ok(keys)
+}
+
 /// A call of this many bytes that are no keys.
 fn zeros<R: Wait + Abort>(
     rt: &R,
@@ -211,46 +313,28 @@ fn zeros<R: Wait + Abort>(
     for _ in 0..count {
         keys.push(0)?;
     }
-    let line = line_of(alloc, &keys, &[], &[])?;
-    served(rt, alloc, &[], 0, line, sent, end)
+    let case = Case {
+        applied: 0,
+        keys: &keys,
+        sent,
+        end,
+        records: 0,
+        ..CALL
+    };
+    served(rt, alloc, case)
 }
 
 /// Serves the call of a case, and sees what came of it.
-fn played<R: Wait + Abort>(rt: &R, alloc: Global, case: Case) -> Result<(), Fail> {
-    let line = line_of(alloc, case.keys, case.reads, case.writes)?;
-    served(
-        rt,
-        alloc,
-        case.disk,
-        case.applied,
-        line,
-        case.sent,
-        case.end,
-    )
-}
-
-/// Serves a call at a centre with this many records and of whose disk these calls fail, and sees what was sent and how
-/// it ended.
-fn served<R: Wait + Abort>(
-    rt: &R,
-    alloc: Global,
-    disk: &[u64],
-    applied: u8,
-    line: MemLine,
-    sent: &[Sent],
-    end: Ended,
-) -> Result<(), Fail>
-    requires { line.source.ended ≡ false }
-{
-    let centre = fresh::<IrcRules<0>>(alloc, LIMITS, disk)?;
-    let mut line = line;
-    let ended = called::<Brand, _>(rt, alloc, centre, Start::new(1), applied, &mut line)?;
-    assert_eq!(rt; ended, end);
-    assert_eq!(rt; line.sent(), bytes_of(alloc, sent)?.as_slice());
+fn served<R: Wait + Abort>(rt: &R, alloc: Global, case: Case<'_>) -> Result<(), Fail> {
+    let centre = fresh::<IrcRules<0>>(alloc, LIMITS, case.disk)?;
+    let mut line = line_of(alloc, case.keys, case.reads, case.writes)?;
+    let came = called::<Brand, _>(rt, alloc, centre, Start::new(1), case.applied, &mut line)?;
+    assert_eq!(rt; came, (case.end, case.records));
+    assert_eq!(rt; line.sent(), bytes_of(alloc, case.sent)?.as_slice());
     Ok(())
 }
 
-/// Serves the call at this node, and returns how it ended.
+/// Serves the call at this node, and returns how it ended and how many records there are then.
 fn called<N: Run<CentreRecord> + Send + Sync, R: Wait>(
     rt: &R,
     alloc: Global,
@@ -258,7 +342,7 @@ fn called<N: Run<CentreRecord> + Send + Sync, R: Wait>(
     start: Start<CentreRecord>,
     applied: u8,
     line: &mut MemLine,
-) -> Result<Ended, Fail>
+) -> Result<(Ended, u64), Fail>
     requires stands { StandsFor ⟦<IrcRules<0> as Rules>⟧ ⟦<MemDisk as Reports>⟧ centre.node N.opening }
     requires rest { (centre.node.hand ≡ None) × (centre.node.state.limits ≡ N.limits) × (1 ≡ N.passes) }
     requires start { start ≡ record {
@@ -277,10 +361,10 @@ fn called<N: Run<CentreRecord> + Send + Sync, R: Wait>(
         start,
     )?;
     let mut pass = passes.pop().ok_or("a pass")?;
-    apply_first(rt, &live, &mut pass, applied)?;
+    apply_first(rt, &live, &mut pass, applied, PRICE)?;
     let mut port = CallerPort::new(alloc, pass)?;
     let end = port.serve_call(rt, &live, line, &SetClock::new(7));
-    Ok(ended_as(&end))
+    Ok((ended_as(&end), port.into_pass().length()))
 }
 
 /// The bytes of these screens.
@@ -288,22 +372,23 @@ fn bytes_of(alloc: Global, sent: &[Sent]) -> Result<Vec<u8>, Fail> {
     let mut all = Vec::new(alloc);
     let mut bytes = [0; BUFFER];
     for screen in sent {
-        let count = screen_of(*screen).bytes(&mut bytes);
+        let count = screen_of(*screen)?.bytes(&mut bytes);
         all.extend_from_slice(&bytes[..count])?;
     }
     Ok(all)
 }
 
 /// The screen that was sent.
-fn screen_of(sent: Sent) -> Screen {
-    match sent {
+fn screen_of(sent: Sent) -> Result<Screen, Fail> {
+    Ok(match sent {
         Alone(message) => {
             let mut grid = Grid::blank();
             grid.set_row(ROWS as u8, &message.row());
             Screen::Whole(grid)
         }
         Row(message) => Screen::Row(message.row()),
-    }
+        Frame => Screen::Whole(compose(priced_frame(b'A', PRICE)?.frame(), name()?)),
+    })
 }
 
 /// The end without what a fault carries.

@@ -133,32 +133,57 @@ const CROWDED: [Case; 3] = [
     },
 ];
 
-/// Disks of which a call fails while a record or an item is stored: seven calls are those of the formatting and the
-/// opening. The round after it settles what is in hand.
-const DISK_FAULTS: [Case; 3] = [
-    Case {
-        centre_disk: &[7],
-        rounds: &[DiskFault, Moved(1, 0), Idle],
-        ..RECORD
-    },
-    Case {
-        centre_disk: &[10],
-        rounds: &[DiskFault, Moved(0, 0), Idle],
-        ..RECORD
-    },
-    Case {
-        udc_disk: &[7],
-        rounds: &[DiskFault, Moved(0, 1), Moved(1, 0), Moved(0, 0), Idle],
-        ..ITEM
-    },
+/// Calls of the centre's disk that fail while a record is stored, and what comes of the rounds: seven calls are those of
+/// the formatting and the opening. The next round settles what is in hand: it is stored if only the last call failed.
+const CENTRE_FAULTS: [(&[u64], &[Came]); 4] = [
+    (&[7], &[DiskFault, Moved(1, 0), Idle]),
+    (&[8], &[DiskFault, Moved(1, 0), Idle]),
+    (&[9], &[DiskFault, Moved(1, 0), Idle]),
+    (&[10], &[DiskFault, Moved(0, 0), Idle]),
 ];
 
-/// Calls of the link down and of the link up that fail, and what comes of the rounds.
-const LINK_FAULTS: [(&[u64], &[u64], &[Came]); 4] = [
-    (&[0], &[], &[LinkFault, Moved(1, 0), Idle]),
-    (&[1], &[], &[LinkFault, Moved(1, 0), Idle]),
-    (&[], &[0], &[LinkFault, Moved(0, 0), Idle]),
-    (&[], &[1], &[LinkFault, Moved(0, 0), Idle]),
+/// The same of the Update Centre's disk while an item is stored.
+const UPDATE_FAULTS: [(&[u64], &[Came]); 4] = [
+    (
+        &[7],
+        &[DiskFault, Moved(0, 1), Moved(1, 0), Moved(0, 0), Idle],
+    ),
+    (
+        &[8],
+        &[DiskFault, Moved(0, 1), Moved(1, 0), Moved(0, 0), Idle],
+    ),
+    (
+        &[9],
+        &[DiskFault, Moved(0, 1), Moved(1, 0), Moved(0, 0), Idle],
+    ),
+    (
+        &[10],
+        &[DiskFault, Moved(0, 0), Moved(1, 0), Moved(0, 0), Idle],
+    ),
+];
+
+/// What is carried, the calls of the link down and of the link up that fail, and what comes of the rounds. A record takes
+/// a give and two takes of each link, since its acknowledgement goes up: each of them fails in turn. Then the two gives
+/// fail that are made for an item alone.
+const LINK_FAULTS: [(Case, &[u64], &[u64], &[Came]); 8] = [
+    (RECORD, &[0], &[], &[LinkFault, Moved(1, 0), Idle]),
+    (RECORD, &[1], &[], &[LinkFault, Moved(1, 0), Idle]),
+    (RECORD, &[2], &[], &[LinkFault, Moved(0, 0), Idle]),
+    (RECORD, &[], &[0], &[LinkFault, Moved(0, 0), Idle]),
+    (RECORD, &[], &[1], &[LinkFault, Moved(0, 0), Idle]),
+    (RECORD, &[], &[2], &[LinkFault, Idle]),
+    (
+        ITEM,
+        &[],
+        &[0],
+        &[LinkFault, Moved(0, 1), Moved(1, 0), Moved(0, 0), Idle],
+    ),
+    (
+        ITEM,
+        &[1],
+        &[],
+        &[LinkFault, Moved(1, 0), Moved(0, 0), Moved(0, 0), Idle],
+    ),
 ];
 
 #[test]
@@ -179,7 +204,20 @@ fn node_without_room_is_told(rt: HostRuntime) -> Result<(), Fail> {
 
 #[test]
 fn disk_that_fails_loses_nothing(rt: HostRuntime) -> Result<(), Fail> {
-    for case in DISK_FAULTS {
+    for (centre_disk, rounds) in CENTRE_FAULTS {
+        let case = Case {
+            centre_disk,
+            rounds,
+            ..RECORD
+        };
+        piped(&rt, rt.alloc(), case, &[], &[])?;
+    }
+    for (udc_disk, rounds) in UPDATE_FAULTS {
+        let case = Case {
+            udc_disk,
+            rounds,
+            ..ITEM
+        };
         piped(&rt, rt.alloc(), case, &[], &[])?;
     }
     Ok(())
@@ -187,8 +225,8 @@ fn disk_that_fails_loses_nothing(rt: HostRuntime) -> Result<(), Fail> {
 
 #[test]
 fn link_that_fails_loses_nothing(rt: HostRuntime) -> Result<(), Fail> {
-    for (down, up, rounds) in LINK_FAULTS {
-        let case = Case { rounds, ..RECORD };
+    for (case, down, up, rounds) in LINK_FAULTS {
+        let case = Case { rounds, ..case };
         piped(&rt, rt.alloc(), case, down, up)?;
     }
     Ok(())

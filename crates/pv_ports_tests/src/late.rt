@@ -115,7 +115,7 @@ fn look_twice<N: Run<CentreRecord> + Send + Sync, R: Wait>(
         start,
     )?;
     let mut pass = passes.pop().ok_or("a pass")?;
-    apply_first(rt, &live, &mut pass, 2)?;
+    apply_first(rt, &live, &mut pass, 2, 0)?;
     let mut port = CallerPort::new(alloc, passes.pop().ok_or("a pass")?)?;
     let mut line = LateLine {
         rt,

@@ -101,7 +101,7 @@ fn key_late<N: Run<CentreRecord> + Send + Sync, R: Wait>(
     let is_first_in = press_all(&mut pass, &mut at, b"1");
     let first_is_quiet = is_first_in && matches!(at.step, Step::Quiet);
     press_all(&mut pass, &mut at, b"000000001ABC");
-    apply_first(rt, &live, &mut other, 1)?;
+    apply_first(rt, &live, &mut other, 1, 0)?;
     press_all(&mut pass, &mut at, b"D");
     Ok(Keyed {
         first_is_quiet,

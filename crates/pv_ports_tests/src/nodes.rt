@@ -61,21 +61,32 @@ pub fn name() -> Result<FrameName, Fail> {
     Ok(FrameName::of_text(b"1a").ok_or("a name")?)
 }
 
-/// A frame with this letter in its first column.
-pub fn frame_with(letter: u8) -> Result<CheckedFrame, Fail> {
+/// A frame with this letter in its first column, at this price.
+pub fn priced_frame(letter: u8, price: u16) -> Result<CheckedFrame, Fail> {
     let mut frame = Frame::blank();
     frame.body[0] = letter;
+    frame.price = price;
     Ok(CheckedFrame::of(frame)?)
 }
 
-/// The record that puts it.
-pub fn put(q: u32, letter: u8) -> Result<DownRecord, Fail> {
+/// A free frame with this letter in its first column.
+pub fn frame_with(letter: u8) -> Result<CheckedFrame, Fail> {
+    priced_frame(letter, 0)
+}
+
+/// The record that puts a frame.
+fn put_frame(q: u32, frame: CheckedFrame) -> Result<DownRecord, Fail> {
     Ok(DownRecord::Whole(Record::Put {
         editor: operator()?,
         q,
         name: name()?,
-        frame: frame_with(letter)?,
+        frame,
     }))
+}
+
+/// The record that puts the free frame with this letter.
+pub fn put(q: u32, letter: u8) -> Result<DownRecord, Fail> {
+    put_frame(q, frame_with(letter)?)
 }
 
 /// The caller's account.
@@ -114,24 +125,25 @@ pub fn apply<N: Run<CentreRecord>, H: Wait + Drop, W: Wait>(
     }
 }
 
-/// The record of this number: the caller's account, and then frames of one name.
-fn record_at(n: u8) -> Result<DownRecord, Fail> {
+/// The record of this number: the caller's account, and then frames of one name, at this price.
+fn record_at(n: u8, price: u16) -> Result<DownRecord, Fail> {
     if n == 0 {
         made()
     } else {
-        put(u32::from(n) + 1, b'A')
+        put_frame(u32::from(n) + 1, priced_frame(b'A', price)?)
     }
 }
 
-/// Has this many of the records applied, from the first on.
+/// Has this many of the records applied, from the first on. The frames are at this price.
 pub fn apply_first<N: Run<CentreRecord>, H: Wait + Drop, W: Wait>(
     rt: &W,
     centre: &Live<IrcRules<0>, MemDisk, N, H>,
     pass: &mut Pass<IrcRules<0>, N>,
     count: u8,
+    price: u16,
 ) -> Result<(), Fail> {
     for n in 0..count {
-        if !apply(rt, centre, pass, u64::from(n), record_at(n)?) {
+        if !apply(rt, centre, pass, u64::from(n), record_at(n, price)?) {
             return Err("not applied".into());
         }
     }
