@@ -9,7 +9,7 @@ use pv_live::{Run, Start, open_live};
 use pv_memory::{MemDisk, MemLine, SetClock};
 use pv_node::{Opened, Rules};
 use pv_outside::Reports;
-use pv_ports::{CallEnd, CallerPort};
+use pv_ports::{CallEnd, CallerPort, LogEntry};
 use pv_screen::{BUFFER, Grid, ROWS, Screen, compose};
 use pv_session::Message;
 use std::alloc::Global;
@@ -47,7 +47,7 @@ enum Sent {
 const PRICE: u16 = 7;
 
 /// How many records a centre has before a call, what is keyed, which calls of the line and of the disk fail, and what
-/// comes of it: what the caller is sent, how the call ended, and how many records the centre has then.
+/// comes of it: what the caller is sent, how the call ended, what it cost, and how many records the centre has then.
 #[derive(Clone, Copy)]
 struct Case<'a> {
     applied: u8,
@@ -57,6 +57,7 @@ struct Case<'a> {
     disk: &'a [u64],
     sent: &'a [Sent],
     end: Ended,
+    pence: u32,
     records: u64,
 }
 
@@ -74,6 +75,7 @@ const CALL: Case<'static> = Case {
         Row(Message::CallEnded),
     ],
     end: Ended::Finished,
+    pence: 0,
     records: 2,
 };
 
@@ -191,6 +193,7 @@ const CHARGES: [Case<'static>; 3] = [
             Frame,
             Row(Message::CallEnded),
         ],
+        pence: PRICE as u32,
         records: 4,
         ..CHARGING
     },
@@ -209,6 +212,7 @@ const CHARGES: [Case<'static>; 3] = [
     Case {
         writes: &[3],
         end: Ended::WriteFault,
+        pence: PRICE as u32,
         records: 4,
         ..CHARGING
     },
@@ -328,13 +332,24 @@ fn zeros<R: Wait + Abort>(
 fn served<R: Wait + Abort>(rt: &R, alloc: Global, case: Case<'_>) -> Result<(), Fail> {
     let centre = fresh::<IrcRules<0>>(alloc, LIMITS, case.disk)?;
     let mut line = line_of(alloc, case.keys, case.reads, case.writes)?;
-    let came = called::<Brand, _>(rt, alloc, centre, Start::new(1), case.applied, &mut line)?;
-    assert_eq!(rt; came, (case.end, case.records));
+    let (end, records, logged) = called::<Brand, _>(
+        rt,
+        alloc,
+        centre,
+        Start::new(1),
+        case.applied,
+        &mut line,
+    )?;
+    assert_eq!(rt;
+        (end, records, logged.pence),
+        (case.end, case.records, case.pence)
+    );
+    assert_eq!(rt; logged.end.words(), words_of(case.end));
     assert_eq!(rt; line.sent(), bytes_of(alloc, case.sent)?.as_slice());
     Ok(())
 }
 
-/// Serves the call at this node, and returns how it ended and how many records there are then.
+/// Serves the call at this node, and returns how it ended, how many records there are then, and what a log may have of it.
 fn called<N: Run<CentreRecord> + Send + Sync, R: Wait>(
     rt: &R,
     alloc: Global,
@@ -342,7 +357,7 @@ fn called<N: Run<CentreRecord> + Send + Sync, R: Wait>(
     start: Start<CentreRecord>,
     applied: u8,
     line: &mut MemLine,
-) -> Result<(Ended, u64), Fail>
+) -> Result<(Ended, u64, LogEntry), Fail>
     requires stands { StandsFor ⟦<IrcRules<0> as Rules>⟧ ⟦<MemDisk as Reports>⟧ centre.node N.opening }
     requires rest { (centre.node.hand ≡ None) × (centre.node.state.limits ≡ N.limits) × (1 ≡ N.passes) }
     requires start { start ≡ record {
@@ -364,7 +379,8 @@ fn called<N: Run<CentreRecord> + Send + Sync, R: Wait>(
     apply_first(rt, &live, &mut pass, applied, PRICE)?;
     let mut port = CallerPort::new(alloc, pass)?;
     let end = port.serve_call(rt, &live, line, &SetClock::new(7));
-    Ok((ended_as(&end), port.into_pass().length()))
+    let logged = port.log_entry(&end);
+    Ok((ended_as(&end), port.into_pass().length(), logged))
 }
 
 /// The bytes of these screens.
@@ -403,5 +419,20 @@ fn ended_as(end: &CallEnd<MemDisk>) -> Ended {
         CallEnd::DiskFault(_) => Ended::DiskFault,
         CallEnd::Full { count } => Ended::Full(*count),
         CallEnd::Memory { .. } => Ended::Memory,
+    }
+}
+
+/// How a log says that a call ended so.
+fn words_of(end: Ended) -> &'static str {
+    match end {
+        Ended::Finished => "finished",
+        Ended::Hung => "hung up",
+        Ended::Refused => "refused",
+        Ended::Spent => "spent",
+        Ended::ReadFault => "the line could not be read",
+        Ended::WriteFault => "the line could not be written",
+        Ended::DiskFault => "the disk failed",
+        Ended::Full(_) => "the centre is full",
+        Ended::Memory => "out of memory",
     }
 }
