@@ -218,6 +218,22 @@ const CHARGES: [Case<'static>; 3] = [
     },
 ];
 
+/// A call at a centre without records, of which nothing is a key. The caller hangs up.
+const UNKNOWN: Case<'static> = Case {
+    applied: 0,
+    sent: &[Alone(Message::KeyAccount)],
+    end: Ended::Hung,
+    records: 0,
+    ..CALL
+};
+
+/// The same with a byte more than a call may have.
+const SPENT: Case<'static> = Case {
+    sent: &[Alone(Message::KeyAccount), Row(Message::CallEnded)],
+    end: Ended::Spent,
+    ..UNKNOWN
+};
+
 /// A call, and the call of the disk that fails in it. Seven are those of the formatting and the opening, and each record
 /// takes four: the account and the log-on; or the account, the frame, the log-on and the charge.
 const STORING: [(Case<'static>, &[u64]); 8] = [
@@ -273,14 +289,12 @@ fn frame_is_shown_once_its_charge_is_stored(rt: HostRuntime) -> Result<(), Fail>
 
 #[test]
 fn call_goes_on_for_a_million_bytes(rt: HostRuntime) -> Result<(), Fail> {
-    let sent: &[Sent] = &[Alone(Message::KeyAccount)];
-    zeros(&rt, rt.alloc(), 1_000_000, sent, Ended::Hung)
+    zeros(&rt, rt.alloc(), 1_000_000, UNKNOWN)
 }
 
 #[test]
 fn call_is_spent_after_a_million_bytes(rt: HostRuntime) -> Result<(), Fail> {
-    let sent: &[Sent] = &[Alone(Message::KeyAccount), Row(Message::CallEnded)];
-    zeros(&rt, rt.alloc(), 1_000_001, sent, Ended::Spent)
+    zeros(&rt, rt.alloc(), 1_000_001, SPENT)
 }
 
 #[test]
@@ -310,20 +324,15 @@ fn zeros<R: Wait + Abort>(
     rt: &R,
     alloc: Global,
     count: usize,
-    sent: &[Sent],
-    end: Ended,
+    case: Case<'static>,
 ) -> Result<(), Fail> {
     let mut keys = Vec::with_capacity(alloc, count)?;
     for _ in 0..count {
         keys.push(0)?;
     }
     let case = Case {
-        applied: 0,
         keys: &keys,
-        sent,
-        end,
-        records: 0,
-        ..CALL
+        ..case
     };
     served(rt, alloc, case)
 }
