@@ -92,22 +92,24 @@ def damaged(program):
         def changed(at, byte):
             return whole[:at] + bytes([byte]) + whole[at + 1 :]
 
-        byte_is_damaged = "prestel: node 0: byte {} of its disk is damaged\n"
         cases = {
-            "cut within its mark": (whole[:5], "prestel: node 0: its disk is not formatted\n"),
-            "with another mark": (changed(0, 0x51), "prestel: node 0: its disk is not formatted\n"),
-            "cut within a length": (whole[: first + 2], None),
-            "cut within a record": (whole[: second + 10], None),
-            "cut after a record": (whole[:second], None),
-            "with another length": (changed(first + 2, whole[first + 2] - 1), None),
-            "with another record": (changed(first + 3, 0xFF), None),
-            "of another node": (place.file("irc0.pv").read_bytes(), None),
+            "cut within its mark": (whole[:5], "its disk is not formatted"),
+            "with another mark": (changed(0, 0x51), "its disk is not formatted"),
+            "cut within a length": (whole[: first + 2], f"byte {first} of its disk is damaged"),
+            "cut within a record": (whole[: second + 10], f"byte {second} of its disk is damaged"),
+            "cut after a record": (whole[:second], f"byte {second} of its disk is damaged"),
+            "with another length": (changed(first + 2, whole[first + 2] - 1), "record 0 is invalid"),
+            "with another record": (changed(first + 3, 0xFF), "record 0 is invalid"),
+            "of another node": (place.file("irc0.pv").read_bytes(), "record 0 is invalid"),
         }
         for what, (text, wanted) in cases.items():
             file.write_bytes(text)
-            out, said, status = place.server().end()
-            told = said == wanted if wanted else said.startswith("prestel: node 0: ") and said.count("\n") == 1
-            yield f"outside: a file {what} is no disk", (out, status) == ("", 9) and told
+            yield f"outside: a file {what} is no disk", place.server().end() == ("", f"prestel: node 0: {wanted}\n", 9)
+        # A gate that is not open is closed: the list ends there, and no status says so.
+        file.write_bytes(changed(second, 2))
+        server = place.server()
+        yield "outside: a file with another gate has the records before it", server.editor().says("LAST") == ["OK 1"]
+        server.kill()
         file.write_bytes(whole)
         server = place.server()
         yield "outside: with its bytes again all is there", server.editor().says("LAST") == ["OK 2"] and UpdateCentre(file).count >= 2
