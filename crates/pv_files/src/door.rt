@@ -1,4 +1,4 @@
-ghost use Rattle.std.specs.Prelude.{◌≡◌, ◌∷◌, [], None, IfOk, IfSome};
+ghost use Rattle.std.specs.Prelude.{◌≡◌, ◌∷◌, [], None, IfOk};
 ghost use Rattle.std.specs.Net.Addr.{ipv4_octets};
 ghost use Rattle.std.specs.Net.Socket.{v4_ip, v4_port};
 ghost use Rattle.pv_outside.specs.Counts.{CountsFaults, successes_after};
@@ -7,8 +7,7 @@ ghost use Rattle.pv_files.specs.Coming.{EndsAtNext, end_of, end_at_door, is_pass
 ghost use Rattle.pv_files.specs.Doors.{IsNewDoor};
 
 use crate::counts::DoorCounts;
-use crate::line::TcpLine;
-use crate::listener::Listener;
+use crate::listener::{Listener, SharedListener, listen};
 use pv_outside::{Door, Failed};
 use std::io::{self, ErrorKind};
 use std::net::{Ipv4Addr, Net, SocketAddrV4, TcpListener, TcpStream};
@@ -30,20 +29,21 @@ impl TcpDoor<TcpListener> {
     ) -> io::Result<TcpDoor<TcpListener>>
         ensures { IfOk result IsNewDoor }
     {
-        let listener = TcpListener::bind(rt, loopback(port))?;
-        Ok(TcpDoor::of(listener))
-    }
-
-    /// Another door at the same port: each connection comes in at one of them.
-    pub fn beside(&self) -> io::Result<TcpDoor<TcpListener>>
-        ensures { IfOk result IsNewDoor }
-    {
-        Ok(TcpDoor::of(self.listener.try_clone()?))
+        Ok(TcpDoor::of(listen(rt, port)?))
     }
 
     /// The port.
     pub fn port(&self) -> io::Result<u16> {
         Ok(self.listener.local_addr()?.port())
+    }
+}
+
+impl<L: SharedListener + Drop> TcpDoor<L> {
+    /// Another door at the same port: each connection comes in at one of them.
+    pub fn beside(&self) -> io::Result<TcpDoor<L>>
+        ensures { IfOk result IsNewDoor }
+    {
+        Ok(TcpDoor::of(self.listener.beside()?))
     }
 }
 
@@ -76,7 +76,7 @@ impl<L: Listener + Drop> TcpDoor<L> {
 }
 
 impl<L: Listener + Drop> Door for TcpDoor<L> {
-    type Line = TcpLine<L::Reader, L::Writer>;
+    type Line = L::Line;
 
     ghost faults = { λ d. d.counts.faults };
 
@@ -90,11 +90,11 @@ impl<L: Listener + Drop> Door for TcpDoor<L> {
 
     ghost counted = { λ _. tt };
 
-    fn accept(&mut self) -> Result<TcpLine<L::Reader, L::Writer>, Failed>
+    fn accept(&mut self) -> Result<L::Line, Failed>
         ensures account { CountsFaults self.old.counts.faults self.new.counts.faults result }
         ensures accepted { self.new.counts.accepted ≡ successes_after result self.old.counts.accepted }
         ensures unused { IfOk result
-            (λ line. IsUnused None (L.Writer.contents line.writer) line.ended) }
+            (λ line. IsUnused (L.Line.taken line) (L.Line.written line) (L.Line.ended line)) }
 
         // No line is given back by this.
         ensures finished { self.new.counts.finished ≡ self.old.counts.finished }
@@ -104,9 +104,9 @@ impl<L: Listener + Drop> Door for TcpDoor<L> {
             (end_at_door result self.new.error) }
     {
         match next_connection(&mut self.listener) {
-            Ok((reader, writer)) => {
+            Ok(line) => {
                 self.counts.count_line();
-                Ok(TcpLine::new(reader, writer))
+                Ok(line)
             }
             Err(error) => {
                 self.counts.count_fault();
@@ -116,17 +116,17 @@ impl<L: Listener + Drop> Door for TcpDoor<L> {
         }
     }
 
-    fn finish(&mut self, line: TcpLine<L::Reader, L::Writer>) {
+    fn finish(&mut self, line: L::Line) {
         self.counts.count_finish();
-        line.close();
+        self.listener.close(line);
     }
 }
 
 /// Waits for a connection. A peer that gave up before is no fault, and neither is an interrupted call.
-fn next_connection<L: Listener>(listener: &mut L) -> io::Result<(L::Reader, L::Writer)>
+fn next_connection<L: Listener>(listener: &mut L) -> io::Result<L::Line>
     ensures decides { EndsAtNext (L.coming listener.old) (L.coming listener.new) (end_of result) }
     ensures unused { IfOk result
-        (λ ends. IfSome (L.Writer.contents ends.1) (λ bytes. bytes ≡ [])) }
+        (λ line. IsUnused (L.Line.taken line) (L.Line.written line) (L.Line.ended line)) }
 {
     for _tries in 0..u64::MAX {
         let answer = listener.accept();

@@ -36,6 +36,6 @@ pub use door::TcpDoor;
 pub use fault::{FileFault, OpenFault};
 pub use folder::{NODE_FILES, make_folder, set_aside};
 pub use line::TcpLine;
-pub use listener::Listener;
+pub use listener::{Listener, SharedListener, listen};
 pub use standard::{OUTPUT_BUFFER, StandardInput, StandardOutput};
 pub use threads::ThreadSpawner;

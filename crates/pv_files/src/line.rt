@@ -14,7 +14,7 @@ use std::net::{OpenStream, Shutdown, TcpStream};
 /// error of the system. It reports what is left and what was written if its reader and its writer do: a
 /// socket does not.
 #[derive(Drop)]
-pub struct TcpLine<R: Read + Drop = TcpStream, W: Write + Drop = TcpStream> {
+pub struct TcpLine<R: Read = TcpStream, W: Write = TcpStream> {
     reader: R,
     writer: W,
     read_faults: u64,
@@ -23,7 +23,7 @@ pub struct TcpLine<R: Read + Drop = TcpStream, W: Write + Drop = TcpStream> {
     error: Option<io::Error>,
 }
 
-impl<R: Read + Drop, W: Write + Drop> TcpLine<R, W> {
+impl<R: Read, W: Write> TcpLine<R, W> {
     /// A line of a new connection.
     pub fn new(reader: R, writer: W) -> TcpLine<R, W>
         ensures reader { result.reader ≡ reader }
@@ -108,12 +108,12 @@ impl<R: Read + Drop, W: Write + Drop> TcpLine<R, W> {
 
 impl<R: Read + Drop, W: Write + OpenStream + Drop> TcpLine<R, W> {
     /// Says to the peer that nothing more comes, and closes the connection.
-    pub(crate) fn close(self) {
+    pub fn close(self) {
         let _ = self.writer.shutdown(Shutdown::Write);
     }
 }
 
-impl<R: Read + Drop, W: Write + Drop> Source for TcpLine<R, W> {
+impl<R: Read, W: Write> Source for TcpLine<R, W> {
     ghost read_faults = { λ l. l.read_faults };
 
     ghost ended = { λ l. l.ended };
@@ -127,7 +127,7 @@ impl<R: Read + Drop, W: Write + Drop> Source for TcpLine<R, W> {
     }
 }
 
-impl<R: Read + Drop, W: Write + Drop> Sink for TcpLine<R, W> {
+impl<R: Read, W: Write> Sink for TcpLine<R, W> {
     ghost write_faults = { λ l. l.write_faults };
 
     ghost written = { λ l. W.contents l.writer };
@@ -139,7 +139,7 @@ impl<R: Read + Drop, W: Write + Drop> Sink for TcpLine<R, W> {
     }
 }
 
-impl<R: Read + Drop, W: Write + Drop> Line for TcpLine<R, W> {
+impl<R: Read, W: Write> Line for TcpLine<R, W> {
     fn hear(&mut self, into: &mut [u8]) -> Result<usize, Failed> {
         self.receive(into)
     }

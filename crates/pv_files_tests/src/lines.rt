@@ -65,21 +65,23 @@ struct Listed<'a> {
 }
 
 impl<'a> Listener for Listed<'a> {
-    type Reader = io::Empty;
-
-    type Writer = ByThrees;
+    type Line = TcpLine<io::Empty, ByThrees>;
 
     ghost coming = { λ l. Some l.ends.now };
 
-    fn accept(&mut self) -> io::Result<(io::Empty, ByThrees)> {
+    fn accept(&mut self) -> io::Result<TcpLine<io::Empty, ByThrees>> {
         let Some((end, rest)) = self.ends.split_first() else {
             return Err(ErrorKind::Other.into());
         };
         self.ends = rest;
         match *end {
             Some(kind) => Err(kind.into()),
-            None => Ok((io::empty(), ByThrees::new(self.alloc))),
+            None => Ok(TcpLine::new(io::empty(), ByThrees::new(self.alloc))),
         }
+    }
+
+    fn close(&self, line: TcpLine<io::Empty, ByThrees>) {
+        line.close();
     }
 }
 

@@ -9,7 +9,7 @@ use std::sync::Wait;
 use std::test::Fail;
 use std::time::{self, Duration};
 
-/// A machine on which so many seconds have gone by since 1970, or that cannot say.
+/// A machine that has counted these seconds since 1970, or that cannot say.
 #[derive(Drop)]
 struct Machine(Option<u64>);
 

@@ -33,7 +33,7 @@ fn count(calls: &Cell<u64>) -> u64 {
     calls.get()
 }
 
-/// A file of which a call takes so many bytes at most, and each other call may be interrupted.
+/// A file of which a call takes this many bytes at most, and each other call may be interrupted.
 #[derive(Drop)]
 struct Stutter<'a> {
     file: File,
