@@ -4,7 +4,8 @@ use Rattle.std.proofs.lemmas.Fmt.{decimal_injective}
 use Rattle.pv_account.specs.declared.account.TheConstants.{MAX_CENTRES}
 use Rattle.pv_serve.specs.Options.{GivesNumber, AskToServe}
 use Rattle.pv_serve.specs.Serving.{ArePartsOf}
-use Rattle.pv_serve.specs.declared.options.TheConstants.{MAX_PORTS, MAX_EDITORS}
+use Rattle.pv_serve.specs.Web.{AreClear}
+use Rattle.pv_serve.specs.declared.options.TheConstants.{LAST_PORT, MAX_PORTS, MAX_EDITORS}
 use Rattle.pv_serve.specs.declared.options.ServeOptions.{ServeOptions}
 
 -- one number is given for a name
@@ -27,4 +28,20 @@ parts_of_each words one other disks callers editors (begun, is) (begun', too) pa
       nodes = parts.nodes ∙ ap (λ (n : ℕ). n + 1) centres;
       callers_count = parts.callers_count ∙ ap₂ (λ (a b : ℕ). a * b) centres ports;
       editors_count = parts.editors_count ∙ stands;
+    }
+
+-- a port that is clear of one server that the words ask for is clear of each
+pub clear_of_each : (words : List (List ℕ)) (one other : ServeOptions) (web : ℕ) → AskToServe words one → AskToServe words other
+    → AreClear web one → AreClear web other
+clear_of_each words one other web (begun, is) (begun', too) clear =
+    let centres = one_number _ (codes "centres") MAX_CENTRES one.centres other.centres
+    (omega arith) is.numbers.centres too.numbers.centres in
+    let port = one_number _ (codes "port") LAST_PORT one.port other.port (omega arith) is.numbers.port too.numbers.port in
+    let editor_port = one_number _ (codes "editor-port") LAST_PORT one.editor_port other.editor_port
+    (omega arith) is.numbers.editor_port too.numbers.editor_port in
+    record {
+      some = clear.some;
+      last = omega (arith, clear.last, centres);
+      callers = grind (arith, clear.callers, centres, port);
+      editors = grind (arith, clear.editors, centres, editor_port);
     }

@@ -1,13 +1,12 @@
 -- What the closed list of a node keeps of what its ports have served.
-use Rattle.std.proofs.Common.{◌≡◌, ℕ, ◌+◌, ◌≤◌, Bool, true, false, List, [], ◌∷◌, ◌++◌, length, map, Option, Some, None, Result, Ok, Err, refl, ap, sym, ◌∙◌, subst, arith, append_assoc, length-append, if◌then◌else◌}
-use Rattle.std.specs.Prelude.{All, MatchOption, unwrap_or, not, ◌==◌, ◌&&◌, nat_lt}
+use Rattle.std.proofs.Common.{◌≡◌, ℕ, ◌+◌, ◌≤◌, Bool, true, false, List, [], ◌∷◌, ◌++◌, length, map, Option, Some, None, Ok, Err, ap, sym, ◌∙◌, subst, arith, append_assoc, length-append, if◌then◌else◌}
+use Rattle.std.specs.Prelude.{MatchOption, unwrap_or, not, ◌==◌, ◌&&◌, nat_lt}
 use Rattle.std.proofs.lemmas.List.{length-map}
 use mathlib.Core.List.{IsPrefix}
 use Rattle.pv_history.proofs.CallerLemmas.{prefix_self, prefix_trans, prefix_length}
 use Rattle.pv_outside.specs.declared.limits.Limits.{Limits}
 use Rattle.pv_outside.specs.declared.reports.Reports as reports
 use Rattle.pv_node.specs.declared.rules.Rules as rules
-use Rattle.pv_node.specs.declared.decision.Told.{Told}
 use Rattle.pv_node.specs.Parts.{Parts}
 use Rattle.pv_charge.specs.Line.{Charge}
 use Rattle.pv_edits.specs.declared.record.Record.{Record}
@@ -16,15 +15,14 @@ use Rattle.pv_irc.specs.History.{CentreState, applied_of}
 use Rattle.pv_irc.specs.declared.record.CentreRecord.{CentreRecord}
 use Rattle.pv_irc.specs.declared.reply.IrcReply.{IrcReply}
 use Rattle.pv_irc.specs.declared.request.IrcRequest.{IrcRequest}
-use Rattle.pv_live.specs.Asking.{HasAsked, HasAnswered, HasStoredFor}
+use Rattle.pv_live.specs.Asking.{HasAnswered, HasStoredFor}
 use Rattle.pv_live.specs.Entries.{with_opening, records_in}
 use Rattle.pv_live.specs.Pass.{Standing, EachHasSeenPrefix}
 use Rattle.pv_live.specs.declared.entry.Entry.{Entry}
 use Rattle.pv_live.specs.declared.fault.LiveFault.TheVariants as faults
-use Rattle.pv_ports.specs.Ends.{LineState, EndsAs, IsServedCall}
-use Rattle.pv_ports.specs.Session.{AskFault, Exchange, Said, Left, Judged, Traffic, TakesExchange, IsSession, exchange_mark, place_or}
-use Rattle.pv_ports.specs.SessionEnds.{IsServedSession}
-use Rattle.pv_ports.specs.Talk.{Happening, KeyTaken, WishAnswered, TurnedAway, HasRecord, IsTalk, ComesAbout, Talked, charges_of, marks_after}
+use Rattle.pv_ports.specs.Ends.{LineState, EndsAs}
+use Rattle.pv_ports.specs.Session.{Exchange, Said, Left, Judged, Traffic, TakesExchange, IsSession, exchange_mark}
+use Rattle.pv_ports.specs.Talk.{Happening, KeyTaken, WishAnswered, TurnedAway, HasRecord, IsTalk, ComesAbout, Talked, marks_after}
 use Rattle.pv_ports.specs.declared.edit_end.EditEnd.{EditEnd}
 use Rattle.pv_ports.specs.declared.end.CallEnd.{CallEnd}
 use Rattle.pv_ports.specs.declared.end.CallEnd.TheVariants as ends
@@ -43,29 +41,29 @@ use Rattle.pv_udc.specs.declared.request.UdcRequest.{UdcRequest}
 use Rattle.pv_centres.specs.Carried.{taken_count}
 use Rattle.pv_centres.specs.Served.{CentreServed, EachServes, NodeServed, UpdateServed}
 use Rattle.pv_serve.proofs.Ended.{ClosesSo}
-use Rattle.pv_serve.specs.Kept.{RiseBetween, AreMarksIn, KeepsCall, KeepsSession, CentreKept, StoresChargesFirst, UpdateKept}
+use Rattle.pv_serve.specs.Kept.{RiseWithin, AreMarksIn, KeepsCall, KeepsSession, CentreKept, StoresChargesFirst, UpdateKept}
 
 -- ---- marks
 
 -- marks that rise to here rise to any greater length
-rise_on : (least most more : ℕ) (marks : List ℕ) → RiseBetween least most marks → most ≤ more → RiseBetween least more marks
+rise_on : (least most more : ℕ) (marks : List ℕ) → RiseWithin least most marks → most ≤ more → RiseWithin least more marks
 rise_on least most more [] rise on = omega (arith, rise, on)
 rise_on least most more (mark ∷ marks) rise on = (rise.0, rise_on mark most more marks rise.1 on)
 
 -- and from any lesser one
-rise_from : (less least most : ℕ) (marks : List ℕ) → RiseBetween least most marks → less ≤ least → RiseBetween less most marks
+rise_from : (less least most : ℕ) (marks : List ℕ) → RiseWithin least most marks → less ≤ least → RiseWithin less most marks
 rise_from less least most [] rise from = omega (arith, rise, from)
 rise_from less least most (mark ∷ marks) rise from = (omega (arith, rise.0, from), rise.1)
 
 -- one mark more
-rise_to : (least most mark more : ℕ) (marks : List ℕ) → RiseBetween least most marks → most ≤ mark → mark ≤ more
-    → RiseBetween least more (marks ++ mark ∷ [])
+rise_to : (least most mark more : ℕ) (marks : List ℕ) → RiseWithin least most marks → most ≤ mark → mark ≤ more
+    → RiseWithin least more (marks ++ mark ∷ [])
 rise_to least most mark more [] rise past within = (omega (arith, rise, past), omega (arith, within))
 rise_to least most mark more (first ∷ marks) rise past within = (rise.0, rise_to first most mark more marks rise.1 past within)
 
 -- one mark more, if it is noted
-rise_if : (noted : Bool) (least most mark : ℕ) (marks : List ℕ) → RiseBetween least most marks → most ≤ mark
-    → RiseBetween least mark (if noted then marks ++ mark ∷ [] else marks)
+rise_if : (noted : Bool) (least most mark : ℕ) (marks : List ℕ) → RiseWithin least most marks → most ≤ mark
+    → RiseWithin least mark (if noted then marks ++ mark ∷ [] else marks)
 rise_if true least most mark marks rise past = rise_to least most mark mark marks rise past (omega arith)
 rise_if false least most mark marks rise past = rise_on least most mark marks rise past
 
@@ -75,7 +73,7 @@ all_length opening log = omega (arith, length-append opening (records_in log), l
 
 -- marks that rise from what a pass had seen to what it has seen lie in the list, of which that is a prefix
 marks_in : {T : Type 0} (opening : List T) (old new log : List (Entry T)) (marks : List ℕ) → IsPrefix new log
-    → RiseBetween (length opening + length old) (length opening + length new) marks → AreMarksIn opening log marks
+    → RiseWithin (length opening + length old) (length opening + length new) marks → AreMarksIn opening log marks
 marks_in opening old new log marks prefix rise =
     rise_from (length opening) (length opening + length old) (length (with_opening opening log)) marks
     (rise_on (length opening + length old) (length opening + length new) (length (with_opening opening log)) marks rise
@@ -102,8 +100,8 @@ module _ {S : Type 0} (r : rules.Ghosts S CentreState IrcRequest CentreRecord Ir
       (saw happening is.0 pass is.1 call step is.5)
 
   -- the marks of a call rise with what its pass has seen
-  rise_once : (happening : Happening) (before after least most mark : ℕ) (marks : List ℕ) → RiseBetween least most marks → most ≤ mark
-      → RiseBetween least mark (marks_after happening before after mark marks)
+  rise_once : (happening : Happening) (before after least most mark : ℕ) (marks : List ℕ) → RiseWithin least most marks → most ≤ mark
+      → RiseWithin least mark (marks_after happening before after mark marks)
   rise_once (KeyTaken byte moment) before after least most mark marks rise past =
       rise_if (not (before == after) && nat_lt (length marks) MAX_MARKS) least most mark marks rise past
   rise_once (WishAnswered wish told) before after least most mark marks rise past = rise_on least most mark marks rise past
@@ -111,7 +109,7 @@ module _ {S : Type 0} (r : rules.Ghosts S CentreState IrcRequest CentreRecord Ir
 
   rise_all : (happened : List Happening) (start pass : Standing CentreRecord) (call : CallState) (step : Step) (talked : Talked)
       → IsTalk r limits opening shown happened start pass call step talked
-      → RiseBetween (length opening + length start.seen) (length opening + length pass.seen) talked.marks
+      → RiseWithin (length opening + length start.seen) (length opening + length pass.seen) talked.marks
   rise_all [] start pass call step talked is =
       rw (is.0, is.3) (omega arith)
   rise_all (happening ∷ earlier) start pass call step talked is =
@@ -223,7 +221,7 @@ module _ {S : Type 0} (r : rules.Ghosts S EditList UdcRequest Record UdcReply) (
   marks_rise : (happened : List Exchange) (start pass : Standing Record) (seat : EditorSeat) (said : Traffic)
       → IsSession r limits opening happened start pass seat said
       → IsPrefix start.seen pass.seen
-      × RiseBetween (length opening + length start.seen) (length opening + length pass.seen) said.marks
+      × RiseWithin (length opening + length start.seen) (length opening + length pass.seen) said.marks
   marks_rise [] start pass seat said is = rw (is.0, is.2) (prefix_self start.seen, omega arith)
   marks_rise (exchange ∷ earlier) start pass seat said is =
       let before = marks_rise earlier start is.0 is.1 is.2 is.3 in

@@ -7,3 +7,4 @@ mod Facts
 mod Given
 mod Kept
 mod Server
+mod Worded

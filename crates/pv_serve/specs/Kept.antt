@@ -30,13 +30,13 @@ use Rattle.pv_centres.specs.Carried.{taken_count}
 use Rattle.pv_centres.specs.Served.{NodeServed}
 
 -- these marks never fall, and lie between these two
-abbrev pub RiseBetween : ℕ → ℕ → List ℕ → Type 0
-RiseBetween least most [] = least ≤ most
-RiseBetween least most (mark ∷ marks) = (least ≤ mark) × RiseBetween mark most marks
+abbrev pub RiseWithin : ℕ → ℕ → List ℕ → Type 0
+RiseWithin least most [] = least ≤ most
+RiseWithin least most (mark ∷ marks) = (least ≤ mark) × RiseWithin mark most marks
 
 -- these marks never fall, and lie between the lengths of a node's list at its opening and at its closing
 abbrev pub AreMarksIn : {Rec : Type 0} → List Rec → List (Entry Rec) → List ℕ → Type 0
-AreMarksIn opening log marks = RiseBetween (length opening) (length (with_opening opening log)) marks
+AreMarksIn opening log marks = RiseWithin (length opening) (length (with_opening opening log)) marks
 
 -- a law of calls: each charge that a call had stored is among the records that its pass has seen
 abbrev pub StoresChargesFirst : {S : Type 0} → rules.Ghosts S CentreState IrcRequest CentreRecord IrcReply → Type 0

@@ -5,6 +5,7 @@ pub mod Options
 pub mod Serving
 pub mod Status
 pub mod Unopened
+pub mod Web
 pub use Rattle.pv_journal.specs.Journal
 pub use Rattle.pv_journal.specs.Text
 pub use Rattle.pv_outside.specs.Counts

@@ -4,6 +4,8 @@
 //!   of it, [`Served`] has the status, the disks and the doors.
 //! - [`run_serve`] is the word `serve`: it locks the files of a folder, binds ports of the machine, and calls [`serve`].
 //!   [`ErrorOutput`] says what standard error has then beside faults.
+//! - [`run_web`] is the word `web`: it serves as `serve` does, and shows a terminal to browsers too.
+//!   [`web_options`] reads its words.
 //! - [`format_all`] makes each disk of a network a journal without records.
 //! - [`is_blank`] says whether a disk can be formatted and nothing is lost.
 //! - [`run_format`] formats a folder of real files, and sets aside what they held.
@@ -22,6 +24,7 @@ mod real_server;
 mod saying;
 mod serving;
 mod status;
+mod web;
 
 pub use blank::is_blank;
 pub use folder::Folder;
@@ -34,6 +37,7 @@ pub use real_server::run_serve;
 pub use saying::ErrorOutput;
 pub use serving::{Served, serve};
 pub use status::ServeStatus;
+pub use web::{WebOptions, run_web, web_options};
 
 #[cfg(test)]
 mod tests;

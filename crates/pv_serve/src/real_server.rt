@@ -1,7 +1,9 @@
 //! The word `serve` over a folder of real files, ports of the machine, its clock and its threads.
 ghost use Rattle.std.specs.Prelude.{◌≡◌, ◌+◌, ◌*◌, ◌<◌, ◌≤◌, All, map, string_bytes, vec_len, IfOk, OnOk};
 ghost use Rattle.pv_account.specs.declared.account.TheConstants.{MAX_CENTRES};
+ghost use Rattle.pv_files.specs.Doors.{IsNewDoor};
 ghost use Rattle.pv_serve.specs.Options.{AskToServe, ArePortsApart};
+ghost use Rattle.pv_serve.specs.Serving.{ArePartsOf};
 ghost use Rattle.pv_service.specs.declared.caller_stand.TheConstants.{MAX_ACCEPTED};
 
 use crate::logged_door::{LoggedDoor, Place};
@@ -11,7 +13,8 @@ use crate::saying::{ErrorOutput, out_of_memory, path_in, refused};
 use crate::serving::{Served, serve};
 use crate::status::ServeStatus;
 use pv_files::{
-    FileDisk, FileFault, MachineClock, NODE_FILES, OpenFault, TcpDoor, ThreadSpawner, open_file,
+    FileDisk, FileFault, Listener, MachineClock, NODE_FILES, OpenFault, SharedListener, TcpDoor,
+    ThreadSpawner, open_file,
 };
 use pv_outside::Disk;
 use std::alloc::AllocGlobal;
@@ -54,7 +57,7 @@ Exit status:
 ";
 
 /// A door of a port of the machine.
-type PortDoor<'a, R> = LoggedDoor<'a, R, TcpDoor<TcpListener>>;
+pub(crate) type PortDoor<'a, R, L = TcpListener> = LoggedDoor<'a, R, TcpDoor<L>>;
 
 /// Serves a network, if the first word is `serve`, and returns the number that the process ends with. A fault is one line on
 /// standard error. `output` says what else it has. `None` if the first word is another.
@@ -120,26 +123,47 @@ fn serve_with<
 >(rt: &R, words: &[String], options: &ServeOptions, output: ErrorOutput) -> Result<u8, u8>
     requires { AskToServe (map string_bytes words.now) options.now }
 {
-    let alloc = rt.alloc();
     let disks = open_disks(rt, options, output.is_seen)?;
     let callers = open_callers(rt, options, output.is_logged)?;
-    let mut editors = Vec::new(alloc);
-    add_doors(
-        rt,
-        &mut editors,
-        options.editor_port,
-        options.editors,
-        Place::Editors { port: 0 },
-        output.is_logged,
-    )?;
+    let editors = open_editors(rt, options, output.is_logged)?;
     if output.is_seen {
         say_open(rt, options);
     }
+    Ok(serve_at(rt, words, options, disks, callers, editors))
+}
+
+/// Serves the network of these options at these doors, and returns the number to end with.
+pub(crate) fn serve_at<
+    'a,
+    R: AllocGlobal
+        + Files<File = File>
+        + Net<Listener = TcpListener, Stream = TcpStream>
+        + time::Clock
+        + Wait
+        + Threads
+        + Sync
+        + Eprint,
+    L: Listener + Drop + Send,
+>(
+    rt: &'a R,
+    words: &[String],
+    options: &ServeOptions,
+    disks: Vec<FileDisk<NodeFile<'a, R>>>,
+    callers: Vec<PortDoor<'a, R, L>>,
+    editors: Vec<PortDoor<'a, R>>,
+) -> u8
+where
+    L::Line: Send,
+    requires asked { AskToServe (map string_bytes words.now) options.now }
+    requires parts { ArePartsOf options.now (vec_len disks) (vec_len callers) (vec_len editors) }
+    requires callers { All (λ logged. logged.door.counts.accepted < MAX_ACCEPTED) callers.items }
+    requires editors { All (λ logged. logged.door.counts.accepted < MAX_ACCEPTED) editors.items }
+{
     let clock = MachineClock::new(rt);
     let mut spawner = ThreadSpawner::new();
     let served = serve(
         rt,
-        alloc,
+        rt.alloc(),
         words,
         disks,
         callers,
@@ -153,11 +177,11 @@ fn serve_with<
         callers: _,
         editors: _,
     } = served;
-    Ok(end(rt, status))
+    end(rt, status)
 }
 
 /// Says where callers and editors are waited for.
-fn say_open<R: Eprint>(rt: &R, options: &ServeOptions)
+pub(crate) fn say_open<R: Eprint>(rt: &R, options: &ServeOptions)
     requires { ArePortsApart options.now }
 {
     for centre in 0..options.centres {
@@ -188,7 +212,7 @@ fn end<R: Eprint, D: Disk<Failure = FileFault>>(rt: &R, status: ServeStatus<D>) 
 }
 
 /// Opens and locks the file of each node. If standard error is seen, it has lines that say how far a long one is read.
-fn open_disks<'a, R: AllocGlobal + Files<File = File> + Eprint>(
+pub(crate) fn open_disks<'a, R: AllocGlobal + Files<File = File> + Eprint>(
     rt: &'a R,
     options: &ServeOptions,
     is_seen: bool,
@@ -246,54 +270,93 @@ fn open_callers<
     requires some { 1 ≤ options.now.ports }
     requires apart { ArePortsApart options.now }
     ensures count { IfOk result (λ doors. vec_len doors ≡ options.now.centres * options.now.ports) }
-    ensures room { IfOk result (λ doors. All (λ logged. logged.door.counts.accepted < MAX_ACCEPTED) doors.items) }
+    ensures room { IfOk result
+        (λ doors. All (λ logged. logged.door.counts.accepted < MAX_ACCEPTED) doors.items) }
 {
     let mut doors = Vec::new(rt.alloc());
     for centre in 0..options.centres {
-        add_doors(
-            rt,
-            &mut doors,
-            options.port + u16::from(centre),
-            options.ports,
-            Place::Callers { centre, port: 0 },
-            is_logged,
-        )?;
+        let port = options.port + u16::from(centre);
+        let first = TcpDoor::bind(rt, port).map_err(|error| no_port(rt, port, error))?;
+        let place = Place::Callers { centre, port: 0 };
+        add_doors(rt, &mut doors, first, port, options.ports, place, is_logged)?;
     }
     Ok(doors)
 }
 
-/// Adds this many doors at a port of the machine. `place` is that of the first.
-fn add_doors<
+/// The doors of the editors' ports.
+pub(crate) fn open_editors<
     'a,
     R: AllocGlobal + Net<Listener = TcpListener, Stream = TcpStream> + time::Clock + Eprint,
->(
+>(rt: &'a R, options: &ServeOptions, is_logged: bool) -> Result<Vec<PortDoor<'a, R>>, u8>
+    requires some { 1 ≤ options.now.editors }
+    ensures count { IfOk result (λ doors. vec_len doors ≡ options.now.editors) }
+    ensures room { IfOk result
+        (λ doors. All (λ logged. logged.door.counts.accepted < MAX_ACCEPTED) doors.items) }
+{
+    let mut doors = Vec::new(rt.alloc());
+    let port = options.editor_port;
+    let first = TcpDoor::bind(rt, port).map_err(|error| no_port(rt, port, error))?;
+    let place = Place::Editors { port: 0 };
+    add_doors(
+        rt,
+        &mut doors,
+        first,
+        port,
+        options.editors,
+        place,
+        is_logged,
+    )?;
+    Ok(doors)
+}
+
+/// Adds this many doors at a port of the machine, of which this is the first. `place` is that of the first.
+pub(crate) fn add_doors<'a, R: AllocGlobal + time::Clock + Eprint, L: SharedListener + Drop>(
     rt: &'a R,
-    doors: &mut Vec<PortDoor<'a, R>>,
+    doors: &mut Vec<PortDoor<'a, R, L>>,
+    first: TcpDoor<L>,
     port: u16,
     count: u8,
     place: Place,
     is_logged: bool,
 ) -> Result<(), u8>
     requires some { 1 ≤ count }
+    requires fresh { IsNewDoor first }
     requires room { All (λ logged. logged.door.counts.accepted < MAX_ACCEPTED) doors.old.items }
     ensures count { OnOk result (vec_len doors.new ≡ vec_len doors.old + count) }
     ensures room { OnOk result (All (λ logged. logged.door.counts.accepted < MAX_ACCEPTED) doors.new.items) }
 {
     let mut place = place;
-    let first = TcpDoor::bind(rt, port).map_err(|error| no_port(rt, port, error))?;
     for _ in 1..count {
-        let beside = first.beside().map_err(|error| no_port(rt, port, error))?;
-        let logged = LoggedDoor::new(rt, beside, place, is_logged);
-        doors.push(logged).map_err(|_| out_of_memory(rt))?;
+        match first.beside() {
+            Ok(beside) => add_door(rt, doors, beside, place, is_logged)?,
+            Err(error) => return Err(no_port(rt, port, error)),
+        }
         place = place.next();
     }
-    let logged = LoggedDoor::new(rt, first, place, is_logged);
-    doors.push(logged).map_err(|_| out_of_memory(rt))?;
-    Ok(())
+    add_door(rt, doors, first, place, is_logged)
+}
+
+/// Adds a door.
+fn add_door<'a, R: AllocGlobal + time::Clock + Eprint, L: SharedListener + Drop>(
+    rt: &'a R,
+    doors: &mut Vec<PortDoor<'a, R, L>>,
+    door: TcpDoor<L>,
+    place: Place,
+    is_logged: bool,
+) -> Result<(), u8>
+    requires fresh { IsNewDoor door }
+    requires room { All (λ logged. logged.door.counts.accepted < MAX_ACCEPTED) doors.old.items }
+    ensures count { OnOk result (vec_len doors.new ≡ vec_len doors.old + 1) }
+    ensures room { OnOk result (All (λ logged. logged.door.counts.accepted < MAX_ACCEPTED) doors.new.items) }
+{
+    match doors.push(LoggedDoor::new(rt, door, place, is_logged)) {
+        Ok(()) => Ok(()),
+        Err(_) => Err(out_of_memory(rt)),
+    }
 }
 
 /// Says that a port of the machine could not be had, and returns the number to end with.
-fn no_port<R: Eprint>(rt: &R, port: u16, error: io::Error) -> u8 {
+pub(crate) fn no_port<R: Eprint>(rt: &R, port: u16, error: io::Error) -> u8 {
     let _ = eprintln!(rt; "prestel: port {port}: {error}");
     10
 }
