@@ -13,6 +13,7 @@ const HELP: &str = "usage: prestel play N < SCRIPT
        prestel evening N
        prestel format DIR N
        prestel serve DIR --centres N ..
+       prestel web W serve DIR --centres N ..
        prestel tape DIR < TAPE
        prestel statement DIR ACCOUNT YYYY-MM
        prestel --help
@@ -23,9 +24,10 @@ gen writes the script that is made by rule for N, 1 to 999.
 evening plays it, and sums up in one line what came of it.
 format makes the disks of N centres in a folder.
 serve lets callers and editors reach them over sockets.
+web does so too, and shows browsers a terminal.
 tape loads the pages of an information provider there.
 statement writes what an account was charged in a month.
-Each of the seven has a --help of its own.
+Each of the eight has a --help of its own.
 
 Exit status:
   0  everything was done
