@@ -1,14 +1,15 @@
 //! The program: `prestel play N` runs a script on a viewdata network of N retrieval centres, 1 to 4. `prestel gen N`
 //! writes the script that is made by rule for the number N, and `prestel evening N` plays it and sums it up. `prestel format`
-//! makes the disks of a network in a folder, and `prestel serve` serves it over sockets. `prestel tape` loads an information
+//! makes the disks of a network in a folder, and `prestel serve` serves it over sockets,
+//! `prestel web` to browsers too. `prestel tape` loads an information
 //! provider's pages there, and `prestel statement` writes a month's statement of an account from there.
 //!
-//! The first three are [`pv_play::run`]. The others are `pv_serve::run_format` and `run_serve`, and `pv_office::run_office`.
+//! The first three are [`pv_play::run`]. The others are `pv_serve::run_format`, `run_serve` and `run_web`, and `pv_office::run_office`.
 #![tactic(auto)]
 
 use pv_office::run_office;
 use pv_play::{WordsError, args_of, end, error_of, run, words_of};
-use pv_serve::{ErrorOutput, run_format, run_serve};
+use pv_serve::{ErrorOutput, run_format, run_serve, run_web};
 use std::env::{self, VarError};
 use std::fs::{File, Files};
 use std::io::IsTerminal;
@@ -54,7 +55,10 @@ fn run_on_files<
     if let Some(number) = run_format(rt, words) {
         return Some(number);
     }
-    match run_serve(rt, words, output) {
+    if let Some(number) = run_serve(rt, words, output) {
+        return Some(number);
+    }
+    match run_web(rt, words, output) {
         Some(number) => Some(number),
         None => run_office(rt, words, output.is_seen),
     }
