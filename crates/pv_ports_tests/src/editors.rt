@@ -301,8 +301,8 @@ fn played<R: Wait + Abort>(rt: &R, alloc: Global, case: Case<'_>) -> Result<(), 
     Ok(())
 }
 
-/// Serves a session on a fresh Update Centre of whose disk these calls fail, and returns how it ended, whether these are
-/// its marks, and how many records there are then.
+/// Serves a session on a fresh Update Centre of whose disk these calls fail. Returns how it ended, whether these are its
+/// marks, and how many records there are then.
 fn session<R: Wait>(
     rt: &R,
     alloc: Global,

@@ -24,18 +24,18 @@ fn open(disk: MemDisk, alloc: Global, limits: Limits) -> Result<Udc, Fail> {
 /// The reply to an edit, and the place of the record that it stored.
 type Told = (UdcReply, Option<u64>);
 
-/// What the operator's edit under a number is told. `None` if the disk failed.
+/// The answer to the operator's edit under a number. `None` if the disk failed.
 fn answer(node: &mut Udc, q: u32, asked: Ask) -> Result<Option<Told>, Fail> {
     let editor = account_no(0)?;
     let wish = wish(asked)?;
     match node.ask(&UdcRequest::Edit { editor, q, wish }) {
-        Ok(told) => Ok(Some((told.reply, told.number))),
+        Ok(answered) => Ok(Some((answered.reply, answered.number))),
         Err(AskFault::Full { .. }) => Err("full".into()),
         Err(AskFault::Disk(_)) => Ok(None),
     }
 }
 
-/// What it is told, of a disk that does not fail.
+/// Its answer, over a disk that does not fail.
 fn edit(node: &mut Udc, q: u32, asked: Ask) -> Result<Told, Fail> {
     Ok(answer(node, q, asked)?.ok_or("the disk failed")?)
 }
@@ -99,14 +99,14 @@ fn failing_at(alloc: Global, call: u64) -> Result<Udc, Fail> {
     open(disk, alloc, LARGE)
 }
 
-/// The first edit, asked twice: what it is told each time, and how many records there are at the node and in its state.
+/// The first edit, asked twice: its answer each time, and how many records there are at the node and in its state.
 fn asked_twice(node: &mut Udc) -> Result<([Option<Told>; 2], u64, u64), Fail> {
     let first = answer(node, 1, Ask::Put(b"1a"))?;
     let second = answer(node, 1, Ask::Put(b"1a"))?;
     Ok(([first, second], node.count(), node.state().front()))
 }
 
-/// The call of the disk that fails in the first ask, and what the second is told. Seven calls are those of the formatting
+/// The call of the disk that fails in the first ask, and the answer of the second. Seven calls are those of the formatting
 /// and the opening; then the block is written and synced, and then its gate.
 const FAULTS: [(u64, Told); 4] = [
     (7, (UdcReply::Stored(0), Some(0))),
@@ -117,11 +117,11 @@ const FAULTS: [(u64, Told); 4] = [
 
 #[test]
 fn an_edit_is_stored_once_wherever_the_disk_fails(rt: HostRuntime) -> Result<(), Fail> {
-    for (call, told) in FAULTS {
+    for (call, answer) in FAULTS {
         let mut node = failing_at(rt.alloc(), call)?;
         assert_eq!(rt;
             asked_twice(&mut node)?,
-            ([None, Some(told)], 1, 1),
+            ([None, Some(answer)], 1, 1),
             "call {call} failed"
         );
     }
