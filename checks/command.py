@@ -151,7 +151,7 @@ def built():
         written, said, status = at.run("evening", "999")
         yield "command: what takes too long is proved first, and answered", (written, status) == ("proved evening 999\n", 3) and "it took over 60 seconds; the program is proved first" in said
         yield "command: then it is proved", at.run("gen", "7") == ("proved gen 7\n", "", 3)
-    for words in (("format", "d", "1"), ("serve", "d")):
+    for words in (("format", "d", "1"), ("serve", "d"), ("web", "8080", "serve", "d")):
         with place() as at:
             at.builds(f"import pathlib, sys\np = pathlib.Path(sys.argv[1]) / 'out/prestel'\np.write_text({PROGRAM!r})\np.chmod(0o755)\n")
             yield f"command: the help of {words[0]}, which works on files, is answered at once", NOT_PROVED in at.run(words[0], "--help")[1]

@@ -129,6 +129,8 @@ def taped(program):
         example = EXAMPLES / "news.tape"
         yield "tape: the example", at.run("tape", "net", text=example.read_bytes()) == (example.with_suffix(".answer").read_text(), "", 0)
         yield "tape: the example again", at.run("tape", "net", text=example.read_bytes()) == ("stored 0 skipped 3\n", "", 0)
+        file.write_bytes(EMPTY)
+        yield "tape: the example of five frames", at.run("tape", "net", text=(EXAMPLES / "evening-paper.tape").read_bytes()) == ("stored 5 skipped 0\n", "", 0)
 
 
 def watched(program):

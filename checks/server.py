@@ -11,6 +11,7 @@ from outside import failures
 from serving import MEMORY, Place
 from stops import stops
 from viewdata import Line, Page
+from web import browsers
 
 EXAMPLES = Path(__file__).resolve().parent.parent / "examples/server"
 CALLER = 1_000_000_001
@@ -256,7 +257,7 @@ def idle(program):
 
 def served(program):
     """A line for each thing that the server does. A part that breaks off is a line too."""
-    for part in (first_call, example, in_pieces, at_once, seen_soon, stopped, refused, announced, opened, logged, failures, idle, stops, an_evening):
+    for part in (first_call, example, in_pieces, at_once, seen_soon, stopped, refused, announced, opened, logged, failures, browsers, idle, stops, an_evening):
         try:
             yield from part(program)
         except Exception as error:

@@ -31,16 +31,19 @@ def free_ports(count):
 
 
 class Server:
-    """A server over the folder net, for so many calls of each port. It is killed if it still runs when its place goes."""
+    """A server over the folder net, for so many calls of each port, and of the page if it is said. It is killed if it still runs when its
+    place goes."""
 
-    def __init__(self, program, folder, centres=1, ports=1, editors=1, calls=1, first=None, stderr=subprocess.PIPE, is_logged=False):
-        self.first = first or free_ports(centres + 1)
+    def __init__(self, program, folder, centres=1, ports=1, editors=1, calls=1, first=None, stderr=subprocess.PIPE, is_logged=False, is_web=False):
+        self.first = first or free_ports(2 * centres + 1)
         options = {"centres": centres, "ports": ports, "editors": editors, "calls": calls, "port": self.first, "editor-port": self.first + centres}
-        self.editor_port = self.first + centres
+        self.editor_port, self.web = self.first + centres, self.first + centres + 1
+        self.page = f"http://127.0.0.1:{self.web}/"
+        page_words = ["web", str(self.web)] if is_web else []
         words = [word for name, number in options.items() for word in (f"--{name}", str(number))]
         environment = {name: value for name, value in os.environ.items() if name != "PRESTEL_LOG"} | ({"PRESTEL_LOG": ""} if is_logged else {})
         self.process = subprocess.Popen(
-            [program, "serve", "net", *words], cwd=folder, env=environment, stdin=subprocess.DEVNULL, stdout=subprocess.PIPE, stderr=stderr
+            [program, *page_words, "serve", "net", *words], cwd=folder, env=environment, stdin=subprocess.DEVNULL, stdout=subprocess.PIPE, stderr=stderr
         )
 
     def caller(self, centre=0):
