@@ -1,7 +1,8 @@
-ghost use Rattle.std.specs.Prelude.{IfOk};
+ghost use Rattle.std.specs.Prelude.{◌<◌, ◌≤◌, IfOk};
 ghost use Rattle.pv_journal.specs.Log.{IsAtRest};
+ghost use Rattle.pv_journal.specs.Text.{IsBody};
 
-use pv_journal::{AppendFault, Journal, MAX_BODY, OpenFault, format};
+use pv_journal::{AppendFault, Batch, Journal, MAX_BODY, MAX_WRITE, OpenFault, format};
 use pv_memory::MemDisk;
 use pv_outside::{Disk, Failed, Fused, Limits};
 use std::alloc::{AllocError, Global};
@@ -325,4 +326,142 @@ fn after_stop(alloc: Global, calls: u32, image: u8) -> Result<Vec<u8>, Fail> {
     let mut disk = journal.into_disk();
     disk.crash(image);
     bodies_of(alloc, disk)
+}
+
+/// A batch of the bodies of [`THREE`].
+fn batch_of_three() -> Result<Batch, Fail>
+    ensures { IfOk result (λ batch. 0 < batch.count) }
+{
+    let mut batch = Batch::new();
+    if !batch.push(b"A") || !batch.push(b"BC") || !batch.push(b"DEF") {
+        return Err("there was no room".into());
+    }
+    Ok(batch)
+}
+
+/// Appends one body.
+fn append_one(journal: &mut Journal<MemDisk>, body: &[u8]) -> Result<(), Fail>
+    requires at_rest { IsAtRest journal.old }
+    requires size { IsBody body.now }
+    ensures { IfOk result (λ _. IsAtRest journal.new) }
+{
+    if journal.append(body).is_err() {
+        return Err("it was not appended".into());
+    }
+    Ok(())
+}
+
+/// A disk to which the bodies of [`THREE`] were appended one by one.
+fn with_three(alloc: Global) -> Result<MemDisk, Fail> {
+    let mut journal = open(disk_of(alloc, NONE, &[])?)?;
+    append_one(&mut journal, b"A")?;
+    append_one(&mut journal, b"BC")?;
+    append_one(&mut journal, b"DEF")?;
+    Ok(journal.into_disk())
+}
+
+#[test]
+fn a_batch_is_appended_by_four_calls_as_its_bodies_are(rt: HostRuntime) -> Result<(), Fail> {
+    let mut journal = open(disk_of(rt.alloc(), NONE, &[])?)?;
+    journal.fuse(4);
+    let place = journal.append_all(&batch_of_three()?);
+    assert_eq!(rt; (place, journal.count()), (Ok(0), 3));
+    let disks = (journal.into_disk(), with_three(rt.alloc())?);
+    assert_eq!(rt; (disks.0.bytes(), disks.1.bytes()), (THREE, THREE));
+    Ok(())
+}
+
+#[test]
+fn a_stop_leaves_none_of_a_batch_or_all(rt: HostRuntime) -> Result<(), Fail> {
+    // As with one body, the gate at place 8 is 1 after three calls in the images 1 and 103 alone.
+    for calls in 0..5 {
+        for image in IMAGES {
+            let bodies = after_stop_in_a_batch(rt.alloc(), calls, image)?;
+            let stored = calls == 4 || calls == 3 && (image == 1 || image == 103);
+            let want: &[u8] = if stored { b"A.BC.DEF." } else { b"" };
+            assert_eq!(rt;
+                bodies.as_slice(),
+                want,
+                "image {image} after {calls} calls"
+            );
+        }
+    }
+    Ok(())
+}
+
+/// The bodies on the image that a stop after `calls` calls of an append of three leaves.
+fn after_stop_in_a_batch(alloc: Global, calls: u32, image: u8) -> Result<Vec<u8>, Fail> {
+    let mut journal = open(disk_of(alloc, NONE, &[])?)?;
+    journal.fuse(calls);
+    let _ = journal.append_all(&batch_of_three()?);
+    let mut disk = journal.into_disk();
+    disk.crash(image);
+    bodies_of(alloc, disk)
+}
+
+/// A journal that has three bodies in hand, since this call of the disk failed.
+fn with_three_in_hand(alloc: Global, failing: u64) -> Result<Journal<MemDisk>, Fail> {
+    let mut journal = open(disk_of(alloc, NONE, &[failing])?)?;
+    if journal.append_all(&batch_of_three()?) != Err(AppendFault::Disk(Failed)) {
+        return Err("they were appended".into());
+    }
+    Ok(journal)
+}
+
+#[test]
+fn a_batch_that_was_not_stored_is_appended_again(rt: HostRuntime) -> Result<(), Fail> {
+    // The calls 6 to 9 are those of the append. If it is stored, there is no room for three more.
+    for (failing, stored) in [(6, false), (7, false), (8, false), (9, true)] {
+        let mut journal = with_three_in_hand(rt.alloc(), failing)?;
+        let is_stored = settled(&mut journal)?;
+        let again = journal.append_all(&batch_of_three()?);
+        let wanted = if stored {
+            Err(AppendFault::Full { count: 3 })
+        } else {
+            Ok(0)
+        };
+        assert_eq!(rt;
+            (is_stored, again),
+            (stored, wanted),
+            "call {failing} failed"
+        );
+        assert_eq!(rt;
+            bodies_of(rt.alloc(), journal.into_disk())?.as_slice(),
+            b"A.BC.DEF.".as_slice()
+        );
+    }
+    Ok(())
+}
+
+/// A batch with the longest body, and whether a second body of this size was taken too.
+fn batch_with_second(size: usize) -> Result<(Batch, bool), Fail>
+    requires { (0 < size) × (size ≤ 2048) }
+    ensures { IfOk result (λ batch. 0 < batch.0.count) }
+{
+    let body = [b'A'; MAX_BODY];
+    let mut batch = Batch::new();
+    if !batch.push(&body) {
+        return Err("there was no room".into());
+    }
+    let is_taken = batch.push(&body[..size]);
+    Ok((batch, is_taken))
+}
+
+#[test]
+fn a_batch_is_full_at_the_longest_write(rt: HostRuntime) -> Result<(), Fail> {
+    // Two blocks have six bytes more than their bodies.
+    let last = MAX_WRITE - MAX_BODY - 6;
+    let (batch, is_taken) = batch_with_second(last + 1)?;
+    assert_eq!(rt; (is_taken, batch.count()), (false, 1));
+    let (batch, is_taken) = batch_with_second(last)?;
+    let mut journal = open(disk_of(rt.alloc(), NONE, &[])?)?;
+    let place = journal.append_all(&batch);
+    let disk = journal.into_disk();
+    let size = disk.bytes().len();
+    let bodies = bodies_of(rt.alloc(), disk)?;
+    assert_eq!(rt;
+        (is_taken, place, size, bodies.len()),
+        (true, Ok(0), NONE.len() + MAX_WRITE, MAX_BODY + last + 2)
+    );
+    Ok(())
 }

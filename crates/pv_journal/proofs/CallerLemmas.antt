@@ -86,4 +86,4 @@ module _ {D : Type 0} (g : reports.Ghosts D) where
 pub count_within : (phase : Phase) (count limit : ℕ) → count_with_hand phase count ≤ limit → count ≤ limit
 count_within (Reading end) count limit within = within
 count_within Resting count limit within = within
-count_within (InHand size) count limit within = omega (arith, within)
+count_within (InHand size bodies) count limit within = omega (arith, within)

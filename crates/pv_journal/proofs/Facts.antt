@@ -1,13 +1,17 @@
 -- Worked examples of what stands on a disk, computed from the definitions.
 use Rattle.std.proofs.Common.{◌≡◌, inl, [], ◌∷◌, ◌++◌, replicate, codes, refl}
-use Rattle.pv_journal.specs.declared.block.TheConstants.{MAX_BODY}
+use Rattle.pv_journal.specs.declared.block.TheConstants.{MAX_BODY, MAX_WRITE}
 use Rattle.pv_journal.specs.declared.storing.TheConstants.{APPEND_CALLS, GATE_CALLS}
 use Rattle.pv_journal.specs.Log.{longest}
-use Rattle.pv_journal.specs.Text.{text_of, first_eight, bytes_after_gate, HasBrokenBlock}
+use Rattle.pv_journal.specs.Text.{text_of, first_eight, bytes_after_gate, bytes_behind, HasBrokenBlock}
 
 -- a body has at most 2,048 bytes
 pub longest_body : MAX_BODY ≡ 2048
 longest_body = refl
+
+-- the blocks of a batch have at most 4,096 bytes
+pub longest_batch : MAX_WRITE ≡ 4096
+longest_batch = refl
 
 -- an append makes four calls of the disk, two of them before its gate
 pub calls_of_an_append : APPEND_CALLS ≡ 4
@@ -31,6 +35,10 @@ one_body = refl
 -- what was written after the gate to append AB: its length, the body, and a closed gate
 pub one_written : bytes_after_gate (codes "AB") ≡ 0 ∷ 2 ∷ 65 ∷ 66 ∷ 0 ∷ []
 one_written = refl
+
+-- what was written after the gate to append AB and C at once: the gate between them is open
+pub two_written : bytes_behind (codes "AB" ∷ codes "C" ∷ []) ≡ 0 ∷ 2 ∷ 65 ∷ 66 ∷ 1 ∷ 0 ∷ 1 ∷ 67 ∷ 0 ∷ []
+two_written = refl
 
 -- the high byte of a length comes first
 pub high_first : bytes_after_gate (replicate 258 7) ≡ 1 ∷ 2 ∷ replicate 258 7 ++ 0 ∷ []

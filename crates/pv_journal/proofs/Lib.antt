@@ -7,6 +7,7 @@ mod Facts
 mod Gates
 pub mod Images
 pub mod Moments
+mod Packed
 mod Reading
 mod Settle
 mod Unique

@@ -10,8 +10,8 @@ use Rattle.pv_journal.proofs.Images.{writes_told, each_kept}
 
 module _ {D : Type 0} (g : reports.Ghosts D) where
   -- over one call, after which each image has P
-  pub time_call : {T E : Type 0} {pay : Budget → Budget} {size : ℕ} {Can : Option Budget → Type 0} (old new : D) (r : Result T E) (P : List ℕ → Type 0) → IsCall g size pay Can old new r
-      → size ≤ KEPT_BYTES → (IsSome (g.reads new) → IsSome (g.reads old)) → EachImage g new P → TimePasses g old new P
+  pub time_call : {T E : Type 0} {pay : Budget → Budget} {size : ℕ} {Can : Option Budget → Type 0} (old new : D) (r : Result T E) (P : List ℕ → Type 0)
+      → IsCall g size pay Can old new r → size ≤ KEPT_BYTES → (IsSome (g.reads new) → IsSome (g.reads old)) → EachImage g new P → TimePasses g old new P
   time_call old new r P call little told each = search rules
 
   -- over no call
@@ -38,7 +38,8 @@ module _ {D : Type 0} (g : reports.Ghosts D) where
   pub time_look : {T E : Type 0} {pay : Budget → Budget} (old new : D) (r : Result T E) → WritesNothing g pay old new r
       → TimePasses g old new (g.may_leave old)
   time_look old new r looks =
-      time_call old new r (g.may_leave old) looks.call (omega arith) (λ told. subst (λ (o : Option (List ℕ)). IsSome o) looks.reads told) (λ told image left. looks.images image left)
+      time_call old new r (g.may_leave old) looks.call (omega arith)
+      (λ told. subst (λ (o : Option (List ℕ)). IsSome o) looks.reads told) (λ told image left. looks.images image left)
 
   -- if no call was made, each image of this moment is one of now
   pub only_none : ((d : D) (image : List ℕ) → g.left_since d (g.clock d) image → g.may_leave d image ⊎ g.has_forgotten d (g.clock d))
@@ -65,9 +66,13 @@ module _ {D : Type 0} (g : reports.Ghosts D) where
   pub only_look : {T E : Type 0} {pay : Budget → Budget} {first old new : D} {P : List ℕ → Type 0} {r : Result T E}
       → LeavesOnly g first old P → WritesNothing g pay old new r → LeavesOnly g first new P
   only_look {old = old} {new = new} {P = P} {r = r} a looks =
-      only_then a (time_weaker (λ told image left. a.now (subst (λ (o : Option (List ℕ)). IsSome o) looks.reads told) image left) (time_look old new r looks)) (each_kept g old new P looks.reads looks.images a.now)
+      only_then a
+      (time_weaker (λ told image left. a.now (subst (λ (o : Option (List ℕ)). IsSome o) looks.reads told) image left) (time_look old new r looks))
+      (each_kept g old new P looks.reads looks.images a.now)
 
   -- over a stretch more in which nothing was written
   pub only_remains : {first old new : D} {P : List ℕ → Type 0} → LeavesOnly g first old P → Remains g old new → LeavesOnly g first new P
   only_remains {old = old} {new = new} {P = P} a same =
-      only_then a (time_weaker (λ told image left. a.now (subst (λ (o : Option (List ℕ)). IsSome o) same.reads told) image left) same.time) (each_kept g old new P same.reads same.images a.now)
+      only_then a
+      (time_weaker (λ told image left. a.now (subst (λ (o : Option (List ℕ)). IsSome o) same.reads told) image left) same.time)
+      (each_kept g old new P same.reads same.images a.now)

@@ -25,7 +25,8 @@ has_block (a ∷ []) size long open_gate is high low some most within = absurd (
 has_block (a ∷ b ∷ []) size long open_gate is high low some most within = absurd (omega arith)
 has_block (gate ∷ b ∷ c ∷ rest) size long open_gate is high low some most within =
     let whole : length (take size rest) ≡ size = length-take-le size rest (omega arith) in
-    let digits : to_be_bytes w16 (length (take size rest)) ≡ b ∷ c ∷ [] = be_bytes_2 (b ∷ c ∷ []) (length (take size rest)) refl (two_bytes b c high low) (omega (arith, whole)) in
+    let digits : to_be_bytes w16 (length (take size rest)) ≡ b ∷ c ∷ [] =
+    be_bytes_2 (b ∷ c ∷ []) (length (take size rest)) refl (two_bytes b c high low) (omega (arith, whole)) in
     record {
       block = record {
         rest = drop size rest;
@@ -49,7 +50,8 @@ first_read text into held is read = elim (cases_lt (length text) 8) [
   | inl short ↦
       let all : held ≡ length text = omega arith in
       let rest : drop held (replicate 8 0) ≡ replicate (8 - held) 0 = drop-replicate held 8 0 in
-      let more : take (length text + (8 - held)) (text ++ replicate 8 0) ≡ text ++ take (8 - held) (replicate 8 0) = take-append-add text (replicate 8 0) (8 - held) in
+      let more : take (length text + (8 - held)) (text ++ replicate 8 0) ≡ text ++ take (8 - held) (replicate 8 0) =
+      take-append-add text (replicate 8 0) (8 - held) in
       let eight : length text + (8 - held) ≡ 8 = omega arith in
       (λ i. (read ∙ take_all held text (omega arith)) i ++ rest i)
       ∙ sym (ap (λ (l : List ℕ). text ++ l) (take-replicate (8 - held) 8 0 (omega arith)))
@@ -58,7 +60,8 @@ first_read text into held is read = elim (cases_lt (length text) 8) [
   | inr long ↦
       let all : held ≡ 8 = omega arith in
       let nothing : drop held (replicate 8 0) ≡ [] = ap (λ (k : ℕ). drop k (replicate 8 0)) all in
-      (λ i. (read ∙ ap (λ (k : ℕ). take k text) all) i ++ nothing i) ∙ append-nil (take 8 text) ∙ sym (take-append-le 8 text (replicate 8 0) long)
+      (λ i. (read ∙ ap (λ (k : ℕ). take k text) all) i ++ nothing i)
+      ∙ append-nil (take 8 text) ∙ sym (take-append-le 8 text (replicate 8 0) long)
 ]
 
 -- what a read of at most a longest block gives is the first part of what is at the gate

@@ -23,9 +23,12 @@ same_block : (a b x y : List ℕ) → IsBody a → IsBody b → block a ++ x ≡
 same_block a b x y sized_a sized_b same =
     let digits : to_be_bytes w16 (length a) ≡ to_be_bytes w16 (length b) = cc in
     let size : length a ≡ length b =
-    sym (from_be_bytes-to_be_bytes_2 (length a) (omega (arith, sized_a))) ∙ ap (λ (l : List ℕ). from_be_bytes w16 l) digits ∙ from_be_bytes-to_be_bytes_2 (length b) (omega (arith, sized_b)) in
+    sym (from_be_bytes-to_be_bytes_2 (length a) (omega (arith, sized_a)))
+    ∙ ap (λ (l : List ℕ). from_be_bytes w16 l) digits
+    ∙ from_be_bytes-to_be_bytes_2 (length b) (omega (arith, sized_b)) in
     let rest : a ++ x ≡ b ++ y = cc in
-    let body : a ≡ b = sym (take_at a x (length a) refl) ∙ ap (λ (l : List ℕ). take (length a) l) rest ∙ take_at b y (length a) (sym size) in
+    let body : a ≡ b =
+    sym (take_at a x (length a) refl) ∙ ap (λ (l : List ℕ). take (length a) l) rest ∙ take_at b y (length a) (sym size) in
     (body, append_cancel_left b x y (ap (λ (l : List ℕ). l ++ x) (sym body) ∙ rest))
 
 -- after a closed gate there is no further body
@@ -61,9 +64,12 @@ never_broken rest [] follows broken = follows.closed (open_if_broken follows.gat
 never_broken rest (body ∷ more) follows broken =
     let sized = All-head IsBody body more follows.sizes in
     let behind = flat_map block more ++ follows.gate ∷ follows.behind in
-    let there : HasBrokenBlock (block body ++ behind) = subst HasBrokenBlock (follows.text ∙ append_assoc (block body) (flat_map block more) (follows.gate ∷ follows.behind)) broken in
-    let size : from_be_bytes w16 (to_be_bytes w16 (length body)) ≡ length body = from_be_bytes-to_be_bytes_2 (length body) (omega (arith, sized)) in
-    ⊎_elim (λ none. omega (arith, none, size, sized)) (⊎_elim (λ long. omega (arith, long, size, sized)) (λ short. omega (arith, short, size, length-append body behind))) there.1
+    let there : HasBrokenBlock (block body ++ behind) =
+    subst HasBrokenBlock (follows.text ∙ append_assoc (block body) (flat_map block more) (follows.gate ∷ follows.behind)) broken in
+    let size : from_be_bytes w16 (to_be_bytes w16 (length body)) ≡ length body =
+    from_be_bytes-to_be_bytes_2 (length body) (omega (arith, sized)) in
+    ⊎_elim (λ none. omega (arith, none, size, sized))
+    (⊎_elim (λ long. omega (arith, long, size, sized)) (λ short. omega (arith, short, size, length-append body behind))) there.1
 
 -- of a text that spells some bodies and more, what stands after the first ones are the others
 pub follows_front : (bodies more : List (List ℕ)) (text rest : List ℕ) → text ≡ text_of bodies ++ rest → Spells text (bodies ++ more)
@@ -99,7 +105,9 @@ same_following rest (body ∷ one) (first ∷ other) a b =
     let behind_a = flat_map block one ++ a.gate ∷ a.behind in
     let behind_b = flat_map block other ++ b.gate ∷ b.behind in
     let same : block body ++ behind_a ≡ block first ++ behind_b =
-    sym (a.text ∙ append_assoc (block body) (flat_map block one) (a.gate ∷ a.behind)) ∙ b.text ∙ append_assoc (block first) (flat_map block other) (b.gate ∷ b.behind) in
+    sym (a.text ∙ append_assoc (block body) (flat_map block one) (a.gate ∷ a.behind))
+    ∙ b.text
+    ∙ append_assoc (block first) (flat_map block other) (b.gate ∷ b.behind) in
     let parts = same_block body first behind_a behind_b (All-head IsBody body one a.sizes) (All-head IsBody first other b.sizes) same in
     let others = same_following behind_a one other
     (record { gate = a.gate; behind = a.behind; text = refl; closed = a.closed; sizes = λ k d h. a.sizes (suc k) d (omega arith) })
@@ -118,4 +126,5 @@ pub follows_on_disk : (o : Option (List ℕ)) (gate : ℕ) (bodies more : List (
     → IfSome o (λ text. text ≡ text_of bodies ++ drop gate text) → o ≡ Some text → Spells text (bodies ++ more)
     → Follows (drop gate text) more
 follows_on_disk o gate bodies more text begins is spells =
-    follows_front bodies more text (drop gate text) (MatchOption-at_some _ (λ (t : List ℕ). t ≡ text_of bodies ++ drop gate t) text is begins) spells
+    follows_front bodies more text (drop gate text)
+    (MatchOption-at_some _ (λ (t : List ℕ). t ≡ text_of bodies ++ drop gate t) text is begins) spells

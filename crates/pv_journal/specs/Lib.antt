@@ -1,4 +1,5 @@
 pub mod Appending
+pub mod Batch
 pub mod Block
 pub mod Equality
 pub mod Faults

@@ -4,7 +4,7 @@ use Rattle.std.specs.Prelude.{◌≡◌, ℕ, ◌+◌, ◌*◌, ◌<◌, ◌≤�
 use Rattle.pv_journal.specs.Text.{HasClosedGate, MayHaveBody}
 use Rattle.pv_journal.specs.declared.journal.Phase.{Phase}
 use Rattle.pv_journal.specs.declared.journal.Phase.TheVariants.{Reading, Resting, InHand}
-use Rattle.pv_journal.specs.declared.block.TheConstants.{MARK_SIZE, HEAD_SIZE, EMPTY_SIZE, MAX_BODY, MAX_BLOCK}
+use Rattle.pv_journal.specs.declared.block.TheConstants.{MARK_SIZE, HEAD_SIZE, EMPTY_SIZE, MAX_BLOCK, MAX_WRITE}
 
 -- a journal: its disk, how many bodies it may have, how many it has counted, the place of the gate after these, and what it
 -- may do next
@@ -29,7 +29,7 @@ reach _ gate = gate + 1
 abbrev pub StandsAtGate : Phase → ℕ → List ℕ → Type 0
 StandsAtGate (Reading end) gate text = length text ≡ end
 StandsAtGate Resting gate text = HasClosedGate gate text
-StandsAtGate (InHand size) gate text = MayHaveBody gate size text
+StandsAtGate (InHand size bodies) gate text = MayHaveBody gate size text
 
 -- how many bytes some bodies in hand have, from the first one on, with what is written between them
 abbrev pub hand_size : List (List ℕ) → ℕ
@@ -37,14 +37,14 @@ hand_size [] = 0
 hand_size (body ∷ []) = length body
 hand_size (body ∷ next ∷ hand) = length body + HEAD_SIZE + hand_size (next ∷ hand)
 
--- a body in hand has the size of a body
+-- there are bodies in hand, and they have the size of as many bodies
 abbrev pub IsInRange : Phase → Type 0
-IsInRange (InHand size) = (0 < size) × (size ≤ MAX_BODY)
+IsInRange (InHand size bodies) = (0 < size) × (0 < bodies) × (size + HEAD_SIZE ≤ MAX_WRITE) × (size + HEAD_SIZE ≤ MAX_BLOCK * bodies)
 IsInRange _ = Unit {0}
 
--- how many bodies there may be with the one in hand
+-- how many bodies there may be with those in hand
 abbrev pub count_with_hand : Phase → ℕ → ℕ
-count_with_hand (InHand size) count = count + 1
+count_with_hand (InHand size bodies) count = count + bodies
 count_with_hand _ count = count
 
 -- the same of a journal
@@ -57,7 +57,7 @@ IsAtRest log = log.phase ≡ Resting
 
 -- these bodies are in hand
 abbrev pub HasInHand : {D : Type 0} → Log D → List (List ℕ) → Type 0
-HasInHand log hand = log.phase ≡ InHand (hand_size hand)
+HasInHand log hand = log.phase ≡ InHand (hand_size hand) (length hand)
 
 -- the bodies are being read
 abbrev pub IsStillReading : {D : Type 0} → Log D → Type 0
@@ -80,7 +80,7 @@ abbrev pub IsNoneInHand : {D : Type 0} → Log D → Type 0
 IsNoneInHand log = is_none log.phase
   where
     is_none : Phase → Type 0
-    is_none (InHand size) = ⊥
+    is_none (InHand size bodies) = ⊥
     is_none _ = Unit {0}
 
 -- the journal has counted as many bodies as before, and may have as many

@@ -1,5 +1,5 @@
 -- The text of a journal on a disk: the mark, a block for each body, and a closed gate.
-use Rattle.std.specs.Prelude.{◌≡◌, ◌≢◌, ◌⊎◌, ℕ, ◌+◌, ◌<◌, ◌≤◌, List, [], ◌∷◌, ◌++◌, length, take, replicate, slice_index, All}
+use Rattle.std.specs.Prelude.{◌≡◌, ◌≢◌, ◌⊎◌, ℕ, ◌+◌, ◌<◌, ◌≤◌, List, [], ◌∷◌, ◌++◌, length, take, drop, replicate, slice_index, All}
 use Rattle.std.specs.List.{flat_map}
 use Rattle.std.specs.Int.{w16, to_be_bytes, from_be_bytes}
 use Rattle.pv_journal.specs.declared.block.TheConstants.{MARK, MARK_SIZE, HEAD_SIZE, MAX_BODY}
@@ -55,6 +55,11 @@ HasBrokenBlock (gate ∷ high ∷ low ∷ rest) =
 -- what is written after a closed gate to append a body: its length, the body, and the next gate, which is closed
 abbrev pub bytes_after_gate : List ℕ → List ℕ
 bytes_after_gate body = to_be_bytes w16 (length body) ++ body ++ 0 ∷ []
+
+-- What is written after a closed gate to append some bodies: the length of the first and that body, the blocks of the others,
+-- and the next gate, which is closed.
+abbrev pub bytes_behind : List (List ℕ) → List ℕ
+bytes_behind hand = drop 1 (flat_map block hand ++ 0 ∷ [])
 
 -- a gate that is not open is at this place
 abbrev pub HasClosedGate : ℕ → List ℕ → Type 0

@@ -20,7 +20,10 @@ pub(crate) const EMPTY_SIZE: usize = 9;
 /// How many bytes the longest block has.
 pub(crate) const MAX_BLOCK: usize = MAX_BODY + HEAD_SIZE;
 
-/// How many bytes a journal of so many bodies has at most.
+/// How many bytes an append writes at most after the gate, for all bodies that are appended at once.
+pub const MAX_WRITE: usize = 4096;
+
+/// How many bytes a journal of this many bodies has at most.
 pub fn longest(bodies: u32) -> u64
     ensures { result ≡ longest bodies }
 {

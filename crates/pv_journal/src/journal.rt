@@ -1,15 +1,15 @@
 //! What a journal may do next, and the call that makes each transition.
 //!
 //! ```text
-//!                 start                 a disk becomes a journal that is reading.
-//!   reading    -> reading     next      a body, or a fault.
-//!   reading    -> at rest     next      no further body.
-//!   at rest    -> at rest     next      None.
-//!   in hand    -> in hand     next      None.
-//!   at rest    -> at rest     append    Ok, or Full.
-//!   at rest    -> in hand     append    a call of the disk failed.
-//!   in hand    -> in hand     settle    a call of the disk failed.
-//!   in hand    -> at rest     settle    whether the body in hand is stored.
+//!                             start                 a disk becomes a journal that is reading.
+//!   reading    -> reading     next                  a body, or a fault.
+//!   reading    -> at rest     next                  no further body.
+//!   at rest    -> at rest     next                  None.
+//!   in hand    -> in hand     next                  None.
+//!   at rest    -> at rest     append, append_all    Ok, or Full.
+//!   at rest    -> in hand     append, append_all    a call of the disk failed.
+//!   in hand    -> in hand     settle                a call of the disk failed.
+//!   in hand    -> at rest     settle                whether the bodies in hand are stored.
 //! ```
 ghost use Rattle.std.specs.Prelude.{◌≡◌, ◌⊎◌, ◌↔◌, ℕ, ◌+◌, List, [], ◌∷◌, ◌++◌, length, take, Option, Some, None, Ok, true, false, ◌<◌, ◌≤◌, IfOk, IfErr, IfSome, OnOk, OnErr, IsErr};
 ghost use Rattle.pv_outside.specs.Disk.{HasCalls};
@@ -18,13 +18,15 @@ ghost use Rattle.pv_journal.specs.Text.{IsBody, text_of, Spells, SpellsEither};
 ghost use Rattle.pv_journal.specs.Log.{longest, most, IsAtRest, IsNoneInHand, IsAllRead, IsStillReading, KeepsCount};
 ghost use Rattle.pv_journal.specs.Journal.{DiskSpells, HasLeft, LeavesOnly, HasMade, Spends, ReadsOnly, IsReading, Holds, HoldsInHand};
 ghost use Rattle.pv_journal.specs.Faults.{IsDiskFault, ReadFailsOnDisk, IsStartFault, StartFaultShows, IsNext, NextShows, NextSpells, IsAppendDiskFault, FailsOnDisk};
-ghost use Rattle.pv_journal.specs.Appending.{IsAppended, IsNotAppended};
+ghost use Rattle.pv_journal.specs.Appending.{IsAppended, IsNotAppended, AreAppended, AreNotAppended};
+ghost use Rattle.pv_journal.specs.Batch.{HasPacked};
 ghost use Rattle.pv_journal.specs.declared.storing.TheConstants.{APPEND_CALLS, GATE_CALLS};
 
+use crate::batch::Batch;
 use crate::block::{Block, HEAD_SIZE, MARK_SIZE, MAX_BLOCK, MAX_BODY, first_block};
 use crate::fault::{AppendFault, OpenFault};
 use crate::opening::{length_after_mark, read_block};
-use crate::storing::store;
+use crate::storing::{spell, store};
 use pv_outside::{Disk, Fused, Limits};
 use std::marker::Model;
 
@@ -35,8 +37,9 @@ enum Phase {
     Reading { end: u64 },
     /// All bodies are read, and a further one can be appended.
     Resting,
-    /// A body of `size` bytes was being appended when a call of the disk failed.
-    InHand { size: u64 },
+    /// One or more `bodies` were being appended when a call of the disk failed. From the first one on they and
+    /// what is between them have `size` bytes.
+    InHand { size: u64, bodies: u64 },
 }
 
 /// A list of bodies on a disk.
@@ -102,7 +105,7 @@ impl<D: Disk> Journal<D> {
 
     /// Reads the next body into the beginning of `into` and returns its size, or None after the last one.
     /// From then on the journal can append. It makes one call of the disk. Once all bodies were read it
-    /// returns None without a call and changes nothing, also while a body is in hand.
+    /// returns None without a call and changes nothing, also while bodies are in hand.
     pub fn next(&mut self, into: &mut [u8; MAX_BODY]) -> Result<Option<usize>, OpenFault<D>>
         // Each body joins those that were read, and after the last one these are all.
         ensures found { IfOk result (λ answer. IfSome answer (λ n. (bodies : List (List ℕ))
@@ -203,8 +206,12 @@ impl<D: Disk> Journal<D> {
             return Err(AppendFault::Full { count: place });
         }
         let size = body.len();
-        self.phase = Phase::InHand { size: size as u64 };
-        if let Err(failure) = store(&mut self.disk, self.gate, body, &mut self.block) {
+        self.phase = Phase::InHand {
+            size: size as u64,
+            bodies: 1,
+        };
+        let length = spell(body, &mut self.block[..]);
+        if let Err(failure) = store(&mut self.disk, self.gate, &self.block[..length]) {
             return Err(AppendFault::Disk(failure));
         }
         self.count += 1;
@@ -213,31 +220,90 @@ impl<D: Disk> Journal<D> {
         Ok(place)
     }
 
-    /// Finds out whether the body in hand is stored, by a sync and a read of its gate. Afterwards nothing is
-    /// in hand. It returns None if none was, and then the disk is not called.
+    /// Appends the bodies of a batch that has any, and returns the place of the first. After a failure of the
+    /// disk all are in hand. At most [`APPEND_CALLS`](crate::APPEND_CALLS) calls of the disk succeed in it.
+    pub fn append_all(&mut self, batch: &Batch) -> Result<u64, AppendFault<D>>
+        requires at_rest { IsAtRest self.old }
+        requires some { 0 < batch.now.count }
+
+        // The bodies are stored; or a call of the disk failed and they are in hand; or there is no room for all.
+        ensures appended { IfOk result (λ place. (first : List ℕ) (others : List (List ℕ))
+            → HasPacked batch.now (first ∷ others)
+            → AreAppended D.Reports self.old self.new (first ∷ others) place) }
+        ensures refused { IfErr result (λ fault. (first : List ℕ) (others : List (List ℕ))
+            → HasPacked batch.now (first ∷ others)
+            → AreNotAppended D.Reports self.old self.new (first ∷ others) fault) }
+        ensures limit { self.new.limit ≡ self.old.limit }
+
+        // A crash at any moment of the call leaves an image that spells the list without the bodies or with all.
+        // It is without them until the calls before the gate have succeeded, so also if fewer were left.
+        ensures moments { (bodies : List (List ℕ)) (first : List ℕ) (others : List (List ℕ))
+            → HasPacked batch.now (first ∷ others) → Holds D.Reports self.old bodies
+            → LeavesOnly D.Reports self.old.disk self.new.disk (SpellsEither bodies (first ∷ others)) }
+        ensures early { (bodies : List (List ℕ)) → Holds D.Reports self.old bodies
+            → HasMade D.Reports GATE_CALLS self.old.disk self.new.disk
+            ⊎ LeavesOnly D.Reports self.old.disk self.new.disk (λ image. Spells image bodies) }
+        ensures few { (bodies : List (List ℕ)) (n : ℕ) → Holds D.Reports self.old bodies
+            → HasLeft n (D.budget self.old.disk) → n < GATE_CALLS
+            → LeavesOnly D.Reports self.old.disk self.new.disk (λ image. Spells image bodies) }
+
+        // What it takes of the disk. With all its calls and room for all bodies the disk does not fail.
+        ensures spends { Spends D.Reports APPEND_CALLS (FailsOnDisk result) self.old.disk self.new.disk }
+        ensures all_four { OnOk result (HasMade D.Reports APPEND_CALLS self.old.disk self.new.disk) }
+
+        // A place is returned only if no call failed on the way: none was tried again.
+        ensures steady { OnOk result (D.faults self.new.disk ≡ D.faults self.old.disk) }
+        ensures passes { IfErr result (λ fault. (bodies : List (List ℕ)) → Holds D.Reports self.old bodies
+            → HasCalls APPEND_CALLS (longest self.old.limit) (D.budget self.old.disk)
+            → IsAppendDiskFault fault → ⊥) }
+    {
+        let place = self.count;
+        if batch.count > self.limit as u64 - place {
+            return Err(AppendFault::Full { count: place });
+        }
+        self.phase = Phase::InHand {
+            size: (batch.size - HEAD_SIZE) as u64,
+            bodies: batch.count,
+        };
+        let bytes = &batch.bytes[1..batch.size + 1];
+        if let Err(failure) = store(&mut self.disk, self.gate, bytes) {
+            return Err(AppendFault::Disk(failure));
+        }
+        self.count += batch.count;
+        self.gate += batch.size as u64;
+        self.phase = Phase::Resting;
+        Ok(place)
+    }
+
+    /// Finds out whether the bodies in hand are stored, by a sync and a read of the gate before them. Afterwards
+    /// nothing is in hand. It returns None if nothing was, and then the disk is not called.
     pub fn settle(&mut self) -> Result<Option<bool>, D::Failure>
         ensures none { (result ≡ Ok None) ↔ IsNoneInHand self.old }
         ensures unchanged { IsNoneInHand self.old → self.new ≡ self.old }
 
-        // The body that was in hand joins the list, or does not.
+        // The bodies that were in hand join the list, or none of them does.
         ensures at_rest { IfOk result (λ answer. IfSome answer (λ stored. IsAtRest self.new)) }
-        ensures stored { result ≡ Ok (Some true) → (bodies : List (List ℕ)) (body : List ℕ)
-            → HoldsInHand D.Reports self.old bodies (body ∷ [])
-            → Holds D.Reports self.new (bodies ++ body ∷ []) }
-        ensures one_more { result ≡ Ok (Some true) → self.new.count ≡ self.old.count + 1 }
-        ensures dropped { result ≡ Ok (Some false) → (bodies : List (List ℕ)) (body : List ℕ)
-            → HoldsInHand D.Reports self.old bodies (body ∷ []) → Holds D.Reports self.new bodies }
+        ensures stored { result ≡ Ok (Some true)
+            → (bodies : List (List ℕ)) (first : List ℕ) (others : List (List ℕ))
+            → HoldsInHand D.Reports self.old bodies (first ∷ others)
+            → Holds D.Reports self.new (bodies ++ first ∷ others) }
+        ensures more { result ≡ Ok (Some true) → self.new.count ≡ most self.old }
+        ensures dropped { result ≡ Ok (Some false)
+            → (bodies : List (List ℕ)) (first : List ℕ) (others : List (List ℕ))
+            → HoldsInHand D.Reports self.old bodies (first ∷ others) → Holds D.Reports self.new bodies }
         ensures put_down { result ≡ Ok (Some false) → KeepsCount self.old self.new }
 
         // What the disk reads as spells that list too.
-        ensures reads_stored { result ≡ Ok (Some true) → (bodies : List (List ℕ)) (body : List ℕ)
-            → HoldsInHand D.Reports self.old bodies (body ∷ [])
-            → IfSome (D.reads self.new.disk) (λ text. Spells text (bodies ++ body ∷ [])) }
-        ensures reads_dropped { result ≡ Ok (Some false) → (bodies : List (List ℕ)) (body : List ℕ)
-            → HoldsInHand D.Reports self.old bodies (body ∷ [])
+        ensures reads_stored { result ≡ Ok (Some true)
+            → (bodies : List (List ℕ)) (first : List ℕ) (others : List (List ℕ))
+            → HoldsInHand D.Reports self.old bodies (first ∷ others)
+            → IfSome (D.reads self.new.disk) (λ text. Spells text (bodies ++ first ∷ others)) }
+        ensures reads_dropped { result ≡ Ok (Some false)
+            → (bodies : List (List ℕ)) (first : List ℕ) (others : List (List ℕ))
+            → HoldsInHand D.Reports self.old bodies (first ∷ others)
             → IfSome (D.reads self.new.disk) (λ text. Spells text bodies) }
 
-        // After a failure of the disk it is in hand still.
+        // After a failure of the disk they are in hand still.
         ensures kept { OnErr result (self.new ≡ record self.old { disk = self.new.disk }) }
         ensures in_hand { OnErr result ((bodies hand : List (List ℕ))
             → HoldsInHand D.Reports self.old bodies hand → HoldsInHand D.Reports self.new bodies hand) }
@@ -251,7 +317,7 @@ impl<D: Disk> Journal<D> {
             → LeavesOnly D.Reports self.old.disk self.new.disk (SpellsEither bodies hand) }
         ensures reads_only { ReadsOnly D.Reports 2 (IsErr result) self.old.disk self.new.disk }
     {
-        let Phase::InHand { size } = self.phase else {
+        let Phase::InHand { size, bodies } = self.phase else {
             return Ok(None);
         };
         self.disk.sync()?;
@@ -261,17 +327,24 @@ impl<D: Disk> Journal<D> {
         if gate[0] != 1 {
             return Ok(Some(false));
         }
-        self.count += 1;
+        self.count += bodies;
         self.gate += size + HEAD_SIZE as u64;
         Ok(Some(true))
     }
 
-    /// How many bodies were read, or there are. With one in hand they are within the limit.
+    /// How many bodies were read, or there are. With those in hand they are within the limit.
     pub fn count(&self) -> u64
         ensures count { result ≡ self.now.count }
         ensures within { most self.now ≤ self.now.limit }
     {
         self.count
+    }
+
+    /// How many bodies it may have.
+    pub fn limit(&self) -> u32
+        ensures { result ≡ self.now.limit }
+    {
+        self.limit
     }
 
     /// The disk, to look at.

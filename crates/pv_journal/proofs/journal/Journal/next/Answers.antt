@@ -28,7 +28,8 @@ broken_here g c =
 reads_here : (g : Over) (c : After-read_block g) {Fails : Type 0} → (Fails → IsErr c.read_block.result)
     → ReadsOnly g.D.Reports 1 Fails c.args.self.now.disk c.read_block.new.disk
 reads_here g c {Fails} fails =
-    subst (λ v. ReadsOnly g.D.Reports 1 Fails v.disk c.read_block.new.disk) c.self.view_is (reads_most g.D.Reports (omega arith) fails c.read_block.ensures.reads_only)
+    subst (λ v. ReadsOnly g.D.Reports 1 Fails v.disk c.read_block.new.disk) c.self.view_is
+    (reads_most g.D.Reports (omega arith) fails c.read_block.ensures.reads_only)
 
 pub returns-in-Err-clause-reads_only : goal.returns-in-Err-clause-reads_only
 returns-in-Err-clause-reads_only g c = reads_here g (goal.at.returns-in-Err-clause-reads_only g c).After-read_block (search rules)
