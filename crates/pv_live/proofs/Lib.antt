@@ -2,6 +2,6 @@ mod Asks
 mod Desks
 mod Facts
 mod Growing
-mod Lists
-mod Passes
-mod States
+pub mod Lists
+pub mod Passes
+pub mod States

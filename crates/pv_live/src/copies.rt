@@ -33,7 +33,7 @@ impl<R: Rules, N: Run<R::Rec>> Model for Change<R, N> {
 
 impl<R: Rules, N: Run<R::Rec>> Change<R, N> {
     /// The change by an entry, up to which these are all records.
-    pub(crate) fn new(entry: Entry<R::Rec>, known: Known<R::Rec, N>) -> Change<R, N>
+    pub fn new(entry: Entry<R::Rec>, known: Known<R::Rec, N>) -> Change<R, N>
         requires { EndsWith ⟦<R as Rules>⟧ N.limits N.opening known entry }
         ensures { result ≡ known }
     {
@@ -64,7 +64,7 @@ impl<R: Rules, N: Run<R::Rec>> Model for Published<R, N> {
 
 impl<R: Rules, N: Run<R::Rec>> Published<R, N> {
     /// A state, and the records that it stands for.
-    pub(crate) fn new(state: R::State, known: Known<R::Rec, N>) -> Published<R, N>
+    pub fn new(state: R::State, known: Known<R::Rec, N>) -> Published<R, N>
         requires { IsStateOf ⟦<R as Rules>⟧ N.limits state (with_opening N.opening known) }
         ensures { result ≡ known }
     {

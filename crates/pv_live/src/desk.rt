@@ -136,7 +136,7 @@ fn take_in<R: Rules, N: Run<R::Rec>>(
 }
 
 /// Adds the shares of these passes. None has seen more than is known.
-fn gather<R: Rules, N: Run<R::Rec>>(
+pub fn gather<R: Rules, N: Run<R::Rec>>(
     appender: &mut Appender<Entry<R::Rec>, N>,
     known: &Known<R::Rec, N>,
     told: &mut Share<ToldLedger<R::Rec, N>>,

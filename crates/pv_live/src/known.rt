@@ -30,7 +30,7 @@ impl<T, N: Run<T>> Model for Known<T, N> {
 
 impl<T, N: Run<T>> Known<T, N> {
     /// The records of the opening.
-    pub(crate) fn opening(entries: Prefix<Entry<T>, N>, length: u64) -> Known<T, N>
+    pub fn opening(entries: Prefix<Entry<T>, N>, length: u64) -> Known<T, N>
         requires none { entries ≡ [] }
         requires length { length ≡ count N.opening }
         ensures { result ≡ [] }
@@ -71,7 +71,7 @@ impl<T, N: Run<T>> Known<T, N> {
     }
 
     /// Becomes all records.
-    pub(crate) fn catch_up(&mut self, appender: &mut Appender<Entry<T>, N>, all: &Known<T, N>)
+    pub fn catch_up(&mut self, appender: &mut Appender<Entry<T>, N>, all: &Known<T, N>)
         requires { appender.old.count ≡ count all.now }
         ensures value { self.new ≡ all.now }
         ensures prefix { IsPrefix self.old self.new }
@@ -82,12 +82,7 @@ impl<T, N: Run<T>> Known<T, N> {
     }
 
     /// Adds an entry to the history, all of which is known. `length` is how many records there are then.
-    pub(crate) fn append(
-        &mut self,
-        appender: &mut Appender<Entry<T>, N>,
-        entry: &Entry<T>,
-        length: u64,
-    )
+    pub fn append(&mut self, appender: &mut Appender<Entry<T>, N>, entry: &Entry<T>, length: u64)
         requires supplied { IsSupplied appender.old self.old }
         requires room { count self.old < MAX_RECORDS }
         requires length { length ≡ count N.opening + count self.old + 1 }

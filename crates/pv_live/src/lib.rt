@@ -36,11 +36,11 @@ mod run;
 mod viewer;
 
 pub use copies::{Change, Published};
-pub use desk::{Closed, Desk};
+pub use desk::{Closed, Desk, gather};
 pub use entry::Entry;
 pub use fault::LiveFault;
 pub use known::Known;
-pub use live::{Live, LiveNode, MAX_PASSES, Start, open_live};
+pub use live::{Live, LiveNode, MAX_PASSES, Start, make_passes, open_live, publish_state};
 pub use pass::{NotEntered, Pass};
 pub use run::{FailedLedger, Run, ToldLedger};
 pub use viewer::Viewer;

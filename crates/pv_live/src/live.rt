@@ -78,10 +78,28 @@ impl<T> Start<T> {
             failed: Blank::new(passes),
         }
     }
+
+    /// The empty history, and the ledgers of what asks reported as stored and of those that failed.
+    pub fn into_parts(self) -> (NewHistory<Entry<T>>, Blank, Blank)
+        ensures is { self ≡ record {
+          book = result.0;
+          told = result.1.name;
+          failed = result.2.name;
+          passes = result.1.parts;
+        } }
+        ensures parts { result.2.parts ≡ result.1.parts }
+    {
+        let Start {
+            history,
+            told,
+            failed,
+        } = self;
+        (history, told, failed)
+    }
 }
 
 /// Makes the passes, which know the opening.
-fn make_passes<R: Rules, N: Run<R::Rec>, H: Wait + Drop>(
+pub fn make_passes<R: Rules, N: Run<R::Rec>, H: Wait + Drop>(
     alloc: Global,
     writer: &WriteHandle<Published<R, N>, Change<R, N>, H>,
     known: &Known<R::Rec, N>,
@@ -111,7 +129,7 @@ fn make_passes<R: Rules, N: Run<R::Rec>, H: Wait + Drop>(
 }
 
 /// Publishes two copies of the node's state, with room for this many readers.
-fn publish_state<R: Rules, D: Disk, N: Run<R::Rec>, H: Wait + Drop>(
+pub fn publish_state<R: Rules, D: Disk, N: Run<R::Rec>, H: Wait + Drop>(
     rt: H,
     alloc: Global,
     node: &Node<R, D>,

@@ -1,4 +1,4 @@
-ghost use Rattle.std.specs.Prelude.{◌≡◌, ◌+◌, ◌-◌, ◌^◌, min, length as count, IfOk, OnOk, OnErr, IfSome, None};
+ghost use Rattle.std.specs.Prelude.{◌≡◌, ◌+◌, ◌-◌, ◌^◌, ◌<◌, min, length as count, IfOk, OnOk, OnErr, IfSome, None};
 ghost use Rattle.std.specs.Fn.{FnOnceReturnsAt};
 ghost use mathlib.Core.List.{IsPrefix};
 ghost use Rattle.pv_live.specs.Entries.{with_opening};
@@ -11,7 +11,7 @@ use crate::viewer::Viewer;
 use left_right::ReadHandle;
 use pv_node::Rules;
 use std::marker::Model;
-use std::sync::ledger::Share;
+use std::sync::ledger::{Book, Share};
 
 /// A look was not let in by `left_right`. Nothing has changed, and it may be made again.
 #[derive(Debug, Drop)]
@@ -125,6 +125,53 @@ impl<R: Rules, N: Run<R::Rec>> Pass<R, N> {
         ensures { result ≡ count N.opening + count self.now.seen }
     {
         self.known.length()
+    }
+
+    /// Its number.
+    pub fn number(&self) -> u64
+        ensures { result ≡ self.now.number }
+    {
+        self.number
+    }
+
+    /// The records that it has seen.
+    pub fn seen(&self) -> &Known<R::Rec, N>
+        ensures { result.now ≡ self.now.seen }
+    {
+        &self.known
+    }
+
+    /// Has seen these records from now on.
+    pub fn see(&mut self, known: Known<R::Rec, N>)
+        ensures { self.new ≡ record self.old { seen = known } }
+    {
+        self.known = known;
+    }
+
+    /// Counts a record that an ask reported as stored.
+    pub fn count_told(&mut self, told: &mut Book<ToldLedger<R::Rec, N>>)
+        ensures total { told.new.total ≡ told.old.total + 1 }
+        ensures count { self.new ≡ record self.old { told = self.old.told + 1 } }
+    {
+        told.add(&mut self.told, 1);
+    }
+
+    /// Takes such a count back.
+    pub fn count_untold(&mut self, told: &mut Book<ToldLedger<R::Rec, N>>)
+        requires { 0 < self.old.told }
+        ensures total { told.new.total + 1 ≡ told.old.total }
+        ensures count { self.new.told + 1 ≡ self.old.told }
+        ensures same { self.new ≡ record self.old { told = self.new.told } }
+    {
+        told.sub(&mut self.told, 1);
+    }
+
+    /// Counts an ask that failed on the disk.
+    pub fn count_failed(&mut self, failed: &mut Book<FailedLedger<R::Rec, N>>)
+        ensures total { failed.new.total ≡ failed.old.total + 1 }
+        ensures count { self.new ≡ record self.old { failed = self.old.failed + 1 } }
+    {
+        failed.add(&mut self.failed, 1);
     }
 
     /// How many of its looks were answered. At the end of its type the count stands still.

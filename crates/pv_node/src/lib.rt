@@ -33,6 +33,6 @@ mod trail;
 pub use decision::{Decision, Told};
 pub use fault::{AskFault, NodeFault};
 pub use law::image_stands_for_one_list;
-pub use node::{Node, Opened};
+pub use node::{Node, Opened, spell};
 pub use rules::Rules;
 pub use trail::Trail;

@@ -13,10 +13,11 @@ ghost use Rattle.std.specs.Prelude.{◌≡◌, ◌≢◌, ℕ, ◌+◌, ◌*◌,
 ghost use Rattle.pv_outside.specs.Disk.{HasCalls, IsEndless};
 ghost use Rattle.pv_outside.specs.Calls.{IsFused};
 ghost use Rattle.pv_journal.specs.Journal.{EachImage, HasLeft, LeavesOnly, HasMade, ReadsOnly};
-ghost use Rattle.pv_journal.specs.Log.{longest};
+ghost use Rattle.pv_journal.specs.Log.{longest, IsAtRest};
 ghost use Rattle.pv_node.specs.Standing.{StandsEither, Meets, MeetsBoth, DiskStands, StandsFor};
 ghost use Rattle.pv_node.specs.Opening.{IsOutside, IsOpenFault, FaultShows, IsOpenDiskFault};
 ghost use Rattle.pv_node.specs.Trail.{trail_records};
+ghost use Rattle.pv_node.specs.Parts.{IsNode};
 ghost use Rattle.pv_node.specs.Asking.{to_store, AskLeaves, AskFailsOnDisk, IsSettled, IsUnsettled, IsRefused, CanStore, HasStored, CarriesOut, AskReturns, SpendsOnAsk};
 
 use crate::decision::{Decision, Told};
@@ -60,7 +61,7 @@ pub struct Opened<R: Rules, D: Disk> {
 }
 
 /// Puts the spelling of a record into the beginning, and returns how many bytes it has.
-fn spell<R: Rules>(rec: &R::Rec, into: &mut [u8; MAX_BODY]) -> usize
+pub fn spell<R: Rules>(rec: &R::Rec, into: &mut [u8; MAX_BODY]) -> usize
     requires { R.is_record rec.now }
     ensures within { result ≤ MAX_BODY }
     ensures spelled { take result into.new ≡ R.spelling rec.now }
@@ -304,8 +305,39 @@ impl<R: Rules, D: Disk> Node<R, D> {
                 R::absorb(&mut self.state, &rec, place);
                 Ok(Some(rec))
             }
-            _ => Ok(None),
+            Some(false) => Ok(None),
+            None => Ok(None),
         }
+    }
+
+    /// A node of a state and a journal at rest that have the same limit and the same count of records.
+    pub fn from_parts(state: R::State, journal: Journal<D>) -> Node<R, D>
+        requires limit { journal.limit ≡ (R.limits_of state).records }
+        requires at_rest { IsAtRest journal }
+        requires count { journal.count ≡ R.count_of state }
+        ensures { result ≡ record { journal = journal; state = state; hand = None } }
+    {
+        Node {
+            state,
+            journal,
+            hand: None,
+            body: [0; MAX_BODY],
+        }
+    }
+
+    /// The state and the journal. They have the same limit and the same count of records, and if no record is in
+    /// hand the journal is at rest.
+    pub fn into_parts(self) -> (R::State, Journal<D>)
+        ensures parts { self ≡ record { journal = result.1; state = result.0; hand = self.hand } }
+        ensures in_step { IsNode ⟦<R as Rules>⟧ self }
+    {
+        let Self {
+            state,
+            journal,
+            hand: _,
+            body: _,
+        } = self;
+        (state, journal)
     }
 
     /// The state of the records.
