@@ -1,20 +1,30 @@
 -- The changes of the last calls, and the moments before them.
-use Rattle.std.proofs.Common.{◌≡◌, ℕ, zero, suc, Bool, true, false, nat_lt, if◌then◌else◌, ◌+◌, ◌≤◌, min, List, [], ◌∷◌, ◌++◌, length, take, drop, set, refl, ◌∙◌, ap, arith, rules}
-use Rattle.std.proofs.lemmas.List.{take-take, take_all, length-take, length-drop}
+use Rattle.std.proofs.Common.{◌≡◌, ◌⊎◌, inl, inr, ℕ, zero, suc, Bool, true, false, nat_lt, if◌then◌else◌, ◌+◌, ◌≤◌, min, List, [], ◌∷◌, ◌++◌, length, take, drop, set, get_or, refl, sym, ◌∙◌, ap, arith, rules}
+use Rattle.std.proofs.lemmas.List.{take-take, take_all, take_at, take_more, append_assoc, length-append, length-take, length-drop, drop-set, take-set, drop_all, append-nil}
 use Rattle.std.proofs.lemmas.Bool.{cases_lt}
 use Rattle.pv_outside.specs.declared.disk.TheConstants.{KEPT_BYTES, KEPT_CALLS}
 use Rattle.pv_memory.specs.Medium.{Medium, Moment, moment_of, past_after}
 use Rattle.pv_memory.specs.Past.{Change, text_before, moments_before, changes_after}
 
--- a list of one element whose first is replaced, before others, is the new element before these
-over_one : {X : Type 0} (x : X) (l rest : List X) → length l ≡ 1 → set (l ++ rest) 0 x ≡ x ∷ rest
-over_one x [] rest one = absurd (omega arith)
-over_one x (y ∷ []) rest one = refl
-over_one x (y ∷ z ∷ l) rest one = absurd (omega arith)
+-- the elements of a ring, from this place on
+abbrev from_place : {X : Type 0} → ℕ → List X → List X
+from_place place xs = drop place xs ++ take place xs
 
--- if the last of a list is turned round to the beginning and then replaced, all others stay, after the new one
-over_last : {X : Type 0} (x : X) (xs : List X) (n : ℕ) → length xs ≡ n + 1 → set (drop n xs ++ take n xs) 0 x ≡ x ∷ take n xs
-over_last x xs n size = over_one x (drop n xs) (take n xs) (omega (arith, length-drop n xs))
+-- if the element before a place is replaced, the ring from there on is the new element and all others, in their order
+turned : {X : Type 0} (x : X) (xs : List X) (place before n : ℕ) → length xs ≡ n + 1
+    → (place ≡ before + 1) ⊎ ((place ≡ 0) × (before + 1 ≡ n + 1)) → before ≤ n
+    → from_place before (set xs before x) ≡ x ∷ take n (from_place place xs)
+turned x xs place before n size at within =
+    (λ i. drop-set xs before x (omega arith) i ++ take-set xs before x i) ∙ ap (λ ys. x ∷ ys) (by at)
+  where
+    by : (place ≡ before + 1) ⊎ ((place ≡ 0) × (before + 1 ≡ n + 1)) → drop (before + 1) xs ++ take before xs ≡ take n (from_place place xs)
+    by (inl next) =
+        sym (ap (λ p. take n (from_place p xs)) next ∙ ap (λ ys. take n (drop (before + 1) xs ++ ys)) (take_more xs before x (omega arith))
+        ∙ ap (λ ys. take n ys) (sym (append_assoc (drop (before + 1) xs) (take before xs) (get_or xs before x ∷ [])))
+        ∙ take_at (drop (before + 1) xs ++ take before xs) (get_or xs before x ∷ []) n (omega (arith, length-append (drop (before + 1) xs) (take before xs), length-drop (before + 1) xs, length-take before xs)))
+    by (inr last) =
+        ap (λ ys. ys ++ take before xs) (drop_all (before + 1) xs (omega (arith, last.1))) ∙ ap (λ k. take k xs) (let e : before ≡ n = omega (arith, last.1) in e)
+        ∙ sym (ap (λ ys. take n ys) (ap (λ p. from_place p xs) last.0 ∙ append-nil xs))
 
 -- a list takes a new first element and drops its last one; then the known ones are the new one and those known before, up to
 -- the limit
@@ -23,10 +33,11 @@ known_more : {X : Type 0} (x : X) (xs : List X) (known n : ℕ) → known ≤ n 
 known_more x xs known n le = search (rules, take-take, cases_lt, take_all, length-take)
 
 -- the ring of changes keeps, of those that were known, as many as the limit leaves, after the one of this call
-pub kept : {X : Type 0} (x : X) (xs rotated : List X) (known known_now n : ℕ) → length xs ≡ n + 1 → known ≤ n + 1
-    → known_now ≡ min (known + 1) (n + 1) → rotated ≡ drop n xs ++ take n xs
-    → take known_now (set rotated 0 x) ≡ take (n + 1) (x ∷ take known xs)
-kept x xs rotated known known_now n size le now is = search (rules, over_last, known_more)
+pub kept : {X : Type 0} (x : X) (xs : List X) (place before known known_now n : ℕ) → length xs ≡ n + 1 → known ≤ n + 1
+    → known_now ≡ min (known + 1) (n + 1) → (place ≡ before + 1) ⊎ ((place ≡ 0) × (before + 1 ≡ n + 1)) → before ≤ n
+    → take known_now (from_place before (set xs before x)) ≡ take (n + 1) (x ∷ take known (from_place place xs))
+kept x xs place before known known_now n size le now at within =
+    (λ i. take (now i) (turned x xs place before n size at within i)) ∙ known_more x (from_place place xs) known n le
 
 -- the moments before the first of some changes are the first moments before them
 moments_take : (text : List ℕ) (n : ℕ) (changes : List Change) → moments_before text (take n changes) ≡ take n (moments_before text changes)

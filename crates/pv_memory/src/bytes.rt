@@ -1,4 +1,4 @@
-ghost use Rattle.std.specs.Prelude.{◌≡◌, ℕ, max, ◌+◌, ◌*◌, ◌%◌, ◌<◌, ◌≤◌, false, if◌then◌else◌, length, slice_index, vec_len, vec_capacity};
+ghost use Rattle.std.specs.Prelude.{◌≡◌, ℕ, max, ◌+◌, ◌*◌, ◌%◌, ◌<◌, ◌≤◌, false, if◌then◌else◌, length, take, slice_index, vec_len, vec_capacity};
 ghost use Rattle.pv_outside.specs.Disk.{text_after_write};
 ghost use Rattle.pv_memory.specs.Medium.{is_within, is_pending, IsEachWithin, MatchesSync, IsImage, image_bytes, pattern};
 
@@ -20,7 +20,8 @@ pub(crate) fn overwrite(text: &mut Vec<u8>, at: usize, bytes: &[u8])
     }
 }
 
-/// Makes an older copy of a text equal to it: the copy differs only past its end and in these ranges.
+/// Makes an older copy of a text equal to it: the copy differs only past its end and in these ranges. What
+/// is past its end is copied once, also if a range reaches there.
 pub(crate) fn catch_up(copy: &mut Vec<u8>, text: &[u8], pending: &[Range])
     requires shorter { vec_len copy.old ≤ length text.now }
     requires room { length text.now ≤ vec_capacity copy.old }
@@ -32,33 +33,34 @@ pub(crate) fn catch_up(copy: &mut Vec<u8>, text: &[u8], pending: &[Range])
     ensures same { copy.new.items ≡ text.now }
     ensures capacity { vec_capacity copy.old ≤ vec_capacity copy.new }
 {
+    copy_ranges(copy, text, pending);
     let end = copy.len();
     copy.extend_from_slice(&text[end..]).unwrap();
-    copy_ranges(copy, text, pending);
 }
 
-/// Copies what a text has in these ranges to one of its length.
+/// Copies what a text has in these ranges to one that is no longer, up to its end.
 fn copy_ranges(copy: &mut [u8], text: &[u8], pending: &[Range])
-    requires long { length copy.old ≡ length text.now }
+    requires shorter { length copy.old ≤ length text.now }
     requires within { IsEachWithin pending.now (length text.now) }
-    requires same { (place : ℕ) → place < length text.now → is_pending pending.now place ≡ false
+    requires same { (place : ℕ) → place < length copy.old → is_pending pending.now place ≡ false
         → slice_index copy.old place ≡ slice_index text.now place }
-    ensures { copy.new ≡ text.now }
+    ensures { copy.new ≡ take (length copy.old) text.now }
 {
     for range in pending {
         copy_range(copy, text, *range);
     }
 }
 
-/// Copies what a text has in a range to one of its length.
+/// Copies what a text has in a range to one that is no longer, up to its end.
 fn copy_range(copy: &mut [u8], text: &[u8], range: Range)
-    requires long { length copy.old ≡ length text.now }
+    requires shorter { length copy.old ≤ length text.now }
     requires within { range.at + range.size ≤ length text.now }
-    ensures { (place : ℕ) → place < length copy.new → slice_index copy.new place
+    ensures { (place : ℕ) → place < length copy.old → slice_index copy.new place
         ≡ (if is_within range place then slice_index text.now place else slice_index copy.old place) }
 {
-    let end = range.at + range.size;
-    copy[range.at..end].copy_from_slice(&text[range.at..end]);
+    let from = range.at.min(copy.len());
+    let end = (range.at + range.size).min(copy.len());
+    copy[from..end].copy_from_slice(&text[from..end]);
 }
 
 /// Puts the pattern of an image over a range.

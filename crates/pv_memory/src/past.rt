@@ -1,10 +1,9 @@
-ghost use Rattle.std.specs.Prelude.{◌≡◌, ◌≤◌, [], ◌∷◌, length, take, drop, IfOk};
+ghost use Rattle.std.specs.Prelude.{◌≡◌, ◌⊎◌, ◌+◌, ◌<◌, ◌≤◌, [], ◌∷◌, length, take, drop, IfOk};
 ghost use Rattle.pv_outside.specs.declared.disk.TheConstants.{KEPT_BYTES, KEPT_CALLS, MAX_UNSYNCED};
 ghost use Rattle.pv_memory.specs.Past.{changes_after};
 
 use pv_outside::{KEPT_BYTES, KEPT_CALLS, MAX_UNSYNCED};
 use std::alloc::{AllocError, Global};
-use std::collections::VecDeque;
 use std::marker::Model;
 
 /// A range of a disk: where it begins, and how many bytes it has.
@@ -84,35 +83,41 @@ impl Step {
     }
 }
 
-/// What each of the last calls has changed, the newest first: a ring, whose oldest step is written anew at
-/// each call.
+/// What each of the last calls has changed, the newest first: a ring of steps that stay where they are. A
+/// call writes the oldest one anew, which is the newest then.
 #[derive(Debug, Drop)]
 pub(crate) struct Past {
-    steps: VecDeque<Step>,
+    steps: Vec<Step>,
+    newest: usize,
     known: usize,
 }
 
 impl Model for Past {
-    ghost use Rattle.std.specs.Prelude.{◌≡◌, ◌≤◌, List, length, take};
+    ghost use Rattle.std.specs.Prelude.{◌≡◌, ◌<◌, ◌≤◌, List, ◌++◌, length, take, drop};
     ghost use Rattle.pv_outside.specs.declared.disk.TheConstants.{KEPT_CALLS};
     ghost use Rattle.pv_memory.specs.Past.{Change};
 
     ghost Value = { List Change };
 
-    ghost view = { λ p. take p.known p.steps.items };
+    ghost view = { λ p. take p.known (drop p.newest p.steps.items ++ take p.newest p.steps.items) };
 
-    ghost invariant = { λ p. (length p.steps.items ≡ KEPT_CALLS) × (p.known ≤ KEPT_CALLS) };
+    ghost invariant = { λ p. (length p.steps.items ≡ KEPT_CALLS) × (p.known ≤ KEPT_CALLS)
+        × (p.newest < KEPT_CALLS) };
 }
 
 impl Past {
     pub(crate) fn new(alloc: Global) -> Result<Past, AllocError>
         ensures { IfOk result (λ past. past ≡ []) }
     {
-        let mut steps = VecDeque::with_capacity(alloc, KEPT_CALLS as usize)?;
+        let mut steps = Vec::with_capacity(alloc, KEPT_CALLS as usize)?;
         for _i in 0..KEPT_CALLS {
-            steps.push_back(Step::new(alloc)?)?;
+            steps.push(Step::new(alloc)?)?;
         }
-        Ok(Past { steps, known: 0 })
+        Ok(Past {
+            steps,
+            newest: 0,
+            known: 0,
+        })
     }
 
     /// Keeps what a call changes that is about to write a range. A large write makes it forget all calls.
@@ -146,8 +151,8 @@ impl Past {
           end = end;
         } ∷ self.old) }
     {
-        self.steps.rotate_right(1);
-        self.steps[0].keep(range, text, pending, end);
+        self.newest = place_before(self.newest);
+        self.steps[self.newest].keep(range, text, pending, end);
         self.known = (self.known + 1).min(KEPT_CALLS as usize);
     }
 
@@ -156,5 +161,17 @@ impl Past {
         ensures { self.new ≡ [] }
     {
         self.known = 0;
+    }
+}
+
+/// The place before one of the ring. Before the first is the last.
+fn place_before(place: usize) -> usize
+    requires { place < KEPT_CALLS }
+    ensures { (place ≡ result + 1) ⊎ ((place ≡ 0) × (result + 1 ≡ KEPT_CALLS)) }
+{
+    if place == 0 {
+        KEPT_CALLS as usize - 1
+    } else {
+        place - 1
     }
 }

@@ -1,50 +1,15 @@
--- Boxes by their owners: where an owner's box is, and what another box in its place leaves.
-use Rattle.std.proofs.Common.{◌≡◌, ◌≢◌, ◌⊎◌, inl, inr, ℕ, zero, suc, ◌+◌, ◌<◌, ◌≤◌, Bool, true, false, cond, eqb, nat_lt, not, ◌||◌, List, [], ◌∷◌, length, get_or, set, true≢false, refl, sym, ap, subst, ◌∙◌, arith}
+-- Boxes by their owners: where an owner's box is, and what one more owner or another box in its place leaves.
+use Rattle.std.proofs.Common.{◌≡◌, ◌≢◌, ◌⊎◌, inl, inr, ℕ, zero, suc, ◌+◌, ◌<◌, ◌≤◌, Bool, true, false, cond, eqb, not, ◌||◌, List, [], ◌∷◌, ◌++◌, length, get_or, set, true≢false, refl, sym, ap, subst, ◌∙◌, arith}
+use Rattle.std.specs.Prelude.{replicate}
 use Rattle.std.specs.List.{list_any, position_or_len}
-use Rattle.std.proofs.lemmas.Bool.{eqb-true, eqb-false, eq-eqb, ltb-true, ltb-false}
-use Rattle.std.proofs.lemmas.List.{length-append, get_or-set_same, get_or-set_other}
+use Rattle.std.proofs.lemmas.Bool.{eqb-true, eqb-false}
+use Rattle.std.proofs.lemmas.List.{get_or_append_left, get_or-append-add, get_or-set_same, get_or-set_other, get_or_default, get_or_past}
 use Rattle.std.proofs.lemmas.List.Folds.{position_or_len_push}
 use Rattle.std.proofs.lemmas.List.Sums.{prefix_len-le-length}
-use Rattle.indexmap.specs.IndexSet.{insert_key}
 
 -- the index of an owner, or the count of all
 abbrev index_of : ℕ → List ℕ → ℕ
 index_of owner owners = position_or_len (eqb owner) owners
-
--- what is inserted after an owner who is another's
-module _ (owner other : ℕ) (owners : List ℕ) (differs : eqb owner other ≡ false) where
-  insert_later : insert_key eqb (other ∷ owners) owner ≡ other ∷ insert_key eqb owners owner
-  insert_later = by (list_any (eqb owner) owners) refl
-    where
-      by : (there : Bool) → list_any (eqb owner) owners ≡ there
-          → insert_key eqb (other ∷ owners) owner ≡ other ∷ insert_key eqb owners owner
-      by true has = rw (differs, has) refl
-      by false none = rw (differs, none) refl
-
--- an owner who is inserted has the index that he had, or the one after the last
-index_of-inserted : (owner : ℕ) (owners : List ℕ) → index_of owner (insert_key eqb owners owner) ≡ index_of owner owners
-index_of-inserted owner [] = rw (eq-eqb owner owner refl) refl
-index_of-inserted owner (other ∷ owners) = by (eqb owner other) refl (index_of-inserted owner owners)
-  where
-    by : (same : Bool) → eqb owner other ≡ same → index_of owner (insert_key eqb owners owner) ≡ index_of owner owners
-        → index_of owner (insert_key eqb (other ∷ owners) owner) ≡ index_of owner (other ∷ owners)
-    by true is rest = rw is (rw is refl)
-    by false is rest = rw (insert_later owner other owners is, is) (ap (λ k. 1 + k) rest)
-
--- another's index stays, if he is an owner; if not, he is none afterwards either
-index_of-other : (owner another : ℕ) (owners : List ℕ) → eqb owner another ≡ false
-    → index_of owner owners < length owners → index_of owner (insert_key eqb owners another) ≡ index_of owner owners
-index_of-other owner another [] differs within = let none : ⊥ = omega (arith, within) in absurd none
-index_of-other owner another (other ∷ owners) differs within =
-    by (eqb another other) (eqb owner other) refl refl (index_of-other owner another owners differs) within
-  where
-    by : (same mine : Bool) → eqb another other ≡ same → eqb owner other ≡ mine
-        → (index_of owner owners < length owners → index_of owner (insert_key eqb owners another) ≡ index_of owner owners)
-        → cond (not mine) (1 + index_of owner owners) 0 < length (other ∷ owners)
-        → index_of owner (insert_key eqb (other ∷ owners) another) ≡ index_of owner (other ∷ owners)
-    by true mine is here rest within = rw is refl
-    by false true is here rest within = rw (insert_later another other owners is, here) refl
-    by false false is here rest within = rw (insert_later another other owners is, here) (ap (λ k. 1 + k) (rest (omega (arith, within))))
 
 -- two owners with one index are the same, or neither is an owner
 index_of-same : (owner another : ℕ) (owners : List ℕ) → eqb owner another ≡ false → index_of owner owners < length owners
@@ -63,50 +28,6 @@ index_of-same owner another (other ∷ owners) differs within same =
     by false true here there rest within same = omega (arith, same)
     by false false here there rest within same = rest (omega (arith, within)) (omega (arith, same))
 
--- an owner is not inserted again
-insert_key-owner : (owner : ℕ) (owners : List ℕ) → index_of owner owners < length owners → insert_key eqb owners owner ≡ owners
-insert_key-owner owner [] within = let none : ⊥ = omega (arith, within) in absurd none
-insert_key-owner owner (other ∷ owners) within = by (eqb owner other) refl (insert_key-owner owner owners) within
-  where
-    by : (same : Bool) → eqb owner other ≡ same → (index_of owner owners < length owners → insert_key eqb owners owner ≡ owners)
-        → cond (not same) (1 + index_of owner owners) 0 < length (other ∷ owners) → insert_key eqb (other ∷ owners) owner ≡ other ∷ owners
-    by true is rest within = rw is refl
-    by false is rest within = insert_later owner other owners is ∙ ap (λ list. other ∷ list) (rest (omega (arith, within)))
-
--- no owner is lost
-grown : (owner : ℕ) (owners : List ℕ) → length owners ≤ length (insert_key eqb owners owner)
-grown owner owners = by (list_any (eqb owner) owners) refl
-  where
-    by : (there : Bool) → list_any (eqb owner) owners ≡ there → length owners ≤ length (insert_key eqb owners owner)
-    by true has = rw has (omega arith)
-    by false none = rw (none, length-append owners (owner ∷ [])) (omega arith)
-
--- who is no owner is none after another is inserted
-index_of-absent : (owner another : ℕ) (owners : List ℕ) → eqb owner another ≡ false → length owners ≤ index_of owner owners
-    → length (insert_key eqb owners another) ≤ index_of owner (insert_key eqb owners another)
-index_of-absent owner another owners differs absent = by (list_any (eqb another) owners) refl
-  where
-    pushed : (last : Bool) → eqb (index_of owner owners) (length owners) ≡ last
-        → length owners + 1 ≤ cond last (length owners + cond (eqb owner another) 0 1) (index_of owner owners)
-    pushed true is = rw differs (omega arith)
-    pushed false is = let more = eqb-false _ _ is in omega (arith, absent, more)
-
-    by : (there : Bool) → list_any (eqb another) owners ≡ there
-        → length (insert_key eqb owners another) ≤ index_of owner (insert_key eqb owners another)
-    by true has = rw has absent
-    by false none = rw none (rw (position_or_len_push (eqb owner) owners another, length-append owners (another ∷ []))
-        (pushed (eqb (index_of owner owners) (length owners)) refl))
-
--- who is an owner has an index below the count
-index_of-owner : (owner : ℕ) (owners : List ℕ) → list_any (eqb owner) owners ≡ true → index_of owner owners < length owners
-index_of-owner owner [] has = absurd (true≢false (sym has))
-index_of-owner owner (other ∷ owners) has = by (eqb owner other) refl (index_of-owner owner owners)
-  where
-    by : (same : Bool) → eqb owner other ≡ same → (list_any (eqb owner) owners ≡ true → index_of owner owners < length owners)
-        → index_of owner (other ∷ owners) < length (other ∷ owners)
-    by true is rest = rw is (omega arith)
-    by false is rest = let later = rest (sym (ap (λ b. b || list_any (eqb owner) owners) is) ∙ has) in rw is (omega (arith, later))
-
 -- who is no owner has the index after the last
 index_of-stranger : (owner : ℕ) (owners : List ℕ) → list_any (eqb owner) owners ≡ false → index_of owner owners ≡ length owners
 index_of-stranger owner [] none = refl
@@ -122,77 +43,83 @@ index_of-stranger owner (other ∷ owners) none = by (eqb owner other) refl (ind
 index_of-most : (owner : ℕ) (owners : List ℕ) → index_of owner owners ≤ length owners
 index_of-most owner owners = prefix_len-le-length (λ other. not (eqb owner other)) owners
 
--- who is an owner, or may be one more, has the index of a box
-pub index_of-within : (owner : ℕ) (owners : List ℕ) (count : ℕ) → length owners ≤ count
-    → (list_any (eqb owner) owners ≡ true) ⊎ (length owners < count) → index_of owner owners < count
-index_of-within owner owners count few (inl has) = let here = index_of-owner owner owners has in omega (arith, few, here)
-index_of-within owner owners count few (inr more) = let most = index_of-most owner owners in omega (arith, more, most)
-
--- with one more owner there are no more owners than boxes
-pub length-inserted : (owner : ℕ) (owners : List ℕ) (count : ℕ) → length owners ≤ count → index_of owner owners < count
-    → length (insert_key eqb owners owner) ≤ count
-length-inserted owner owners count few within = by (list_any (eqb owner) owners) refl
-  where
-    by : (there : Bool) → list_any (eqb owner) owners ≡ there → length (insert_key eqb owners owner) ≤ count
-    by true has = rw has few
-    by false none =
-        rw none (rw (length-append owners (owner ∷ [])) (let here = index_of-stranger owner owners none in omega (arith, here, within)))
+-- who is no owner can be one more, if there is room for him
+pub fewer_than_room : (owner : ℕ) (owners : List ℕ) (room : ℕ) → list_any (eqb owner) owners ≡ false
+    → (list_any (eqb owner) owners ≡ true) ⊎ (length owners < room) → length owners < room
+fewer_than_room owner owners room none (inl has) = absurd (true≢false (sym has ∙ none))
+fewer_than_room owner owners room none (inr more) = more
 
 -- ---- the boxes
 
--- a box that there is, is read with any default
-pub box_there : {X : Type 0} (boxes : List X) (index : ℕ) (one other : X) → index < length boxes
-    → get_or boxes index one ≡ get_or boxes index other
-box_there [] index one other within = let none : ⊥ = omega (arith, within) in absurd none
-box_there (box ∷ boxes) zero one other within = refl
-box_there (box ∷ boxes) (suc index) one other within = box_there boxes index one other (omega (arith, within))
+module _ {X : Type 0} (nothing : X) where
+  -- of a list of defaults each element is the default, and so is what is after them
+  get_or-nothing : (count index : ℕ) → get_or (replicate count nothing) index nothing ≡ nothing
+  get_or-nothing zero index = refl
+  get_or-nothing (suc count) zero = refl
+  get_or-nothing (suc count) (suc index) = get_or-nothing count index
 
-module _ {X : Type 0} (nothing : X) (owners : List ℕ) (boxes : List X)
-    (empty : (index : ℕ) → length owners ≤ index → get_or boxes index nothing ≡ nothing) where
-  -- an account's box is changed, if he is inserted as an owner: the others' stay
-  pub box-inserted : (to account : ℕ) (change : X → X) → index_of to owners < length boxes
-      → index_of to owners < length (insert_key eqb owners to)
-      → get_or (set boxes (index_of to owners) (change (get_or boxes (index_of to owners) nothing)))
-      (index_of account (insert_key eqb owners to)) nothing
-      ≡ cond (eqb account to) (change (get_or boxes (index_of account owners) nothing)) (get_or boxes (index_of account owners) nothing)
-  box-inserted to account change within below = by (eqb account to) refl
-    where
-      box : X
-      box = change (get_or boxes (index_of to owners) nothing)
+  -- empty boxes after the others are read as none are
+  get_or-padded : (boxes : List X) (count index : ℕ) → get_or (boxes ++ replicate count nothing) index nothing ≡ get_or boxes index nothing
+  get_or-padded [] count index = get_or-nothing count index
+  get_or-padded (box ∷ boxes) count zero = refl
+  get_or-padded (box ∷ boxes) count (suc index) = get_or-padded boxes count index
 
-      others : eqb account to ≡ false → (later : Bool) → nat_lt (index_of account owners) (length owners) ≡ later
-          → get_or (set boxes (index_of to owners) box) (index_of account (insert_key eqb owners to)) nothing
-          ≡ get_or boxes (index_of account owners) nothing
-      others differs true is =
-          let here = ltb-true _ _ is in
-          rw (index_of-other account to owners differs here)
-          (get_or-set_other boxes (index_of to owners) (index_of account owners) box nothing (index_of-same account to owners differs here))
-      others differs false is =
-          let absent = ltb-false _ _ is in
-          let beyond = index_of-absent account to owners differs absent in
-          get_or-set_other boxes (index_of to owners) (index_of account (insert_key eqb owners to)) box nothing
-          (omega (arith, below, beyond))
-          ∙ empty _ (omega (arith, beyond, grown to owners)) ∙ sym (empty _ absent)
+  -- Of boxes that are read with `spare` empty ones after them, and with `left` after a call.
+  module _ (owners : List ℕ) (boxes : List X) (each : length boxes ≡ length owners) (spare left : ℕ) where
+    -- what is in an account's box
+    abbrev letters : ℕ → X
+    letters account = get_or (boxes ++ replicate spare nothing) (index_of account owners) nothing
 
-      by : (same : Bool) → eqb account to ≡ same
-          → get_or (set boxes (index_of to owners) box) (index_of account (insert_key eqb owners to)) nothing
-          ≡ cond same (change (get_or boxes (index_of account owners) nothing)) (get_or boxes (index_of account owners) nothing)
-      by true is =
-          rw (eqb-true account to is, index_of-inserted to owners) (get_or-set_same boxes (index_of to owners) box nothing within)
-      by false is = others is (nat_lt (index_of account owners) (length owners)) refl
+    -- it is read as if no empty box came after the others
+    read : (account : ℕ) → get_or boxes (index_of account owners) nothing ≡ letters account
+    read account = sym (get_or-padded boxes spare (index_of account owners))
 
-  -- and no box without an owner has anything
-  pub empty-inserted : (to : ℕ) (box : X) → index_of to owners < length (insert_key eqb owners to) → (index : ℕ)
-      → length (insert_key eqb owners to) ≤ index → get_or (set boxes (index_of to owners) box) index nothing ≡ nothing
-  empty-inserted to box below index beyond =
-      get_or-set_other boxes (index_of to owners) index box nothing (omega (arith, below, beyond))
-      ∙ empty index (omega (arith, beyond, grown to owners))
+    -- an owner's box is changed: the others' stay
+    pub box-changed : (owner account : ℕ) (change : X → X) (index : ℕ) (was box : X) → index ≡ index_of owner owners → index < length owners
+        → was ≡ get_or boxes index was → box ≡ change was
+        → get_or (set boxes index box ++ replicate left nothing) (index_of account owners) nothing
+        ≡ cond (eqb account owner) (change (letters account)) (letters account)
+    box-changed owner account change index was box at here reads changed =
+        get_or-padded (set boxes index box) left (index_of account owners) ∙ by (eqb account owner) refl
+      where
+        by : (same : Bool) → eqb account owner ≡ same
+            → get_or (set boxes index box) (index_of account owners) nothing ≡ cond same (change (letters account)) (letters account)
+        by true is =
+            let same : index ≡ index_of account owners = at ∙ ap (λ n. index_of n owners) (sym (eqb-true account owner is)) in
+            ap (λ n. get_or (set boxes index box) n nothing) (sym same) ∙ get_or-set_same boxes index box nothing (omega (arith, here, each))
+            ∙ changed ∙ ap change (reads ∙ get_or_default boxes index was nothing (omega (arith, here, each))
+            ∙ ap (λ n. get_or boxes n nothing) same ∙ read account)
+        by false is =
+            get_or-set_other boxes index (index_of account owners) box nothing
+            (λ same. index_of-same account owner owners is (omega (arith, same, here)) (same ∙ at)) ∙ read account
 
-  -- an owner's box is changed: the others' stay
-  pub box-changed : (owner account : ℕ) (change : X → X) → index_of owner owners < length owners → length owners ≤ length boxes
-      → get_or (set boxes (index_of owner owners) (change (get_or boxes (index_of owner owners) nothing))) (index_of account owners) nothing
-      ≡ cond (eqb account owner) (change (get_or boxes (index_of account owners) nothing)) (get_or boxes (index_of account owners) nothing)
-  box-changed owner account change here few =
-      ap (λ list. get_or (set boxes (index_of owner owners) (change (get_or boxes (index_of owner owners) nothing)))
-      (index_of account list) nothing) (sym (insert_key-owner owner owners here))
-      ∙ box-inserted owner account change (omega (arith, here, few)) (omega (arith, here, grown owner owners))
+    -- a stranger becomes the last owner, with this box: the others' stay
+    pub box-added : (to account : ℕ) (change : X → X) (box : X) → list_any (eqb to) owners ≡ false → box ≡ change nothing
+        → get_or ((boxes ++ box ∷ []) ++ replicate left nothing) (index_of account (owners ++ to ∷ [])) nothing
+        ≡ cond (eqb account to) (change (letters account)) (letters account)
+    box-added to account change box none changed =
+        get_or-padded (boxes ++ box ∷ []) left (index_of account (owners ++ to ∷ []))
+        ∙ ap (λ index. get_or (boxes ++ box ∷ []) index nothing) (position_or_len_push (eqb account) owners to)
+        ∙ by (eqb (index_of account owners) (length owners)) (eqb account to) refl refl
+      where
+        after : (count : ℕ) → get_or (boxes ++ box ∷ []) (length owners + count) nothing ≡ get_or (box ∷ []) count nothing
+        after count =
+            ap (λ n. get_or (boxes ++ box ∷ []) (n + count) nothing) (sym each) ∙ get_or-append-add boxes (box ∷ []) count nothing
+
+        unread : eqb (index_of account owners) (length owners) ≡ true → nothing ≡ letters account
+        unread is =
+            let last = eqb-true _ _ is in
+            sym (get_or_past boxes (index_of account owners) nothing (omega (arith, last, each))) ∙ read account
+
+        by : (last his : Bool) → eqb (index_of account owners) (length owners) ≡ last → eqb account to ≡ his
+            → get_or (boxes ++ box ∷ []) (cond last (length owners + cond his 0 1) (index_of account owners)) nothing
+            ≡ cond his (change (letters account)) (letters account)
+        by true true is his = after 0 ∙ changed ∙ ap change (unread is)
+        by true false is his = after 1 ∙ unread is
+        by false true is his =
+            let stranger = ap (λ owner. index_of owner owners) (eqb-true account to his) ∙ index_of-stranger to owners none in
+            absurd (eqb-false _ _ is stranger)
+        by false false is his =
+            let last = eqb-false _ _ is in
+            let most = index_of-most account owners in
+            get_or_append_left boxes (box ∷ []) nothing (index_of account owners) (omega (arith, last, most, each)) ∙ read account

@@ -2,4 +2,5 @@ mod Boxes
 pub mod CallerLemmas
 mod Facts
 mod Filling
+mod Keeping
 mod Waiting

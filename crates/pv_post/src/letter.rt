@@ -1,11 +1,9 @@
-ghost use Rattle.std.specs.Prelude.{◌≡◌, not, ◌==◌};
-ghost use Rattle.std.specs.Prelude.{slice_get, option_copied, [], IfOk};
+ghost use Rattle.std.specs.Prelude.{◌≡◌, ◌≤◌, [], ◌∷◌, length, take, slice_get, option_copied};
 ghost use Rattle.pv_post.specs.Boxes.{with_letter, has_letter, without_letter};
 ghost use Rattle.pv_post.specs.Waiting.{letter_of};
 
 use crate::mail::{Mail, TEXT_CELLS};
 use pv_page::AccountNo;
-use std::alloc::{AllocError, Global};
 use std::marker::Model;
 
 /// How many letters wait for an account at most.
@@ -56,66 +54,76 @@ impl Letter {
     }
 }
 
-/// The letters that wait for one account, oldest first, in room that `open` reserves.
+/// The letters that wait for one account, oldest first. Their places are in the box itself, so that a list
+/// of boxes is all the memory that they take. A place after those of the letters that wait means nothing.
 #[derive(Debug, Drop)]
 pub(crate) struct Mailbox {
-    letters: Vec<Letter>,
+    count: usize,
+    places: [Letter; MAX_WAITING],
 }
 
 impl Model for Mailbox {
-    ghost use Rattle.std.specs.Prelude.{◌≤◌, List, length};
-    ghost use Rattle.std.specs.Vec.{vec_capacity};
+    ghost use Rattle.std.specs.Prelude.{◌≡◌, ◌≤◌, List, length, take};
     ghost use Rattle.pv_post.specs.declared.letter.TheConstants.{MAX_WAITING};
     ghost use Rattle.pv_post.specs.Boxes.{WaitingLetter};
 
     ghost Value = { List WaitingLetter };
 
-    ghost view = { λ m. m.letters.items };
+    ghost view = { λ m. take m.count m.places };
 
-    ghost invariant = { λ m. (MAX_WAITING ≤ vec_capacity m.letters)
-        × (length m.letters.items ≤ MAX_WAITING) };
+    ghost invariant = { λ m. (m.count ≤ MAX_WAITING) × (length m.places ≡ MAX_WAITING) };
 }
 
 impl Mailbox {
-    /// A box in which nothing waits.
-    pub(crate) fn open(alloc: Global) -> Result<Mailbox, AllocError>
-        ensures { IfOk result (λ mailbox. mailbox ≡ []) }
+    /// A box in which this letter waits.
+    pub(crate) fn of_letter(letter: &Letter) -> Mailbox
+        ensures { result ≡ letter.now ∷ [] }
     {
-        Ok(Mailbox {
-            letters: Vec::with_capacity(alloc, MAX_WAITING)?,
-        })
+        Mailbox {
+            count: 1,
+            places: [*letter; MAX_WAITING],
+        }
     }
 
-    /// A copy of the box, with as much room.
-    pub(crate) fn copy(&self, alloc: Global) -> Result<Mailbox, AllocError>
-        ensures { IfOk result (λ copy. copy ≡ self.now) }
+    /// A copy of the box.
+    pub(crate) fn copy(&self) -> Mailbox
+        ensures { result ≡ self.now }
     {
-        let mut letters = Vec::with_capacity(alloc, MAX_WAITING)?;
-        letters.extend_from_slice(&self.letters)?;
-        Ok(Mailbox { letters })
+        Mailbox {
+            count: self.count,
+            places: self.places,
+        }
     }
 
     /// Puts a letter after the others. It is dropped if [`MAX_WAITING`] wait.
     pub(crate) fn arrive(&mut self, letter: &Letter)
         ensures { self.new ≡ with_letter self.old letter.now }
     {
-        if self.letters.len() < MAX_WAITING {
-            self.letters.push_reserved(*letter);
+        if self.count < MAX_WAITING {
+            self.places[self.count] = *letter;
+            self.count += 1;
         }
+    }
+
+    /// The letters that wait.
+    fn letters(&self) -> &[Letter]
+        ensures { result.now ≡ self.now }
+    {
+        &self.places[..self.count]
     }
 
     /// The letter that has waited longest. `None` exactly when none waits.
     pub(crate) fn oldest(&self) -> Option<&Letter>
         ensures { option_copied result ≡ slice_get self.now 0 }
     {
-        self.letters.first()
+        self.letters().first()
     }
 
     /// Whether the letter of a number waits.
     pub(crate) fn has(&self, number: u64) -> bool
         ensures { result ≡ has_letter self.now number }
     {
-        self.letters.iter().any(|letter| letter.number == number)
+        self.letters().iter().any(|letter| letter.number == number)
     }
 
     /// Takes the letter of a number out. `false` exactly when none of that number waits.
@@ -124,11 +132,25 @@ impl Mailbox {
         ensures rest { self.new ≡ without_letter self.old number }
     {
         let found = self.has(number);
-        self.letters.retain(
-            |letter: &Letter| -> bool
-                ensures { result ≡ not (letter.now.number == number) }
-            { letter.number != number },
-        );
+        self.count = keep_others(&mut self.places, self.count, number);
         found
     }
+}
+
+/// Moves the letters of other numbers to the first places, and counts them.
+fn keep_others(places: &mut [Letter], count: usize, number: u64) -> usize
+    requires { count ≤ length places.old }
+    ensures kept { take result places.new ≡ without_letter (take count places.old) number }
+    ensures within { result ≤ count }
+    ensures len { length places.new ≡ length places.old }
+{
+    let mut kept = 0;
+    for place in 0..count {
+        let letter = places[place];
+        if letter.number != number {
+            places[kept] = letter;
+            kept += 1;
+        }
+    }
+    kept
 }

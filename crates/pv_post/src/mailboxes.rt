@@ -1,6 +1,5 @@
-ghost use Rattle.std.specs.Prelude.{◌≡◌, ◌⊎◌, ◌==◌, ◌+◌, ◌<◌, ◌≤◌, nat_eq, ℕ, [], length, replicate, slice_get, option_copied, IfOk, IsTrue, if◌then◌else◌};
-ghost use Rattle.std.specs.List.{IsDistinct, list_any, position_or_len};
-ghost use Rattle.indexmap.specs.IndexSet.{insert_key, index_set_len, spare, IsUnique};
+ghost use Rattle.std.specs.Prelude.{◌≡◌, ◌⊎◌, ◌==◌, ◌<◌, ◌≤◌, nat_eq, ℕ, [], ◌∷◌, ◌++◌, length, vec_len, vec_capacity, slice_get, option_copied, IfOk, IsTrue, if◌then◌else◌};
+ghost use Rattle.std.specs.List.{IsDistinct};
 ghost use Rattle.pv_post.specs.Boxes.{Boxes, no_boxes, letters_of, has_box, with_owner, with_letter, has_letter, without_letter};
 
 use crate::letter::{Letter, Mailbox};
@@ -10,27 +9,24 @@ use std::alloc::{AllocError, Global};
 use std::marker::Model;
 
 /// The letters that wait for each account, at most [`MAX_WAITING`](crate::MAX_WAITING) for each. An
-/// account is found by its number, and all room is reserved by `open`.
+/// account is found by its number. All boxes are in one list, whose room is reserved by `open`; an account
+/// has a box there once a letter has come for it.
 #[derive(Debug)]
 pub struct Mailboxes {
     owners: IndexSet<AccountNo>,
     boxes: Vec<Mailbox>,
+    room: usize,
 }
 
 impl Model for Mailboxes {
-    ghost use Rattle.std.specs.Prelude.{length};
     ghost use Rattle.pv_post.specs.Boxes.{Boxes};
-    ghost use Rattle.pv_post.specs.Rooms.{AreBoxes};
+    ghost use Rattle.pv_post.specs.Rooms.{boxes_of, AreBoxes};
 
     ghost Value = { Boxes };
 
-    ghost view = { λ m. record {
-      room = length m.boxes.items;
-      owners = m.owners.keys;
-      boxes = m.boxes.items;
-    } };
+    ghost view = { boxes_of };
 
-    ghost invariant = { λ m. AreBoxes m.owners m.boxes.items };
+    ghost invariant = { AreBoxes };
 }
 
 impl Drop for Mailboxes {
@@ -39,6 +35,7 @@ impl Drop for Mailboxes {
         let Mailboxes {
             owners: _,
             boxes: _,
+            room: _,
         } = self;
     }
 }
@@ -50,7 +47,8 @@ impl Mailboxes {
     {
         Ok(Mailboxes {
             owners: IndexSet::with_capacity(alloc, accounts as usize)?,
-            boxes: open_boxes(alloc, accounts)?,
+            boxes: Vec::with_capacity(alloc, accounts as usize)?,
+            room: accounts as usize,
         })
     }
 
@@ -59,10 +57,11 @@ impl Mailboxes {
         ensures { IfOk result (λ copy. copy ≡ self.now) }
     {
         let mut owners = self.owners.clone()?;
-        owners.reserve(self.boxes.len() - self.owners.len())?;
+        owners.reserve(self.room - self.owners.len())?;
         Ok(Mailboxes {
             owners,
-            boxes: copy_boxes(alloc, &self.boxes)?,
+            boxes: copy_boxes(alloc, &self.boxes, self.room)?,
+            room: self.room,
         })
     }
 
@@ -78,8 +77,13 @@ impl Mailboxes {
         ensures owners { self.new.owners ≡ with_owner self.old.owners to }
         ensures distinct { IsDistinct nat_eq self.new.owners }
     {
-        let index = index_for(&mut self.owners, to);
-        self.boxes[index].arrive(letter);
+        match self.owners.get_index_of(&to) {
+            Some(index) => self.boxes[index].arrive(letter),
+            None => {
+                self.owners.insert_full(to).unwrap();
+                push_box(&mut self.boxes, letter);
+            }
+        }
     }
 
     /// The letter that has waited longest for an account. `None` exactly when none waits.
@@ -116,42 +120,25 @@ impl Mailboxes {
     }
 }
 
-/// The index of an owner, who is added if there is none like him.
-fn index_for(owners: &mut IndexSet<AccountNo>, to: AccountNo) -> usize
-    requires room { IsTrue (list_any (nat_eq to) owners.old.keys) ⊎ (0 < spare owners.old) }
-    ensures index { result ≡ position_or_len (nat_eq to) owners.old.keys }
-    ensures owners { owners.new.keys ≡ insert_key nat_eq owners.old.keys to }
-    ensures within { result < length owners.new.keys }
-    ensures reserved { index_set_len owners.old + spare owners.old
-        ≤ index_set_len owners.new + spare owners.new }
-
-    // No owner is there twice, if none was before.
-    ensures unique { IsUnique nat_eq owners.old → IsUnique nat_eq owners.new }
+/// Appends a box in which this letter waits. It is a function of its own, so that a letter for an account
+/// with a box does not clear the room of a new one first.
+fn push_box(boxes: &mut Vec<Mailbox>, letter: &Letter)
+    requires { vec_len boxes.old < vec_capacity boxes.old }
+    ensures items { boxes.new.items ≡ boxes.old.items ++ (letter.now ∷ []) ∷ [] }
+    ensures capacity { vec_capacity boxes.new ≡ vec_capacity boxes.old }
 {
-    match owners.get_index_of(&to) {
-        Some(index) => index,
-        None => owners.insert_full(to).unwrap().0,
-    }
+    boxes.push_reserved(Mailbox::of_letter(letter));
 }
 
-/// This many boxes in which nothing waits.
-fn open_boxes(alloc: Global, count: u32) -> Result<Vec<Mailbox>, AllocError>
-    ensures { IfOk result (λ boxes. boxes.items ≡ replicate count []) }
+/// A copy of each box, in a list with room for this many.
+fn copy_boxes(alloc: Global, boxes: &[Mailbox], room: usize) -> Result<Vec<Mailbox>, AllocError>
+    requires { length boxes.now ≤ room }
+    ensures same { IfOk result (λ copies. copies.items ≡ boxes.now) }
+    ensures room { IfOk result (λ copies. room ≤ vec_capacity copies) }
 {
-    let mut boxes = Vec::with_capacity(alloc, count as usize)?;
-    for _ in 0..count {
-        boxes.push(Mailbox::open(alloc)?)?;
-    }
-    Ok(boxes)
-}
-
-/// A copy of each box.
-fn copy_boxes(alloc: Global, boxes: &[Mailbox]) -> Result<Vec<Mailbox>, AllocError>
-    ensures { IfOk result (λ copies. copies.items ≡ boxes.now) }
-{
-    let mut copies = Vec::with_capacity(alloc, boxes.len())?;
+    let mut copies = Vec::with_capacity(alloc, room)?;
     for mailbox in boxes {
-        copies.push(mailbox.copy(alloc)?)?;
+        copies.push_reserved(mailbox.copy());
     }
     Ok(copies)
 }

@@ -1,62 +1,53 @@
-use Rattle.std.proofs.Common.{rules, IsTrue, ℕ, ◌≡◌, ◌⊎◌, inl, inr, ◌<◌, eqb, length, [], get_or, subst, sym, ap, ◌∙◌, arith}
+use Rattle.std.proofs.Common.{rules, IsTrue, ℕ, ◌≡◌, ◌⊎◌, ◌<◌, ◌++◌, ◌∷◌, eqb, false, length, [], get_or, subst, refl, sym, ap, ◌∙◌, arith}
 use Rattle.std.specs.List.{list_any, position_or_len}
-use Rattle.indexmap.specs.IndexSet.{insert_key, spare}
+use Rattle.std.proofs.lemmas.List.{length_push}
 use Rattle.pv_post.specs.Boxes.{Boxes, has_box, with_letter}
-use Rattle.pv_post.proofs.Boxes.{box_there, box-inserted, empty-inserted, length-inserted, index_of-within}
+use Rattle.pv_post.proofs.Boxes.{fewer_than_room, box-changed, box-added}
+use Rattle.pv_post.proofs.mailboxes.Mailboxes.arrive.Goals.{After-unwrap}
 use Rattle.pv_post.proofs.mailboxes.Mailboxes.arrive.Goals as goal
 
 -- there is room for him, as an owner or as one more
 abbrev IsRoom : Boxes → ℕ → Type 0
 IsRoom mail to = IsTrue (has_box mail to) ⊎ (length mail.owners < mail.room)
 
--- a box without an owner has room for one
-pub index_for-index-requires : goal.index_for-index-requires
-index_for-index-requires c = record { room = by (subst (λ (mail : Boxes). IsRoom mail c.args.to) (sym c.self.view_is) c.requires.room) }
-  where
-    by : IsTrue (list_any (eqb c.args.to) c.self.inside.owners.keys) ⊎ (length c.self.inside.owners.keys < length c.self.inside.boxes.items)
-        → IsTrue (list_any (eqb c.args.to) c.self.inside.owners.keys) ⊎ (0 < spare c.self.inside.owners)
-    by (inl has) = inl has
-    by (inr more) = inr (omega (arith, more, c.self.invariant.reserved))
-
--- an owner has a box already, or there is one without an owner
-pub index_mut-requires : goal.index_mut-requires
-index_mut-requires c =
+-- he has no box, so there is room for one
+fewer : (c : After-unwrap) → length c.self.inside.owners.keys < c.self.inside.room
+fewer c =
+    let none : list_any (eqb c.args.to) c.self.inside.owners.keys ≡ false = search rules in
     let room = subst (λ (mail : Boxes). IsRoom mail c.args.to) (sym c.self.view_is) c.requires.room in
-    let inside = index_of-within c.args.to c.self.inside.owners.keys _ c.self.invariant.within room in
-    rw c.index_for-index.ensures.index (search (rules, inside))
+    fewer_than_room c.args.to c.self.inside.owners.keys _ none room
 
--- the others are still empty
-pub invariant_of-self : goal.invariant_of-self
-invariant_of-self c =
-    let room = subst (λ (mail : Boxes). IsRoom mail c.args.to) (sym c.self.view_is) c.requires.room in
-    let inside = index_of-within c.args.to c.self.inside.owners.keys _ c.self.invariant.within room in
-    let at = c.index_for-index.ensures.index in
-    let keys = c.index_for-index.ensures.owners in
-    let below : position_or_len (eqb c.args.to) c.self.inside.owners.keys
-    < length (insert_key eqb c.self.inside.owners.keys c.args.to) = search rules in
-    rw at (record {
-      within = rw keys (search (rules, length-inserted c.args.to c.self.inside.owners.keys _ c.self.invariant.within inside));
-      distinct = c.index_for-index.ensures.unique c.self.invariant.distinct;
-      reserved = search rules;
-      empty = rw keys (empty-inserted [] _ _ c.self.invariant.empty c.args.to _ below);
-    })
+pub push_box-requires : goal.push_box-requires
+push_box-requires c = omega (arith, fewer (goal.at.push_box-requires c).After-unwrap, c.self.invariant.each, c.self.invariant.boxes_room)
+
+-- he is an owner more, with a box more
+pub invariant_of-self-in-None : goal.invariant_of-self-in-None
+invariant_of-self-in-None c =
+    let keys : c.insert_full.new.self.keys ≡ c.self.inside.owners.keys ++ c.args.to ∷ [] = search rules in
+    let owners = ap length keys ∙ length_push c.self.inside.owners.keys c.args.to in
+    let boxes = ap length c.push_box.ensures.items ∙ length_push c.self.inside.boxes.items (c.args.letter.now ∷ []) in
+    record {
+      each = omega (arith, owners, boxes, c.self.invariant.each);
+      within = omega (arith, owners, fewer (goal.at.invariant_of-self-in-None c).After-unwrap);
+      distinct = search rules;
+      owners_room = search rules;
+      boxes_room = omega (arith, c.push_box.ensures.capacity, c.self.invariant.boxes_room);
+    }
 
 -- his box has the letter, and the others stay
-pub returns-clause-letters : goal.returns-clause-letters
-returns-clause-letters c = λ account.
-    let room = subst (λ (mail : Boxes). IsRoom mail c.args.to) (sym c.self.view_is) c.requires.room in
-    let inside = index_of-within c.args.to c.self.inside.owners.keys _ c.self.invariant.within room in
-    let at = c.index_for-index.ensures.index in
-    let keys = c.index_for-index.ensures.owners in
-    let below : position_or_len (eqb c.args.to) c.self.inside.owners.keys
-    < length (insert_key eqb c.self.inside.owners.keys c.args.to) = search rules in
-    let was : c.index_mut.result.now ≡ get_or c.self.inside.boxes.items c.index_for-index.result c.index_mut.result.now = search rules in
-    let there = box_there c.self.inside.boxes.items c.index_for-index.result c.index_mut.result.now [] (rw at inside) in
-    let box : c.arrive.new.self ≡ with_letter (get_or c.self.inside.boxes.items c.index_for-index.result []) c.args.letter.now =
-    c.arrive.ensures ∙ ap (λ letters. with_letter letters c.args.letter.now) (was ∙ there) in
-    rw (sym c.self.view_is, box, at, keys)
-    (box-inserted [] _ _ c.self.invariant.empty c.args.to account (λ letters. with_letter letters c.args.letter.now) inside below)
+pub returns-in-Some-clause-letters : goal.returns-in-Some-clause-letters
+returns-in-Some-clause-letters c = λ account.
+    let at : c.in-Some.index ≡ position_or_len (eqb c.args.to) c.self.inside.owners.keys = search rules in
+    let was : c.index_mut.result.now ≡ get_or c.self.inside.boxes.items c.in-Some.index c.index_mut.result.now = search rules in
+    rw (sym c.self.view_is)
+    (box-changed [] c.self.inside.owners.keys _ c.self.invariant.each _ _ c.args.to account (λ letters. with_letter letters c.args.letter.now)
+    c.in-Some.index _ _ at c.in-Some.ensures.within was c.arrive.ensures)
 
--- no owner was there twice
-pub returns-clause-distinct : goal.returns-clause-distinct
-returns-clause-distinct c = c.index_for-index.ensures.unique c.self.invariant.distinct
+-- his box has the letter alone, and the others stay
+pub returns-in-None-clause-letters : goal.returns-in-None-clause-letters
+returns-in-None-clause-letters c = λ account.
+    let none : list_any (eqb c.args.to) c.self.inside.owners.keys ≡ false = search rules in
+    let keys : c.insert_full.new.self.keys ≡ c.self.inside.owners.keys ++ c.args.to ∷ [] = search rules in
+    rw (sym c.self.view_is, keys, c.push_box.ensures.items)
+    (box-added [] c.self.inside.owners.keys _ c.self.invariant.each _ _ c.args.to account (λ letters. with_letter letters c.args.letter.now) _
+    none refl)
