@@ -1,5 +1,5 @@
 -- Worked examples, computed from the definitions: constants, small judgements, and the numbers of edits.
-use Rattle.std.proofs.Common.{◌≡◌, ℕ, ◌+◌, List, [], ◌∷◌, map, Some, None, refl}
+use Rattle.std.proofs.Common.{◌≡◌, ℕ, List, [], ◌∷◌, map, Some, None, refl}
 use Rattle.pv_outside.specs.declared.limits.Limits.{Limits}
 use Rattle.pv_page.specs.Names.{Name}
 use Rattle.pv_account.specs.Profile.{Profile}

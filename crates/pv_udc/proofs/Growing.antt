@@ -13,7 +13,9 @@ use Rattle.pv_udc.specs.Counts.{counted_on}
 use Rattle.pv_udc.specs.EditList.{all_places}
 use Rattle.pv_udc.specs.Charges.{AreChargesOf}
 use Rattle.pv_udc.specs.Keeping.{IsKeptList}
+use Rattle.pv_udc.specs.ReplyPlaces.{ArePlacesOf}
 use Rattle.pv_udc.specs.declared.charges.Charges.{Charges}
+use Rattle.pv_udc.specs.declared.replies.ReplyPlaces.{ReplyPlaces}
 
 -- one number more
 pub range_with_len-push : (a n : ℕ) → range_with_len a (suc n) ≡ range_with_len a n ++ (a + n) ∷ []
@@ -43,12 +45,13 @@ all_places-push records edit =
     ap (range_with_len 0) more ∙ range_with_len-push 0 (length records) ∙ ap (λ place. all_places records ++ place ∷ []) last
 
 -- what is kept beside a base goes on when the base takes in a record
-pub IsKeptList-push : (base : Base) (limits : Limits) (count : ℕ) (counts more : List ℕ) (charges also : Charges) (edit : Record)
-    → IsKeptList base limits count counts charges → count < limits.records
+pub IsKeptList-push : (base : Base) (limits : Limits) (count : ℕ) (counts more : List ℕ) (charges also : Charges)
+    (replies further : ReplyPlaces) (edit : Record) → IsKeptList base limits count counts charges replies → count < limits.records
     → ((centre : ℕ) → slice_index_or more centre 0 ≡ counted_on (is_of_centre centre edit) (slice_index_or counts centre 0))
     → AreChargesOf also limits.records (base.records ++ edit ∷ [])
-    → IsKeptList (with_record_at base edit count) limits (count + 1) more also
-IsKeptList-push base limits count counts more charges also edit is within on charged = record {
+    → ArePlacesOf further limits.records (base.records ++ edit ∷ [])
+    → IsKeptList (with_record_at base edit count) limits (count + 1) more also further
+IsKeptList-push base limits count counts more charges also replies further edit is within on charged replied = record {
   same_limits = is.same_limits;
   in_order = ap (λ l. l ++ count ∷ []) is.in_order ∙ ap (λ n. all_places base.records ++ n ∷ []) is.counted
       ∙ sym (all_places-push base.records edit);
@@ -57,4 +60,5 @@ IsKeptList-push base limits count counts more charges also edit is within on cha
   taken_up = λ centre. on centre ∙ ap (counted_on (is_of_centre centre edit)) (is.taken_up centre)
       ∙ sym (taken_of-push base.records edit centre);
   charged = charged;
+  replied = replied;
 }

@@ -7,4 +7,5 @@ mod Least
 mod Linking
 mod Numbering
 mod Repeating
+mod ReplyLists
 mod Replying

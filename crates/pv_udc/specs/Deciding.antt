@@ -1,5 +1,5 @@
 -- What is known if a request is stored: no answer applies, and so no refusal.
-use Rattle.std.proofs.Common.{◌≡◌, ℕ, Bool, true, false, not, List, [], ◌∷◌, length, Option, Some, None, refl, ap, subst}
+use Rattle.std.proofs.Common.{◌≡◌, ℕ, Bool, true, false, not, List, length, Option, Some, None, refl, ap, subst}
 use Rattle.std.proofs.lemmas.Bool.{eqb-true}
 use Rattle.pv_outside.specs.declared.limits.Limits.{Limits}
 use Rattle.pv_fields.specs.Refusals.{first_of}

@@ -8,6 +8,7 @@ pub mod Judgement
 pub mod Keeping
 pub mod Numbers
 pub mod Replies
+pub mod ReplyPlaces
 pub mod Requests
 pub mod Rooms
 pub mod Ruling

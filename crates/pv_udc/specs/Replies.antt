@@ -1,5 +1,5 @@
 -- What goes down of a record, and what came up to an editor's pages.
-use Rattle.std.specs.Prelude.{ℕ, ◌==◌, Bool, false, List, drop, Option}
+use Rattle.std.specs.Prelude.{ℕ, ◌+◌, ◌==◌, Bool, true, false, List, [], ◌∷◌, drop, Option, if◌then◌else◌}
 use Rattle.std.specs.List.{position_from}
 use Rattle.pv_post.specs.declared.item.Item.{Item}
 use Rattle.pv_post.specs.declared.item.Item.TheVariants.{Charge, Reply, Mail}
@@ -45,3 +45,32 @@ place_from test records from = position_from test from (drop from records)
 -- the first place, from this one on, of a record that brought a reply to a page that is this editor's now
 abbrev pub reply_place : List Record → ℕ → ℕ → Option ℕ
 reply_place records editor from = place_from (brings_reply_to records editor) records from
+
+-- ---- from reply to reply
+
+-- the item is a reply, whoever its page belongs to
+abbrev pub is_reply : Item → Bool
+is_reply (Charge line) = false
+is_reply (Reply reply) = true
+is_reply (Mail mail) = false
+
+-- the record brought a reply
+abbrev pub brings_reply : Record → Bool
+brings_reply (Put editor q name frame) = false
+brings_reply (Drop editor q name) = false
+brings_reply (Account editor q account) = false
+brings_reply (Lease editor q root account) = false
+brings_reply (Taken taken) = is_reply taken.item
+
+-- these places, with one before them if the test holds
+abbrev pub starting_at : Bool → ℕ → List ℕ → List ℕ
+starting_at test place places = if test then place ∷ places else places
+
+-- the places of the records that pass a test, if the first record has this place
+abbrev pub places_of : (Record → Bool) → ℕ → List Record → List ℕ
+places_of test place [] = []
+places_of test place (x ∷ xs) = starting_at (test x) place (places_of test (place + 1) xs)
+
+-- the places, from this one on, of the records that brought a reply
+abbrev pub reply_places : List Record → ℕ → List ℕ
+reply_places records from = places_of brings_reply from (drop from records)

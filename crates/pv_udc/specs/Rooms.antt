@@ -6,7 +6,7 @@ use Rattle.pv_fields.proofs.CallerLemmas.{all_missing, some_if-none, option_map-
 use Rattle.pv_frame.specs.Errors.{error_of}
 use Rattle.pv_post.specs.declared.item.Item.{Item}
 use Rattle.pv_edits.specs.Record.{IsRecord, IsEditor}
-use Rattle.pv_edits.specs.Room.{has_editor, has_room, frame_fits, account_fits, lease_fits}
+use Rattle.pv_edits.specs.Room.{has_editor, has_room}
 use Rattle.pv_edits.specs.declared.room.TheConstants.{MAX_ACCOUNTS, MAX_LEASES}
 use Rattle.pv_edits.specs.declared.record.Record.{Record}
 use Rattle.pv_edits.specs.declared.wish.EditWish.{EditWish}

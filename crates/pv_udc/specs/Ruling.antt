@@ -1,8 +1,7 @@
 -- The laws of the Update Centre's rules. A law of a trait cites specs alone, so that what it rests on stands here too, and in Deciding,
 -- Rooms and Sizes.
-use Rattle.std.proofs.Common.{◌≡◌, ℕ, suc, ◌+◌, ◌<◌, true, List, [], ◌∷◌, ◌++◌, length, Option, Some, None, refl, ap, sym, subst, ◌∙◌, arith}
+use Rattle.std.proofs.Common.{◌≡◌, ℕ, ◌+◌, ◌<◌, true, List, [], ◌∷◌, ◌++◌, length, Option, Some, None, refl, ap, sym, ◌∙◌, arith}
 use Rattle.std.proofs.lemmas.List.{length-append}
-use Rattle.pv_outside.specs.declared.limits.Limits.{Limits}
 use Rattle.pv_journal.specs.Text.{IsBody}
 use Rattle.pv_edits.specs.Record.{IsRecord, record_bytes, record_at}
 use Rattle.pv_edits.specs.Room.{has_room}

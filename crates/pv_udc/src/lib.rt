@@ -32,6 +32,7 @@ mod charges;
 mod judging;
 mod law;
 mod refusal;
+mod replies;
 mod reply;
 mod request;
 mod rules;

@@ -7,6 +7,7 @@ ghost use Rattle.pv_edits.specs.declared.record.Record.{Record};
 ghost use Rattle.pv_udc.specs.Counts.{counted_on};
 
 use crate::charges::Charges;
+use crate::replies::ReplyPlaces;
 use pv_account::{LAST_CENTRE, MAX_CENTRES};
 use pv_edits::{Base, Record};
 use pv_outside::Limits;
@@ -19,7 +20,7 @@ use std::marker::Model;
 const CENTRES: usize = MAX_CENTRES as usize;
 
 /// What the Update Centre knows: its edit list, what follows from it, how many items of each centre were
-/// taken up, and the charge lines among them. All room is reserved when it is opened.
+/// taken up, and the charge lines and replies among them. All room is reserved when it is opened.
 #[derive(Debug)]
 pub struct UdcState {
     base: Base,
@@ -27,6 +28,7 @@ pub struct UdcState {
     count: u64,
     counts: [u64; CENTRES],
     charges: Charges,
+    replies: ReplyPlaces,
 }
 
 impl Model for UdcState {
@@ -37,7 +39,7 @@ impl Model for UdcState {
 
     ghost view = { λ s. record { limits = s.limits; records = s.base.records } };
 
-    ghost invariant = { λ s. IsKeptList s.base s.limits s.count s.counts s.charges };
+    ghost invariant = { λ s. IsKeptList s.base s.limits s.count s.counts s.charges s.replies };
 }
 
 impl Drop for UdcState {
@@ -49,6 +51,7 @@ impl Drop for UdcState {
             count: _,
             counts: _,
             charges: _,
+            replies: _,
         } = self;
     }
 }
@@ -58,6 +61,7 @@ impl UdcState {
     ghost use Rattle.pv_udc.specs.Judgement.{last_edit};
     ghost use Rattle.pv_udc.specs.Charges.{AreChargesOf};
     ghost use Rattle.pv_udc.specs.Replies.{brings_reply_to, reply_place};
+    ghost use Rattle.pv_udc.specs.ReplyPlaces.{ArePlacesOf};
 
     /// The state of no records. Room for `limits.records` records is reserved.
     pub fn open(alloc: Global, limits: Limits) -> Result<UdcState, AllocError>
@@ -69,6 +73,7 @@ impl UdcState {
             count: 0,
             counts: [0; CENTRES],
             charges: Charges::open(alloc, limits.records as usize)?,
+            replies: ReplyPlaces::open(alloc, limits.records as usize)?,
         })
     }
 
@@ -82,6 +87,7 @@ impl UdcState {
             count: self.count,
             counts: self.counts,
             charges: self.charges.copy(alloc, self.limits.records as usize)?,
+            replies: self.replies.copy(alloc, self.limits.records as usize)?,
         })
     }
 
@@ -104,6 +110,7 @@ impl UdcState {
         self.count += 1;
         count_item(&mut self.counts, rec);
         self.charges.push(rec);
+        self.replies.push(rec, place);
     }
 
     /// The base of the records: frames, accounts, leases and editors' numbers.
@@ -148,9 +155,10 @@ impl UdcState {
     pub fn reply_for(&self, editor: AccountNo, from: u64) -> Option<u64>
         ensures { result ≡ reply_place self.now.records editor from }
     {
-        for place in from..self.count {
-            if self.brings_reply_to(editor, place) {
-                return Some(place);
+        let places = self.replies().starting_at(from);
+        for place in places {
+            if self.brings_reply_to(editor, *place) {
+                return Some(*place);
             }
         }
         None
@@ -226,6 +234,13 @@ impl UdcState {
         ensures within { length self.now.records ≤ self.now.limits.records }
     {
         &self.charges
+    }
+
+    /// The places of the replies among the records.
+    fn replies(&self) -> &ReplyPlaces
+        ensures { ArePlacesOf result.now self.now.limits.records self.now.records }
+    {
+        &self.replies
     }
 
     /// How many frames there may be.

@@ -1,5 +1,4 @@
-use Rattle.std.proofs.Common.{◌≤◌, length, arith}
-use Rattle.pv_fields.specs.Out.{room_of}
+use Rattle.std.proofs.Common.{arith}
 use Rattle.pv_fields.proofs.CallerLemmas.{appends_all, never_fails}
 use Rattle.pv_edits.specs.Record.{record_bytes}
 use Rattle.pv_udc.specs.Sizes.{IsBody-record}

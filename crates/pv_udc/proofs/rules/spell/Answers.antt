@@ -1,6 +1,6 @@
-use Rattle.std.proofs.Common.{◌≡◌, ◌≤◌, ◌<◌, length, ap, ◌∙◌, arith, rules}
+use Rattle.std.proofs.Common.{◌≡◌, length, ap, ◌∙◌, arith, rules}
 use Rattle.std.proofs.lemmas.List.{take_at}
-use Rattle.pv_fields.specs.Out.{rest_of, room_of, Appends}
+use Rattle.pv_fields.specs.Out.{room_of, Appends}
 use Rattle.pv_fields.proofs.CallerLemmas.{slice_after, appends_all}
 use Rattle.pv_edits.specs.Record.{record_bytes}
 use Rattle.pv_udc.specs.Sizes.{IsBody-record}

@@ -13,4 +13,5 @@ invariant_of-result c =
       within = kept.within;
       taken_up = kept.taken_up;
       charged = c.in_ok-copy-2.ensures c.self.inside.base.records kept.charged;
+      replied = c.in_ok-copy-3.ensures c.self.inside.base.records kept.replied;
     })

@@ -1,9 +1,9 @@
-use Rattle.std.proofs.Common.{◌≡◌, length}
-use Rattle.pv_udc.specs.Replies.{reply_place}
+use Rattle.std.proofs.Common.{◌≡◌, ℕ, drop}
+use Rattle.pv_udc.specs.Replies.{reply_place, reply_places}
 use Rattle.pv_udc.proofs.state.UdcState.reply_for.Given as goal
 
--- no place before this one is it
+-- the replies that are left are those from some place on, and none before it is the one
 abbrev pub invariant-loop-place : goal.invariant-loop-place
 invariant-loop-place l =
-    (l.place-end ≡ length l.self.records)
-    × (reply_place l.self.records l.editor l.place ≡ reply_place l.self.records l.editor l.from)
+    (next : ℕ) × (drop l.place-index l.places ≡ reply_places l.self.records next)
+    × (reply_place l.self.records l.editor next ≡ reply_place l.self.records l.editor l.from)
