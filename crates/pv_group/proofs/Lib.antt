@@ -1,0 +1,4 @@
+pub mod Aheads
+pub mod Boards
+pub mod Endings
+pub mod Shelves
