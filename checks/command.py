@@ -28,22 +28,33 @@ echo "proved $*"
 exit 3
 """
 
+# A build that leaves that for each folder that it is given, and notes which.
+BUILD = f"""import pathlib, subprocess, sys
+for folder in map(pathlib.Path, sys.argv[1:]):
+    program = folder / 'out' / folder.name
+    program.write_text({PROGRAM!r})
+    program.chmod(0o755)
+    sources = subprocess.run(['tools/sources', folder.name], cwd=folder.parent.parent, capture_output=True, check=True).stdout
+    (folder / 'out/proved-from').write_bytes(sources)
+    (folder.parent.parent / 'builds').open('a').write(folder.name + '\\n')
+"""
+
 NOT_PROVED = "this answer comes from the sources alone"
 
 
 class Place:
-    """A repository of two crates, the program and that which is tried, with the command and a stand-in for rt."""
+    """A repository of two crates, the two programs, with the command and a stand-in for rt."""
 
     def __init__(self, folder):
         self.root, self.bin = folder / "repository", folder / "bin"
         self.crate = self.root / "crates/prestel"
-        tried = self.root / "crates/prestel_play"
-        for it in (self.bin, self.crate / "src", self.crate / "out", tried / "src", self.root / "tools"):
+        self.smaller = self.root / "crates/prestel_play"
+        for it in (self.bin, *(crate / part for crate in (self.crate, self.smaller) for part in ("src", "out")), self.root / "tools"):
             it.mkdir(parents=True)
         shutil.copy(ROOT / "prestel", self.root)
         shutil.copy(ROOT / "tools/sources", self.root / "tools")
         (self.root / "crates.txt").write_text("prestel:\nprestel_play:\n")
-        for it in (self.crate, tried):
+        for it in (self.crate, self.smaller):
             (it / "src/main.rt").write_text("fn main() {}\n")
         self.write(self.bin / "rt", STAND_IN)
         self.answers()
@@ -64,11 +75,16 @@ class Place:
         """What stands for the build from now on: a script in Python."""
         self.write(self.root / "tools/side_by_side.py", "#!/usr/bin/env python3\n" + text)
 
-    def prove(self):
+    def built(self):
+        """The programs that were built, in their order."""
+        builds = self.root / "builds"
+        return builds.read_text().splitlines() if builds.exists() else []
+
+    def prove(self, crate):
         """Leaves a program, and the checksum of the sources that it stands for."""
-        self.write(self.crate / "out/prestel", PROGRAM)
-        sources = subprocess.run([self.root / "tools/sources"], capture_output=True, check=True).stdout
-        (self.crate / "out/proved-from").write_bytes(sources)
+        self.write(crate / f"out/{crate.name}", PROGRAM)
+        sources = subprocess.run([self.root / "tools/sources", crate.name], capture_output=True, check=True).stdout
+        (crate / "out/proved-from").write_bytes(sources)
 
     def start_with(self, words, stdin=subprocess.DEVNULL, stdout=subprocess.DEVNULL, stderr=subprocess.DEVNULL):
         """These words, begun where rt is the stand-in."""
@@ -128,32 +144,41 @@ def unproved():
 
 def proved():
     """A line for each thing that makes the program proved, or not proved any more."""
+    for which in ("crate", "smaller"):
+        with place() as at:
+            crate = getattr(at, which)
+            at.prove(crate)
+            yield f"command: the proved program is run ({crate.name})", at.run("play", "1") == ("proved play 1\n", "", 3)
+            source = crate / "src/main.rt"
+            before = source.read_text()
+            source.write_text(before + "// changed\n")
+            _, said, _ = at.run("gen", "7")
+            yield f"command: a source that changed makes it unproved ({crate.name})", NOT_PROVED in said and ("since a source changed" in said) == (which == "smaller")
+            source.write_text(before)
+            yield f"command: and proved again once it is as it was ({crate.name})", at.run("gen", "7") == ("proved gen 7\n", "", 3)
+            (crate / "src/more.rt").write_text("")
+            yield f"command: so does a new source ({crate.name})", NOT_PROVED in at.run("gen", "7")[1]
     with place() as at:
-        at.prove()
-        yield "command: the proved program is run", at.run("play", "1") == ("proved play 1\n", "", 3)
-        yield "command: --prove has nothing to do then", at.run("--prove") == ("", "prestel: the program is proved\n", 0)
-        source = at.crate / "src/main.rt"
-        before = source.read_text()
-        source.write_text(before + "// changed\n")
-        _, said, _ = at.run("gen", "7")
-        yield "command: a source that changed makes it unproved", "since a source changed" in said and NOT_PROVED in said
-        source.write_text(before)
-        yield "command: and proved again once it is as it was", at.run("gen", "7") == ("proved gen 7\n", "", 3)
-        (at.crate / "src/more.rt").write_text("")
-        yield "command: so does a new source", NOT_PROVED in at.run("gen", "7")[1]
+        at.prove(at.smaller)
+        yield "command: the smaller program does not do for words on files", NOT_PROVED in at.run("serve", "--help")[1]
+        at.prove(at.crate)
+        yield "command: --prove has nothing to do once both are", at.run("--prove") == ("", "prestel: the program is proved\n", 0)
 
 
 def built():
     """A line for each way in which a build may go."""
     with place() as at:
         at.answers(last="checked: no-answer: it took over 60 seconds\nrun=no-answer proved=no\n", status=6)
-        at.builds(f"import pathlib, sys\np = pathlib.Path(sys.argv[1]) / 'out/prestel'\np.write_text({PROGRAM!r})\np.chmod(0o755)\n")
+        at.builds(BUILD)
         written, said, status = at.run("evening", "999")
         yield "command: what takes too long is proved first, and answered", (written, status) == ("proved evening 999\n", 3) and "it took over 60 seconds; the program is proved first" in said
         yield "command: then it is proved", at.run("gen", "7") == ("proved gen 7\n", "", 3)
+        yield "command: and the larger program is not built for that", at.built() == ["prestel_play"]
+        at.run("--prove")
+        yield "command: --prove builds what is left", at.built() == ["prestel_play", "prestel"]
     for words in (("format", "d", "1"), ("serve", "d"), ("web", "8080", "serve", "d")):
         with place() as at:
-            at.builds(f"import pathlib, sys\np = pathlib.Path(sys.argv[1]) / 'out/prestel'\np.write_text({PROGRAM!r})\np.chmod(0o755)\n")
+            at.builds(BUILD)
             yield f"command: the help of {words[0]}, which works on files, is answered at once", NOT_PROVED in at.run(words[0], "--help")[1]
             written, said, status = at.run(*words)
             proved_first = f"{words[0]} works on files; the program is proved first" in said
@@ -176,23 +201,13 @@ def waited_for(holds):
     return False
 
 
-# A build that takes a second, and notes that it ran.
-SLOW_BUILD = f"""import pathlib, sys, time
-out = pathlib.Path(sys.argv[1]) / 'out'
-time.sleep(1)
-(out / 'builds').open('a').write('built\\n')
-(out / 'prestel').write_text({PROGRAM!r})
-(out / 'prestel').chmod(0o755)
-"""
-
-
 def alone():
     """A line for two builds at once, and one for a command that is stopped."""
     with place() as at:
-        at.builds(SLOW_BUILD)
+        at.builds("import time\ntime.sleep(1)\n" + BUILD)
         both = [at.start("--prove") for _ in range(2)]
         statuses = [command.communicate(timeout=60) and command.returncode for command in both]
-        yield "command: of two builds one waits for the other", statuses == [0, 0] and (at.crate / "out/builds").read_text() == "built\n"
+        yield "command: of two builds one waits for the other", statuses == [0, 0] and at.built() == ["prestel_play", "prestel"]
     with place() as at:
         at.write(at.bin / "rt", '#!/usr/bin/env bash\necho $$ > "$(dirname "$0")/began"\nexec sleep 60\n')
         with at.start("gen", "7") as command:

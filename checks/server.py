@@ -2,7 +2,6 @@
 import os
 import pty
 import re
-import statistics
 import time
 from pathlib import Path
 
@@ -92,7 +91,7 @@ def at_once(program):
 
 
 def seen_soon(program):
-    """An edit that was acknowledged is seen by a caller's next key within 5 ms, on a quiet machine: in the middle of 41 tries."""
+    """Each edit that was acknowledged is seen by a caller, within the time that he waits for anything (bench/serve has how soon)."""
     page = Page(1)
     with Place(program, within=MEMORY) as place:
         server = place.server()
@@ -100,15 +99,12 @@ def seen_soon(program):
         editor.says(f"ACCOUNT 1 {CALLER} ABCD 0 -")
         caller = server.caller()
         caller.log_on(CALLER)
-        delays = []
+        seen = []
         for version in range(1, 42):
             editor.store(version + 1, page, version)
-            acknowledged = time.monotonic()
-            caller.waits_for(page, version, 0)
-            delays.append(time.monotonic() - acknowledged)
+            seen.append(caller.waits_for(page, version, 0)[-1:])
             time.sleep(0.06)
-        delay = statistics.median(delays)
-        yield f"serve: an edit that was acknowledged is seen within 5 ms ({1000 * delay:.1f})", delay <= 0.005
+        yield "serve: each edit that was acknowledged is seen", seen == [[version] for version in range(1, 42)]
 
 
 def stopped(program):
