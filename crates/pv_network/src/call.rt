@@ -1,6 +1,6 @@
-ghost use Rattle.std.specs.Prelude.{◌≡◌, ◌≤◌, Option};
+ghost use Rattle.std.specs.Prelude.{◌≡◌, ℕ, ◌≤◌, true, false, Option};
 ghost use Rattle.pv_charge.specs.declared.line.TheConstants.{LAST_MOMENT};
-ghost use Rattle.pv_edits.specs.Sight.{view_of};
+ghost use Rattle.pv_edits.specs.Sight.{View, view_of};
 ghost use Rattle.pv_session.specs.declared.entry.Entry.{Entry};
 ghost use Rattle.pv_session.specs.Turns.{storing_turn, full_turn};
 
@@ -73,6 +73,18 @@ impl Call {
             × (result ≡ (key_turn self.old.seat byte (view_of sight.now) moment entry).1) }
     {
         self.seat.key(byte, sight, moment)
+    }
+
+    /// Takes a byte if nothing comes of it but that the seat waits for more keys, and returns whether it did. `false` if more
+    /// comes of it, and then nothing has changed.
+    pub(crate) fn take_quietly(&mut self, byte: u8) -> bool
+        ensures turn { result ≡ true → (view : View) (moment : ℕ)
+            → (entry : Option Entry) × IsEntryAt self.old.seat byte entry
+            × (self.new ≡ record self.old { seat = (key_turn self.old.seat byte view moment entry).0 })
+            × (Step.Quiet ≡ (key_turn self.old.seat byte view moment entry).1) }
+        ensures same { result ≡ false → self.new ≡ self.old }
+    {
+        self.seat.take_quietly(byte)
     }
 
     /// Notes that what is owed was stored, and the reply.

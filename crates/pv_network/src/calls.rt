@@ -1,6 +1,6 @@
-ghost use Rattle.std.specs.Prelude.{◌≡◌, ◌<◌, ◌≤◌, List, Option, Some, None, length, replicate, slice_set, IfOk};
+ghost use Rattle.std.specs.Prelude.{◌≡◌, ℕ, true, false, ◌<◌, ◌≤◌, List, Option, Some, None, length, replicate, slice_set, IfOk};
 ghost use Rattle.pv_charge.specs.declared.line.TheConstants.{LAST_MOMENT};
-ghost use Rattle.pv_edits.specs.Sight.{view_of};
+ghost use Rattle.pv_edits.specs.Sight.{View, view_of};
 ghost use Rattle.pv_session.specs.Turns.{full_turn};
 ghost use Rattle.pv_session.specs.declared.entry.Entry.{Entry};
 ghost use Rattle.pv_session.specs.State.{CallState};
@@ -125,6 +125,25 @@ impl Calls {
         }
         let step = call.key(key, sight, moment);
         self.answer(port, step)
+    }
+
+    /// Takes a key at a port if nothing comes of it but that the caller's seat waits for more, and returns whether it did. `false`
+    /// if more comes of it, and then nothing has changed.
+    pub(crate) fn take_quietly(&mut self, port: usize, key: u8) -> bool
+        requires { port < PORTS }
+        ensures pressed { result ≡ true → (view : View) (moment : ℕ)
+            → (entry : Option Entry) × IsPortEntry (call_among self.old port) key entry
+            × IsDone self.old self.new outcomes.Quiet
+            (λ calls. press_at calls port key view moment entry (call_in calls port)) }
+        ensures same { result ≡ false → self.new ≡ self.old }
+    {
+        let Some(call) = &mut self.ports[port] else {
+            return false;
+        };
+        if call.is_waiting() {
+            return false;
+        }
+        call.take_quietly(key)
     }
 
     /// What the call at a port is to have stored; or the answer if there is no call, or nothing to be stored for it.

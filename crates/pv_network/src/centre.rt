@@ -1,4 +1,4 @@
-ghost use Rattle.std.specs.Prelude.{◌≡◌, ◌<◌, ◌≤◌, Ok, length, option_copied, option_map, slice_get, IfOk, IfSome, OnErr};
+ghost use Rattle.std.specs.Prelude.{◌≡◌, ℕ, true, false, ◌<◌, ◌≤◌, Ok, length, option_copied, option_map, slice_get, IfOk, IfSome, OnErr};
 ghost use Rattle.pv_charge.specs.declared.line.TheConstants.{LAST_MOMENT};
 ghost use Rattle.pv_frame.specs.Errors.{IsValid};
 ghost use Rattle.pv_edits.specs.Edits.{frame_at};
@@ -7,6 +7,7 @@ ghost use Rattle.pv_irc.specs.History.{state_count};
 ghost use Rattle.pv_udc.specs.EditList.{empty_list};
 ghost use Rattle.pv_account.specs.declared.account.TheConstants.{MAX_CENTRES};
 ghost use Rattle.pv_network.specs.declared.event.TheConstants.{PORTS};
+ghost use Rattle.pv_network.specs.declared.outcome.Outcome.TheVariants as outcomes;
 ghost use Rattle.pv_network.specs.Bills.{bill_answer, stored_lines};
 ghost use Rattle.pv_network.specs.Calls.{call_among, call_in, wish_at, dial_at, hang_at, store_at, show_at};
 ghost use Rattle.pv_network.specs.Crashing.{crash_at};
@@ -210,6 +211,17 @@ impl Centre {
         let account = self.calls.account(port);
         self.calls
             .press(port, key, &self.node.state().sight(account), moment)
+    }
+
+    /// Takes a key at a port if nothing comes of it but that the caller's seat waits for more, and returns whether it did. `false`
+    /// if more comes of it, and then nothing has changed.
+    pub(crate) fn take_quietly(&mut self, port: usize, key: u8) -> bool
+        requires { port < PORTS }
+        ensures pressed { result ≡ true → (moment : ℕ)
+            → Pressed self.old self.new port key moment outcomes.Quiet }
+        ensures same { result ≡ false → self.new ≡ self.old }
+    {
+        self.calls.take_quietly(port, key)
     }
 
     /// Stores what the call at a port owes, unless the centre is full. A full centre has no room for a record, but the

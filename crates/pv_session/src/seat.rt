@@ -1,4 +1,4 @@
-ghost use Rattle.std.specs.Prelude.{◌≡◌, ◌+◌, ◌<◌, ◌≤◌, false, IfSome};
+ghost use Rattle.std.specs.Prelude.{◌≡◌, ℕ, ◌+◌, ◌<◌, ◌≤◌, true, false, IfSome};
 ghost use Rattle.pv_session.specs.declared.seat.TheConstants.{TRIES};
 ghost use Rattle.pv_session.specs.State.{charges_in};
 
@@ -50,7 +50,7 @@ pub struct Seat {
 }
 
 impl Seat {
-    ghost use Rattle.pv_edits.specs.Sight.{view_of};
+    ghost use Rattle.pv_edits.specs.Sight.{View, view_of};
     ghost use Rattle.pv_session.specs.Charging.{IsSeatWish, IsStorable};
     ghost use Rattle.pv_session.specs.Fetching.{ending_turn};
     ghost use Rattle.pv_session.specs.Messages.{screen_of_blank};
@@ -100,6 +100,16 @@ impl Seat {
             }
             Phase::Owing(_) | Phase::Over => Step::Quiet,
         }
+    }
+
+    /// Takes a byte if nothing comes of it but that the seat waits for more keys, and returns whether it did: most keys do no
+    /// more, and need neither a sight nor room for a screen. `false` if more comes of it, and then nothing has changed.
+    pub fn take_quietly(&mut self, byte: u8) -> bool
+        ensures turn { result ≡ true → (view : View) (moment : ℕ)
+            → IsTurn (state_of self.old) byte view moment (state_of self.new) Step.Quiet }
+        ensures same { result ≡ false → self.new ≡ self.old }
+    {
+        matches!(self.phase, Phase::Listening) && !self.is_spent() && self.gather(byte)
     }
 
     /// Goes on after the centre stored what the seat owes. If it owes nothing or this is another
@@ -219,6 +229,23 @@ impl Seat {
             }
             None => Step::Quiet,
         }
+    }
+
+    /// Keeps a byte of a call that is not spent for a later entry. `false` if it makes one or leaves what is asked for.
+    fn gather(&mut self, byte: u8) -> bool
+        requires lasts { is_spent (state_of self.old) ≡ false }
+        requires listens { self.old.phase ≡ Phase.Listening }
+        ensures gathered { result ≡ true → (view : View) (moment : ℕ)
+            → Hears (state_of self.old) byte view moment (state_of self.new) Step.Quiet }
+        ensures same { result ≡ false → self.new ≡ self.old }
+    {
+        let mut reading = self.reading;
+        if reading.is_left_by(byte) || reading.take(byte).is_some() {
+            return false;
+        }
+        self.reading = reading;
+        self.bytes += 1;
+        true
     }
 
     /// Whether the call has had as many bytes or entries as it may have.

@@ -1,5 +1,6 @@
-ghost use Rattle.std.specs.Prelude.{◌≡◌, ◌<◌, length};
+ghost use Rattle.std.specs.Prelude.{◌≡◌, true, false, ◌<◌, length};
 ghost use Rattle.pv_network.specs.declared.event.TheConstants.{PORTS};
+ghost use Rattle.pv_network.specs.declared.outcome.Outcome.TheVariants as outcomes;
 ghost use Rattle.pv_network.specs.Calling.{step_of_dial, step_of_store, step_of_show, step_of_hang};
 ghost use Rattle.pv_network.specs.Standing.{Performs, Presses};
 
@@ -35,6 +36,21 @@ impl Network {
         seats_keep_their_own();
         let moment = self.moment.seconds();
         self.centres[centre as usize].press(port, key, moment)
+    }
+
+    /// The caller at a port of a centre keys a byte, if nothing comes of it but that his seat waits for more; returns whether it
+    /// did. `false` if more comes of it, and then nothing has changed.
+    pub(super) fn take_quietly(&mut self, centre: u8, port: usize, key: u8) -> bool
+        requires centre { centre < length self.old.centres }
+        requires port { port < PORTS }
+        ensures pressed { result ≡ true → Presses self.old self.new outcomes.Quiet centre port key }
+        ensures same { result ≡ false → self.new ≡ self.old }
+        ensures centres { length self.new.centres ≡ length self.old.centres }
+    {
+        a_centre_shows_what_the_list_shows();
+        letters_wait_by_places();
+        seats_keep_their_own();
+        self.centres[centre as usize].take_quietly(port, key)
     }
 
     /// A centre stores what the call at a port owes.

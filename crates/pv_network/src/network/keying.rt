@@ -74,6 +74,9 @@ impl Network {
             (λ over. TakesKey self.old self.new turns.old turns.new over centre port byte) }
         ensures centres { length self.new.centres ≡ length self.old.centres }
     {
+        if self.take_quietly(centre, port, byte) {
+            return Ok(false);
+        }
         let pressed = self.press(centre, port, byte);
         if pressed.is_owes() {
             let paid = self.pay(centre as usize, port);
