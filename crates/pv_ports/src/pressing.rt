@@ -28,6 +28,11 @@ impl Viewer<IrcState> for Pressing {
         × (new.byte ≡ old.byte) × (new.moment ≡ old.moment) };
 
     fn view(&mut self, state: &IrcState) {
+        // Most keys only wait for more, and then no screen is made.
+        if self.seat.take_quietly(self.byte) {
+            self.step = Step::Quiet;
+            return;
+        }
         let account = self.seat.account();
         self.step = self.seat.key(self.byte, &state.sight(account), self.moment);
     }
