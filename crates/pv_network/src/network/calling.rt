@@ -24,8 +24,21 @@ impl Network {
     }
 
     /// The caller at a port of a centre keys a byte.
-    #[inline(never)]
     pub(super) fn press(&mut self, centre: u8, port: usize, key: u8) -> Outcome
+        requires centre { centre < length self.old.centres }
+        requires port { port < PORTS }
+        ensures performs { Presses self.old self.new result centre port key }
+        ensures centres { length self.new.centres ≡ length self.old.centres }
+    {
+        if self.take_quietly(centre, port, key) {
+            return Outcome::Quiet;
+        }
+        self.answer_key(centre, port, key)
+    }
+
+    /// The caller at a port of a centre keys a byte. It has the room for a screen, which most keys do not need.
+    #[inline(never)]
+    pub(super) fn answer_key(&mut self, centre: u8, port: usize, key: u8) -> Outcome
         requires centre { centre < length self.old.centres }
         requires port { port < PORTS }
         ensures performs { Presses self.old self.new result centre port key }

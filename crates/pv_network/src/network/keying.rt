@@ -77,7 +77,7 @@ impl Network {
         if self.take_quietly(centre, port, byte) {
             return Ok(false);
         }
-        let pressed = self.press(centre, port, byte);
+        let pressed = self.answer_key(centre, port, byte);
         if pressed.is_owes() {
             let paid = self.pay(centre as usize, port);
             return turns.take(&paid);

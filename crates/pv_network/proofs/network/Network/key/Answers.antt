@@ -10,9 +10,9 @@ returns-then-is_owes-clause-performs c =
     key_taken c.args.self.now c.pay-paid.new.self c.args.turns.now c.take.new.self c.args.centre c.args.port c.args.byte c.pay-paid.result
     c.take.result
     (λ w stands.
-    let pressed = c.press-pressed.ensures.performs w (rw (c.take_quietly.ensures.same c.if-take_quietly.false) stands) in
+    let pressed = c.answer_key-pressed.ensures.performs w (rw (c.take_quietly.ensures.same c.if-take_quietly.false) stands) in
     let done = key_paid c.args.centre c.args.port w c.pay-paid.new.self c.pay-paid.result c.args.byte pressed.0
-    c.press-pressed.result pressed.3
+    c.answer_key-pressed.result pressed.3
     (sym c.is_owes.ensures ∙ c.if-is_owes.true)
     (c.pay-paid.ensures.performs (step_of_press w c.args.centre c.args.port c.args.byte pressed.0).0 pressed.2) in
     (pressed.0, pressed.1, done.0, done.1))
@@ -21,11 +21,11 @@ returns-then-is_owes-clause-performs c =
 -- nothing is owed for it
 pub returns-clause-performs : goal.returns-clause-performs
 returns-clause-performs c =
-    key_taken c.args.self.now c.press-pressed.new.self c.args.turns.now c.take-2.new.self c.args.centre c.args.port c.args.byte
-    c.press-pressed.result c.take-2.result
+    key_taken c.args.self.now c.answer_key-pressed.new.self c.args.turns.now c.take-2.new.self c.args.centre c.args.port c.args.byte
+    c.answer_key-pressed.result c.take-2.result
     (λ w stands.
-    let pressed = c.press-pressed.ensures.performs w (rw (c.take_quietly.ensures.same c.if-take_quietly.false) stands) in
-    let done = key_free c.args.centre c.args.port w c.press-pressed.new.self c.press-pressed.result c.args.byte pressed.0 pressed.3
+    let pressed = c.answer_key-pressed.ensures.performs w (rw (c.take_quietly.ensures.same c.if-take_quietly.false) stands) in
+    let done = key_free c.args.centre c.args.port w c.answer_key-pressed.new.self c.answer_key-pressed.result c.args.byte pressed.0 pressed.3
     (sym c.is_owes.ensures ∙ c.if-is_owes.false) (pressed.2, pressed.3) in
     (pressed.0, pressed.1, done.0, done.1))
     c.take-2.ensures.turns c.take-2.ensures.over
