@@ -1,12 +1,10 @@
 -- Only a seed and an editor's line are answered by a reply. It stands on one row, and begins with a capital letter.
-use Rattle.std.proofs.Common.{◌≡◌, ℕ, zero, suc, ◌+◌, Bool, true, false, cond, List, [], ◌∷◌, ◌++◌, Option, Some, None, Result, Ok, Err, sym, subst}
+use Rattle.std.proofs.Common.{ℕ, zero, suc, Bool, true, false, cond, List, [], ◌∷◌, Option, Some, None, Result, Ok, Err, sym, subst}
 use Rattle.std.specs.Prelude.{All, IfOk, slice_get}
 use Rattle.pv_page.specs.Names.{Name}
 use Rattle.pv_frame.specs.Content.{Content}
 use Rattle.pv_edits.specs.Edits.{frame_at}
 use Rattle.pv_edits.specs.Record.{IsRecord}
-use Rattle.pv_edits.specs.declared.record.Record.{Record}
-use Rattle.pv_editor.specs.Say.{turn_of}
 use Rattle.pv_packet.specs.declared.packet.Packet.{Packet}
 use Rattle.pv_packet.specs.declared.packet.Packet.TheVariants as packets
 use Rattle.pv_session.specs.declared.entry.Entry.{Entry}
@@ -27,18 +25,18 @@ use Rattle.pv_network.specs.declared.outcome.Outcome.TheVariants as outcomes
 use Rattle.pv_network.specs.declared.outcome.Turn.{Turn}
 use Rattle.pv_network.specs.declared.round.Round.{Round}
 use Rattle.pv_network.specs.declared.round.Round.TheVariants as rounds
-use Rattle.pv_network.specs.declared.way.Way.{Way}
-use Rattle.pv_network.specs.declared.way.Way.TheVariants as ways
+use Rattle.pv_traffic.specs.declared.way.Way.{Way}
+use Rattle.pv_traffic.specs.declared.way.Way.TheVariants as ways
 use Rattle.pv_network.specs.Call.{Call, is_waiting, wish_to_store}
 use Rattle.pv_network.specs.Calling.{calls_at, call_at, view_at, holdings_at}
-use Rattle.pv_network.specs.Calls.{Calls, Holdings, step_answer, turn_at, dial_at, hang_at, press_at, away_answer, lacks_room, storing_unless, storing_at, store_at, showing_at, show_at}
+use Rattle.pv_network.specs.Calls.{Calls, Holdings, step_answer, dial_at, hang_at, press_at, away_answer, lacks_room, storing_unless, storing_at, store_at, showing_at, show_at}
 use Rattle.pv_network.specs.Cutting.{node_of, stored_world, step_of_stop}
 use Rattle.pv_network.specs.Editing.{seed_request, step_of_line}
 use Rattle.pv_network.specs.Keying.{KeyedByte, turns_answer, keys_refusal, step_of_taken_keys, keys_from}
-use Rattle.pv_network.specs.Link.{is_packets_full, packets_on}
+use Rattle.pv_traffic.specs.Link.{is_packets_full, packets_on}
 use Rattle.pv_network.specs.Standing.{State, StandsFor, IsStanding, TakesPlace}
 use Rattle.pv_network.specs.Step.{Choice, view_answer, happens}
-use Rattle.pv_network.specs.Traffic.{packet_for, next_number_on, sent_answer, step_of_packing, step_of_number, step_of_sending, arrival_on, world_after, with_next_at, with_item_of, step_of_answer, step_of_packet, step_of_found, step_of_arriving, packet_in, ack_in, round_by, round_of_send, step_of_round, way_on, after_round, rounds_on, carry_rounds, with_ack_back}
+use Rattle.pv_network.specs.Traffic.{packet_for, next_number_on, sent_answer, step_of_packing, step_of_number, step_of_sending, arrival_on, world_after, with_next_at, with_item_of, step_of_answer, step_of_packet, step_of_found, step_of_arriving, packet_in, round_by, round_of_send, step_of_round, way_on, after_round, rounds_on, carry_rounds}
 use Rattle.pv_udc.specs.declared.request.UdcRequest.TheVariants.{Edit}
 use Rattle.pv_network.specs.Verdict.{verdict_of}
 use Rattle.pv_network.specs.World.{World, seat_at, link_at, page_base}

@@ -13,9 +13,9 @@ use Rattle.pv_network.specs.declared.outcome.Outcome.{Outcome}
 use Rattle.pv_network.specs.declared.outcome.Outcome.TheVariants as outcomes
 use Rattle.pv_network.specs.declared.round.Round.{Round}
 use Rattle.pv_network.specs.declared.round.Round.TheVariants as rounds
-use Rattle.pv_network.specs.declared.way.Way.{Way}
-use Rattle.pv_network.specs.declared.way.Way.TheVariants as ways
-use Rattle.pv_network.specs.Link.{is_packets_full, back_way, packets_on}
+use Rattle.pv_traffic.specs.declared.way.Way.{Way}
+use Rattle.pv_traffic.specs.declared.way.Way.TheVariants as ways
+use Rattle.pv_traffic.specs.Link.{is_packets_full, back_way, packets_on}
 use Rattle.pv_network.specs.Sound.{IsSound}
 use Rattle.pv_network.specs.Traffic.{front_of, received_count, packet_for, next_number_on, step_of_packing, step_of_number, step_of_sending, arrival_on, world_after, step_of_answer, with_next_at, with_item_of, step_of_packet, step_of_found, step_of_arriving, packet_in, round_by, round_of_send, step_of_round, with_one, way_on, after_round, rounds_on, carry_rounds}
 use Rattle.pv_network.specs.World.{World, centre_at, link_at}

@@ -7,19 +7,19 @@ use Rattle.std.proofs.lemmas.List.Sums.{sum_by-set}
 use Rattle.pv_network.specs.declared.arrival.Arrival.{Arrival}
 use Rattle.pv_network.specs.declared.arrival.Arrival.TheVariants as arrivals
 use Rattle.pv_network.specs.declared.load.Load.{Load}
-use Rattle.pv_network.specs.declared.way.Way.{Way}
-use Rattle.pv_network.specs.declared.way.Way.TheVariants as ways
+use Rattle.pv_traffic.specs.declared.way.Way.{Way}
+use Rattle.pv_traffic.specs.declared.way.Way.TheVariants as ways
 use Rattle.pv_network.specs.declared.outcome.Outcome.{Outcome}
 use Rattle.pv_network.specs.declared.outcome.Outcome.TheVariants as outcomes
 use Rattle.pv_packet.specs.declared.packet.Packet.{Packet}
 use Rattle.pv_packet.specs.declared.packet.Packet.TheVariants.{Down, Up, DownHeard, UpHeard}
 use Rattle.pv_link.specs.Sending.{SendingEnd, end_after, end_that_heard}
-use Rattle.pv_network.specs.declared.packets.TheConstants.{MAX_PACKETS}
+use Rattle.pv_traffic.specs.declared.packets.TheConstants.{MAX_PACKETS}
 use Rattle.pv_network.specs.declared.round.Round.{Round}
 use Rattle.pv_network.specs.declared.round.Round.TheVariants as rounds
-use Rattle.pv_network.specs.Link.{Link, new_link, is_packets_full, packet_count, back_way, ack_packet, packets_on, end_on, with_packet, with_end, with_sent}
+use Rattle.pv_traffic.specs.Link.{Link, new_link, is_packets_full, packet_count, back_way, ack_packet, packets_on, end_on, with_packet, with_end, with_sent, packet_room}
 use Rattle.pv_network.specs.Standing.{State, StandsFor, Performs}
-use Rattle.pv_network.specs.Traffic.{front_of, received_count, packet_for, next_number_on, step_of_packing, step_of_number, step_of_sending, step_of_acknowledging, arrival_on, world_after, step_of_answer, with_next_at, with_item_of, step_of_hearing, step_of_packet, step_of_found, step_of_arriving, packet_in, ack_in, with_ack_back, round_of_packet, round_of_send, step_of_round, GoesOn, no_load, with_one, way_on, after_round, rounds_on, carry_rounds, packet_room, step_of_carry}
+use Rattle.pv_network.specs.Traffic.{front_of, received_count, packet_for, next_number_on, step_of_packing, step_of_number, step_of_sending, step_of_acknowledging, arrival_on, world_after, step_of_answer, with_next_at, with_item_of, step_of_hearing, step_of_packet, step_of_found, step_of_arriving, packet_in, ack_in, with_ack_back, round_of_packet, round_of_send, step_of_round, GoesOn, no_load, with_one, way_on, after_round, rounds_on, carry_rounds, step_of_carry}
 use Rattle.pv_network.specs.World.{World, link_at, with_link}
 use Rattle.pv_network.proofs.Soundness.{choice}
 

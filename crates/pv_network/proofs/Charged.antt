@@ -35,14 +35,14 @@ use Rattle.pv_network.specs.declared.arrival.Arrival.{Arrival}
 use Rattle.pv_network.specs.declared.arrival.Arrival.TheVariants as arrivals
 use Rattle.pv_network.specs.declared.storing.Storing.{Storing}
 use Rattle.pv_network.specs.declared.storing.Storing.TheVariants as commands
-use Rattle.pv_network.specs.declared.way.Way.TheVariants as ways
-use Rattle.pv_network.specs.Link.{packets_on, with_new_end}
+use Rattle.pv_traffic.specs.declared.way.Way.TheVariants as ways
+use Rattle.pv_traffic.specs.Link.{packets_on, with_new_end, packet_room}
 use Rattle.pv_network.specs.Keying.{KeyedByte, first_entry, is_owes, is_storing, step_of_payment, step_of_key, screens_in, is_over, keys_from, UnlessOver, TakesAll, keys_refusal, step_of_taken_keys}
 use Rattle.pv_network.specs.Screens.{AreChoices}
 use Rattle.pv_network.specs.Sound.{OwesItsReply, IsSound}
 use Rattle.pv_network.specs.Editing.{seeded_frame}
 use Rattle.pv_network.specs.Step.{Choice, IsChoice, happens, after}
-use Rattle.pv_network.specs.Traffic.{arrival_on, with_next_at, no_load, packet_room}
+use Rattle.pv_network.specs.Traffic.{arrival_on, with_next_at, no_load}
 use Rattle.pv_network.specs.World.{World, StoppedCall, start, centre_at, link_at, with_link}
 use Rattle.pv_network.proofs.ChargeLines.{shown_here, shown_elsewhere, stopped_before, stopped_with, stopped_by}
 use Rattle.pv_network.proofs.Charging.{IsStoppedWith, frame_shown, recharged, dial_charged, press_charged, store_charged, show_charged, hang_charged, crash_charged}

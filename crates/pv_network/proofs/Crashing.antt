@@ -9,10 +9,10 @@ use Rattle.pv_editor.specs.declared.seat.EditorSeat.{EditorSeat}
 use Rattle.pv_network.specs.declared.event.TheConstants.{EDITORS}
 use Rattle.pv_network.specs.declared.outcome.Outcome.{Outcome}
 use Rattle.pv_network.specs.declared.outcome.Outcome.TheVariants.{Crashed}
-use Rattle.pv_network.specs.declared.way.Way.TheVariants as ways
+use Rattle.pv_traffic.specs.declared.way.Way.TheVariants as ways
 use Rattle.pv_network.specs.Centre.{Held, Comes, calls_of}
 use Rattle.pv_network.specs.Crashing.{crash_at, step_of_update_crash, step_of_centre_crash}
-use Rattle.pv_network.specs.Link.{Link, link_in, with_new_end}
+use Rattle.pv_traffic.specs.Link.{Link, link_in, with_new_end}
 use Rattle.pv_network.specs.Standing.{State, StandsFor}
 use Rattle.pv_network.specs.World.{World, link_at, with_link}
 use Rattle.pv_network.proofs.Calling.{crashes}

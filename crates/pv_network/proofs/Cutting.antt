@@ -35,7 +35,7 @@ use Rattle.pv_network.specs.declared.outcome.Outcome.{Outcome}
 use Rattle.pv_network.specs.declared.outcome.Outcome.TheVariants.{Crashed, Stored}
 use Rattle.pv_network.specs.declared.storing.Storing.{Storing}
 use Rattle.pv_network.specs.declared.storing.Storing.TheVariants as commands
-use Rattle.pv_network.specs.declared.way.Way.TheVariants as ways
+use Rattle.pv_traffic.specs.declared.way.Way.TheVariants as ways
 use Rattle.pv_network.specs.Call.{Call}
 use Rattle.pv_network.specs.Calling.{call_at, holdings_at, step_of_store}
 use Rattle.pv_network.specs.Calls.{Calls, Holdings, call_in}
@@ -43,7 +43,7 @@ use Rattle.pv_network.specs.Centre.{Held, Applies, CentreStands, arrival_by, ask
 use Rattle.pv_wishes.specs.Wishes.{request_for}
 use Rattle.pv_network.specs.Crashing.{step_of_update_crash, step_of_centre_crash}
 use Rattle.pv_network.specs.Cutting.{node_of, update_request, stored_for, recorded_world, wish_of, is_stored_for, wished_world, taken_world, applied_world, stored_world, MayBeKept, step_of_stop, IsSaid, cut_answer, apply_request, centre_request, record_for, Restarts}
-use Rattle.pv_network.specs.Link.{Link, link_in, packets_on, with_new_end}
+use Rattle.pv_traffic.specs.Link.{Link, link_in, packets_on, with_new_end}
 use Rattle.pv_network.specs.Sound.{IsGenuine, IsSound}
 use Rattle.pv_network.specs.Standing.{State, StandsFor, IsPossibleStoring}
 use Rattle.pv_network.specs.Traffic.{arrival_on, world_after, with_next_at}
@@ -52,7 +52,7 @@ use Rattle.pv_network.proofs.Arriving.{taken_record, records_taken}
 use Rattle.pv_network.proofs.AtPorts.{record_of_wish, recorded_for, stored_comes}
 use Rattle.pv_network.proofs.Calling.{LettersByPlaces, LettersBelow, calls_there, holdings_there, stores}
 use Rattle.pv_network.proofs.Crashing.{update_crashes, centre_crashes}
-use Rattle.pv_network.proofs.Lists.{set_again}
+use Rattle.pv_traffic.proofs.CallerLemmas.{set_again}
 use Rattle.pv_network.proofs.Performing.{applied_after}
 use Rattle.pv_network.proofs.Soundness.{sound_update, there_genuine}
 use Rattle.pv_network.proofs.Standing.{edit_stands, centre_stands}

@@ -33,14 +33,13 @@ use Rattle.pv_network.specs.Keying.{is_over}
 use Rattle.pv_network.specs.declared.arrival.Arrival.TheVariants.{Taken, Old, Early, Full}
 use Rattle.pv_network.specs.declared.event.NodeName.TheVariants as nodes
 use Rattle.pv_network.specs.declared.event.TheConstants.{EDITORS}
-use Rattle.pv_network.specs.declared.packets.TheConstants.{MAX_PACKETS}
 use Rattle.pv_network.specs.Bills.{bill_answer, bill_lines}
 use Rattle.pv_network.specs.Centre.{Centre, new_centre, arrival_of}
 use Rattle.pv_network.specs.Charging.{lines_with, shown_lines, line_at, lines_in_hand, with_stops}
 use Rattle.pv_network.specs.Crashing.{step_of_crash}
 use Rattle.pv_network.specs.Cutting.{MayBeKept, step_of_cut}
 use Rattle.pv_network.specs.declared.storing.Storing.TheVariants as commands
-use Rattle.pv_network.specs.Link.{new_link}
+use Rattle.pv_traffic.specs.Link.{new_link}
 use Rattle.pv_link.specs.Sending.{SendingEnd, number_to_give}
 use Rattle.pv_network.specs.Traffic.{carry_rounds, step_of_carry, step_of_send}
 use Rattle.pv_network.specs.Verdict.{verdict_by}
@@ -107,10 +106,6 @@ pub carried_packets : (item : Item) (after : World) → after ≡ (step_of_carry
     × ((link_at after 0).up ≡ (Up 0 0 item ∷ DownHeard 0 1 ∷ []))
 unfolding carry_rounds
 carried_packets item after is = rw is (refl, refl)
-
--- a network makes 20,000 packets at most
-pub most_packets : MAX_PACKETS ≡ 20000
-most_packets = refl
 
 -- ---- crashes
 

@@ -22,8 +22,6 @@ pub mod Lists
 pub mod Noting
 pub mod Performing
 pub mod ReplyLines
-pub mod Rows
-pub mod Runs
 pub mod Screens
 pub mod SoundCalls
 pub mod Soundness

@@ -15,8 +15,8 @@ use Rattle.pv_nodes.specs.Below.{records_below}
 use Rattle.pv_network.specs.Calls.{Calls}
 use Rattle.pv_network.specs.declared.arrival.Arrival.{Arrival}
 use Rattle.pv_network.specs.declared.arrival.Arrival.TheVariants as arrivals
-use Rattle.pv_network.specs.declared.way.Way.{Way}
-use Rattle.pv_network.specs.declared.way.Way.TheVariants as ways
+use Rattle.pv_traffic.specs.declared.way.Way.{Way}
+use Rattle.pv_traffic.specs.declared.way.Way.TheVariants as ways
 use Rattle.pv_network.specs.declared.outcome.Outcome.TheVariants.{Reply}
 use Rattle.pv_packet.specs.declared.packet.Packet.{Packet}
 use Rattle.pv_packet.specs.declared.packet.Packet.TheVariants.{Down, Up}
@@ -36,7 +36,7 @@ use Rattle.pv_editor.specs.Replies.{reply_of}
 use Rattle.pv_editor.specs.declared.replies.UdcReplyView.{UdcReplyView}
 use Rattle.pv_network.specs.Charging.{IsChargedWorld}
 use Rattle.pv_network.specs.Centre.{Centre, CentreStands, Held, Applies, new_centre, arrival_of, arrival_by, with_next, record_count, centre_with_arrival, asked_of, reply_to_arrival, node_state}
-use Rattle.pv_network.specs.Link.{Link, link_in, is_packets_full, back_way, ack_packet, packets_on, with_packet, with_sent, with_heard}
+use Rattle.pv_traffic.specs.Link.{Link, link_in, is_packets_full, back_way, ack_packet, packets_on, with_packet, with_sent, with_heard}
 use Rattle.pv_network.specs.Sound.{IsGenuine, IsSound}
 use Rattle.pv_network.specs.Standing.{State, StandsFor, Performs}
 use Rattle.pv_network.specs.Editing.{step_of_request, step_of_line, step_of_said, step_of_edit}

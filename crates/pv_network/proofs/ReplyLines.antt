@@ -1,6 +1,6 @@
 -- Each reply to an editor stands on one row, and begins with a capital letter.
-use Rattle.std.proofs.Common.{◌≡◌, ℕ, zero, suc, ◌+◌, ◌-◌, ◌≤◌, lit≤, Bool, true, false, cond, List, [], ◌∷◌, ◌++◌, Option, Some, None, length, refl, ap, subst, ◌∙◌, arith}
-use Rattle.std.specs.Prelude.{All, decimal, codes, ◌==◌, slice_get, option_map, if◌then◌else◌, replicate}
+use Rattle.std.proofs.Common.{◌≡◌, ℕ, zero, suc, ◌-◌, lit≤, true, List, [], ◌∷◌, ◌++◌, Option, Some, None, length, refl, ap, subst, arith}
+use Rattle.std.specs.Prelude.{All, decimal, codes, ◌==◌, slice_get, option_map, replicate}
 use Rattle.std.specs.List.{list_all}
 use Rattle.std.proofs.lemmas.Bool.{and_parts, and_from}
 use Rattle.std.proofs.lemmas.Bool.Decides.{nat_tests}
@@ -18,8 +18,8 @@ use Rattle.pv_edits.specs.Record.{IsRecord}
 use Rattle.pv_edits.specs.declared.record.Record.{Record}
 use Rattle.pv_edits.specs.declared.record.Record.TheVariants as records
 use Rattle.pv_udc.specs.Replies.{reply_place}
-use Rattle.pv_editor.specs.Replies.{number_reply, words_with, other_words, refusal_words, refusal_text, reply_of, barred_fields, joined_fields, response_reply, responses_reply}
-use Rattle.pv_editor.specs.Say.{refusals, refusal_step, plain, number_of_last, by_editor, with_working, store_step, last_step, step_of, seat_after, turn_by, turn_of}
+use Rattle.pv_editor.specs.Replies.{words_with, other_words, refusal_words, reply_of, barred_fields, joined_fields, response_reply, responses_reply}
+use Rattle.pv_editor.specs.Say.{refusals, plain, number_of_last, by_editor, with_working, step_of, turn_by, turn_of}
 use Rattle.pv_editor.specs.declared.line.EditLine.{EditLine}
 use Rattle.pv_editor.specs.declared.line.EditLine.TheVariants as lines
 use Rattle.pv_editor.specs.declared.replies.UdcReplyView.{UdcReplyView}
@@ -28,7 +28,7 @@ use Rattle.pv_editor.specs.declared.seat.EditorSeat.{EditorSeat}
 use Rattle.pv_editor.specs.declared.seat.Working.{Working}
 use Rattle.pv_editor.specs.declared.step.EditStep.{EditStep}
 use Rattle.pv_editor.specs.declared.step.EditStep.TheVariants as steps
-use Rattle.pv_network.specs.Editing.{step_of_line, step_of_said, step_of_edit}
+use Rattle.pv_network.specs.Editing.{step_of_said}
 use Rattle.pv_udc.specs.declared.request.UdcRequest.TheVariants.{Edit}
 use Rattle.pv_verdicts.specs.Search.{first_reply, taken_item}
 use Rattle.pv_network.specs.Verdict.{verdict_of}

@@ -45,9 +45,9 @@ use Rattle.pv_edits.specs.declared.wish.EditWish.TheVariants.{Put}
 use Rattle.pv_udc.specs.Judgement.{next_number}
 use Rattle.pv_network.specs.Editing.{seeded_frame}
 use Rattle.pv_network.specs.Step.{Choice, IsChoice, happens}
-use Rattle.pv_network.specs.Link.{packets_on}
-use Rattle.pv_network.specs.Traffic.{arrival_on, no_load, packet_room}
-use Rattle.pv_network.specs.declared.way.Way.TheVariants as ways
+use Rattle.pv_traffic.specs.Link.{packets_on, packet_room}
+use Rattle.pv_network.specs.Traffic.{arrival_on, no_load}
+use Rattle.pv_traffic.specs.declared.way.Way.TheVariants as ways
 use Rattle.pv_network.specs.World.{World, centre_at, link_at}
 use Rattle.pv_network.proofs.KeyTurns.{entry_turns}
 use Rattle.pv_network.proofs.SoundCalls.{to_store}

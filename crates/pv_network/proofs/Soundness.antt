@@ -38,8 +38,8 @@ use Rattle.pv_editor.specs.declared.replies.UdcReplyView.TheVariants.{Stored, Re
 use Rattle.pv_network.specs.declared.arrival.Arrival.{Arrival}
 use Rattle.pv_network.specs.declared.arrival.Arrival.TheVariants as arrivals
 use Rattle.pv_network.specs.declared.load.Load.{Load}
-use Rattle.pv_network.specs.declared.way.Way.{Way}
-use Rattle.pv_network.specs.declared.way.Way.TheVariants as ways
+use Rattle.pv_traffic.specs.declared.way.Way.{Way}
+use Rattle.pv_traffic.specs.declared.way.Way.TheVariants as ways
 use Rattle.pv_network.specs.declared.event.Event.{Event}
 use Rattle.pv_network.specs.declared.event.Event.TheVariants as events
 use Rattle.pv_network.specs.declared.event.NodeName.{NodeName}
@@ -65,13 +65,13 @@ use Rattle.pv_network.specs.Calls.{Calls, no_calls}
 use Rattle.pv_network.specs.Centre.{Centre, new_centre, arrival_of}
 use Rattle.pv_network.specs.Crashing.{without_calls, step_of_update_crash, step_of_lost_calls, step_of_centre_crash, step_of_crash}
 use Rattle.pv_network.specs.Cutting.{node_of, request_in, item_request, update_request, stored_for, recorded_world, wish_of, is_stored_for, wished_world, taken_world, applied_world, stored_world, step_of_stop, step_of_cut}
-use Rattle.pv_network.specs.Link.{Link, new_link, is_packets_full, back_way, ack_packet, packets_on, end_on, with_packet, with_end, with_sent, with_new_end}
+use Rattle.pv_traffic.specs.Link.{Link, new_link, is_packets_full, back_way, ack_packet, packets_on, end_on, with_packet, with_end, with_sent, with_new_end, packet_room}
 use Rattle.pv_network.specs.OneList.{IsNextOfEditor, HasNumbersInOrder, StandsAt, HasOnePlaceEach, MatchesReceipt, taken_items}
 use Rattle.pv_network.specs.Run.{EachFollows, MayFollow}
 use Rattle.pv_network.specs.Sound.{IsGenuine, GoesAlong, serial_in, IsSoundLink, IsSoundCalls, IsSound}
 use Rattle.pv_network.specs.Editing.{with_verdict, step_of_request, seeded_frame, step_of_line, step_of_said, step_of_edit}
 use Rattle.pv_network.specs.Step.{Choice, happens, after}
-use Rattle.pv_network.specs.Traffic.{front_of, received_count, receiver_count, record_packet, packet_for, next_number_on, step_of_packing, step_of_number, step_of_sending, step_of_acknowledging, arrival_on, world_after, step_of_answer, with_next_at, with_item_of, step_of_hearing, step_of_packet, step_of_found, step_of_arriving, with_ack_back, round_of_send, step_of_round, no_load, with_one, way_on, after_round, rounds_on, carry_rounds, packet_room}
+use Rattle.pv_network.specs.Traffic.{front_of, received_count, receiver_count, record_packet, packet_for, next_number_on, step_of_packing, step_of_number, step_of_sending, step_of_acknowledging, arrival_on, world_after, step_of_answer, with_next_at, with_item_of, step_of_hearing, step_of_packet, step_of_found, step_of_arriving, with_ack_back, round_of_send, step_of_round, no_load, with_one, way_on, after_round, rounds_on, carry_rounds}
 use Rattle.pv_verdicts.specs.Views.{editor_view}
 use Rattle.pv_network.specs.Verdict.{Verdict, verdict_by, verdict_of}
 use Rattle.pv_network.specs.World.{World, Receipt, StoppedCall, start, with_seat, centre_at, link_at, with_centre, with_link, with_edit, with_receipt}

@@ -9,7 +9,7 @@ use Rattle.pv_udc.specs.EditList.{EditList, empty_list, with_record}
 use Rattle.pv_editor.specs.declared.replies.UdcReplyView.{UdcReplyView}
 use Rattle.pv_editor.specs.declared.replies.UdcReplyView.TheVariants.{Stored, Refused}
 use Rattle.pv_network.specs.Centre.{Centre, Held, CentreStands, CentresStand, AreNew, new_centre, calls_of, record_count, state_of_prefix}
-use Rattle.pv_network.specs.Link.{Link}
+use Rattle.pv_traffic.specs.Link.{Link}
 use Rattle.pv_editor.specs.declared.seat.EditorSeat.{EditorSeat}
 use Rattle.pv_nodes.specs.OnDisk.{OnDisk, UpdateIsOnDisk, list_with}
 use Rattle.pv_network.specs.World.{World, StoppedCall, with_seat, centre_at, with_centre, with_link, with_edit, with_receipt}

@@ -5,14 +5,14 @@ use Rattle.pv_editor.specs.Say.{new_seat}
 use Rattle.pv_network.specs.declared.event.NodeName.{NodeName}
 use Rattle.pv_network.specs.declared.event.NodeName.TheVariants as nodes
 use Rattle.pv_network.specs.declared.event.TheConstants.{EDITORS, PORTS}
-use Rattle.pv_network.specs.declared.way.Way.TheVariants as ways
+use Rattle.pv_traffic.specs.declared.way.Way.TheVariants as ways
 use Rattle.pv_network.specs.declared.outcome.Outcome.{Outcome}
 use Rattle.pv_network.specs.declared.outcome.Outcome.TheVariants as outcomes
 use Rattle.pv_network.specs.Calling.{calls_at, at_calls}
 use Rattle.pv_network.specs.Calls.{Calls}
 use Rattle.pv_network.specs.Centre.{record_count}
 use Rattle.pv_network.specs.Charging.{with_stops}
-use Rattle.pv_network.specs.Link.{with_new_end}
+use Rattle.pv_traffic.specs.Link.{with_new_end}
 use Rattle.pv_network.specs.World.{World, centre_at, link_at, with_link}
 
 -- ---- the Update Centre

@@ -35,7 +35,7 @@ use Rattle.pv_network.specs.declared.outcome.Outcome.{Outcome}
 use Rattle.pv_network.specs.declared.outcome.Outcome.TheVariants as outcomes
 use Rattle.pv_network.specs.declared.storing.Storing.{Storing}
 use Rattle.pv_network.specs.declared.storing.Storing.TheVariants as commands
-use Rattle.pv_network.specs.declared.way.Way.TheVariants as ways
+use Rattle.pv_traffic.specs.declared.way.Way.TheVariants as ways
 use Rattle.pv_network.specs.Call.{Call, wish_to_store}
 use Rattle.pv_network.specs.Calling.{call_at, holdings_at, step_of_store}
 use Rattle.pv_network.specs.Calls.{Holdings, makes_record}
@@ -43,7 +43,7 @@ use Rattle.pv_network.specs.Centre.{Held}
 use Rattle.pv_wishes.specs.Wishes.{request_for}
 use Rattle.pv_network.specs.Crashing.{step_of_crash}
 use Rattle.pv_network.specs.Editing.{seed_request, step_of_line}
-use Rattle.pv_network.specs.Link.{packets_on}
+use Rattle.pv_traffic.specs.Link.{packets_on}
 use Rattle.pv_network.specs.Traffic.{arrival_on, with_next_at}
 use Rattle.pv_network.specs.Verdict.{verdict_of}
 use Rattle.pv_network.specs.World.{World, link_at, with_edit}

@@ -8,9 +8,7 @@ pub mod Crashing
 pub mod Cutting
 pub mod Editing
 pub mod Keying
-pub mod Link
 pub mod OneList
-pub mod Packets
 pub mod Prices
 pub mod Replies
 pub mod Run

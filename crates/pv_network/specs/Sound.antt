@@ -16,12 +16,12 @@ use Rattle.pv_session.specs.declared.step.Wish.TheVariants.{LogOn, Charge, Post,
 use Rattle.pv_udc.specs.Judgement.{next_number}
 use Rattle.pv_udc.specs.Replies.{down_of}
 use Rattle.pv_network.specs.declared.event.TheConstants.{PORTS}
-use Rattle.pv_network.specs.declared.way.Way.{Way}
-use Rattle.pv_network.specs.declared.way.Way.TheVariants as ways
+use Rattle.pv_traffic.specs.declared.way.Way.{Way}
+use Rattle.pv_traffic.specs.declared.way.Way.TheVariants as ways
 use Rattle.pv_network.specs.Call.{Call, serial_of}
 use Rattle.pv_network.specs.Calls.{Calls, call_in}
 use Rattle.pv_network.specs.Centre.{Centre}
-use Rattle.pv_network.specs.Link.{Link, way_of}
+use Rattle.pv_traffic.specs.Link.{Link, way_of}
 use Rattle.pv_network.specs.OneList.{OneList}
 use Rattle.pv_network.specs.World.{World, centre_at, link_at}
 

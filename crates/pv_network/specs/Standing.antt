@@ -20,7 +20,7 @@ use Rattle.pv_network.specs.Centre.{Held, CentresStand}
 use Rattle.pv_network.specs.Charging.{IsChargedWorld}
 use Rattle.pv_network.specs.Cutting.{MayBeKept, step_of_cut, IsSaid}
 use Rattle.pv_network.specs.Keying.{KeyedByte, bytes_of, step_of_key, screens_in, is_over, keys_from, TakesAll, step_of_keys, TakesAllAt}
-use Rattle.pv_network.specs.Link.{Link}
+use Rattle.pv_traffic.specs.Link.{Link}
 use Rattle.pv_packet.specs.declared.packet.Packet.{Packet}
 use Rattle.pv_network.specs.Sound.{IsGenuine, IsSound}
 use Rattle.pv_cells.specs.Notation.{ReadsAs}

@@ -1,6 +1,6 @@
 -- Packets: what a send, an arrival and a carry make of the world, and the answers to them. All is said of a way: records go down and
 -- are acknowledged by a centre, items go up and are acknowledged by the Update Centre.
-use Rattle.std.specs.Prelude.{ℕ, zero, suc, ◌+◌, ◌-◌, is_some, List, length, Option, Some, None, option_map, slice_get, if◌then◌else◌}
+use Rattle.std.specs.Prelude.{ℕ, zero, suc, ◌+◌, is_some, length, Option, Some, None, option_map, slice_get, if◌then◌else◌}
 use Rattle.pv_link.specs.Sending.{number_to_give}
 use Rattle.pv_edits.specs.Edits.{taken_of}
 use Rattle.pv_edits.specs.declared.record.Record.{Record}
@@ -15,13 +15,12 @@ use Rattle.pv_network.specs.declared.arrival.Arrival.TheVariants as arrivals
 use Rattle.pv_network.specs.declared.load.Load.{Load}
 use Rattle.pv_network.specs.declared.outcome.Outcome.{Outcome}
 use Rattle.pv_network.specs.declared.outcome.Outcome.TheVariants as outcomes
-use Rattle.pv_network.specs.declared.packets.TheConstants.{MAX_PACKETS}
 use Rattle.pv_network.specs.declared.round.Round.{Round}
 use Rattle.pv_network.specs.declared.round.Round.TheVariants as rounds
-use Rattle.pv_network.specs.declared.way.Way.{Way}
-use Rattle.pv_network.specs.declared.way.Way.TheVariants as ways
+use Rattle.pv_traffic.specs.declared.way.Way.{Way}
+use Rattle.pv_traffic.specs.declared.way.Way.TheVariants as ways
 use Rattle.pv_network.specs.Centre.{with_next, record_count, arrival_of}
-use Rattle.pv_network.specs.Link.{Link, is_packets_full, packet_count, back_way, ack_packet, packets_on, end_on, with_packet, with_sent, with_heard}
+use Rattle.pv_traffic.specs.Link.{is_packets_full, packet_room, back_way, ack_packet, packets_on, end_on, with_packet, with_sent, with_heard}
 use Rattle.pv_network.specs.World.{World, centre_at, link_at, with_centre, with_link, with_edit}
 
 -- ---- what goes a way
@@ -243,10 +242,6 @@ rounds_on more w c load (Some way) = let round = step_of_round way w c in after_
 unfoldable pub carry_rounds : ℕ → ℕ → World → Way → Load → World × Outcome
 carry_rounds zero c w way load = (w, outcomes.PacketsFull)
 carry_rounds (suc more) c w way load = rounds_on (carry_rounds more c) w c load (way_on way w c)
-
--- how many packets can still be made
-abbrev pub packet_room : List Link → ℕ
-packet_room links = MAX_PACKETS - packet_count links
 
 -- A carry: rounds down first, until both ends are idle or one of the rounds stops. Each that goes on made a packet, so that there is
 -- at most one round more than packets that can be made.

@@ -10,7 +10,7 @@ use Rattle.pv_editor.specs.declared.replies.UdcReplyView.TheVariants.{Stored, Re
 use Rattle.pv_network.specs.declared.event.TheConstants.{EDITORS}
 use Rattle.pv_network.specs.declared.outcome.BillLine.{BillLine}
 use Rattle.pv_network.specs.Centre.{Centre, new_centre}
-use Rattle.pv_network.specs.Link.{Link, new_link, link_in}
+use Rattle.pv_traffic.specs.Link.{Link, new_link, link_in}
 
 -- an edit that was acknowledged to its editor: under his number, at its place in the list
 pub record Receipt : Type 0 where

@@ -186,7 +186,7 @@ impl Calls {
     }
 
     /// Ends the call at a port, since the centre is full with this many records.
-    #[tactic(auto, using(crate::proofs::Lists::set_again))]
+    #[tactic(auto, using(pv_traffic::proofs::CallerLemmas::set_again))]
     pub(crate) fn turn_away(&mut self, port: usize, count: u64) -> Outcome
         requires { port < PORTS }
         ensures away { (call : Spec.Call) → call_among self.old port ≡ Some call
@@ -217,7 +217,7 @@ impl Calls {
     }
 
     /// Answers a step of the call at a port, which is free again after an end.
-    #[tactic(auto, using(crate::proofs::Lists::set_again))]
+    #[tactic(auto, using(pv_traffic::proofs::CallerLemmas::set_again))]
     fn answer(&mut self, port: usize, step: Step) -> Outcome
         requires { port < PORTS }
         ensures { (before : List (Option Spec.Call)) (seat : CallState)

@@ -1,12 +1,13 @@
 //! Laws of all worlds, each the clause of a function that does nothing.
 
 ghost use Rattle.std.specs.Prelude.{◌≡◌, ℕ, ◌+◌, ◌<◌, List, [], ◌∷◌, ◌++◌, length, Some, None};
+ghost use Rattle.pv_traffic.specs.Link.{packet_room};
 ghost use Rattle.pv_charge.specs.Line.{Charge};
 ghost use Rattle.pv_outside.specs.declared.limits.Limits.{Limits};
 ghost use Rattle.pv_network.specs.declared.event.Event.{Event};
 ghost use Rattle.pv_network.specs.declared.outcome.Outcome.TheVariants.{Carried};
-ghost use Rattle.pv_network.specs.Traffic.{no_load, packet_room, carry_rounds, step_of_carry};
-ghost use Rattle.pv_network.specs.declared.way.Way.TheVariants as ways;
+ghost use Rattle.pv_network.specs.Traffic.{no_load, carry_rounds, step_of_carry};
+ghost use Rattle.pv_traffic.specs.declared.way.Way.TheVariants as ways;
 ghost use Rattle.pv_edits.specs.Edits.{taken_of};
 ghost use Rattle.pv_network.specs.World.{World, centre_at, start};
 ghost use Rattle.pv_session.specs.declared.message.Message.TheVariants.{KeyAccount};

@@ -8,10 +8,11 @@
 //! a time, and an [`Outcome`] says what came of it.
 //!
 //! The Update Centre and each centre are nodes of `pv_nodes`: what a node stores is on its disk before it replies.
-//! Records go down to a centre, and its items go up to the Update Centre, each in a packet. The packets of a
-//! centre are numbered from 0 each way, in the order in which they were made; any of them may arrive at any time,
-//! never, or again. Each is kept in bytes, as `pv_packet` spells it, and decoded when it arrives. A node
-//! may crash, also within the write of a record: it is opened again from its disk, and knows what it had stored.
+//! Records go down to a centre, and its items go up to the Update Centre, each in a packet on the links of
+//! `pv_traffic`. The packets of a centre are numbered from 0 each way, in the order in which they were made; any of
+//! them may arrive at any time, never, or again. Each is kept in bytes, as `pv_packet` spells it, and decoded when it
+//! arrives. A node may crash, also within the write of a record: it is opened again from its disk, and knows what it
+//! had stored.
 //!
 //! ```text
 //! let mut network = Network::open(alloc, 1, limits)?;
@@ -34,18 +35,14 @@ mod centre;
 mod event;
 mod laws;
 mod lines;
-mod link;
-mod links;
 mod load;
 mod moment;
 mod network;
 mod outcome;
-mod packets;
 mod round;
 mod storing;
 mod turns;
 mod verdict;
-mod way;
 
 pub use event::{EDITORS, Event, NodeName, PORTS};
 pub use laws::{

@@ -1,11 +1,10 @@
 ghost use Rattle.std.specs.Prelude.{◌≡◌, ◌<◌};
 ghost use Rattle.pv_network.specs.declared.outcome.Outcome.TheVariants.{Carried};
-ghost use Rattle.pv_network.specs.declared.packets.TheConstants.{MAX_PACKETS};
+ghost use Rattle.pv_traffic.specs.declared.packets.TheConstants.{MAX_PACKETS};
 ghost use Rattle.pv_network.specs.Traffic.{no_load, with_one};
 
 use crate::outcome::Outcome;
-use crate::packets::MAX_PACKETS;
-use crate::way::Way;
+use pv_traffic::{MAX_PACKETS, Way};
 
 /// How many records and items a carry brought that were taken.
 #[derive(Clone, Copy, Debug, PartialEq, Eq)]

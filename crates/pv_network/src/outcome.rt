@@ -6,12 +6,12 @@ ghost use Rattle.pv_network.specs.Traffic.{packet_in, ack_in, sent_answer};
 
 use crate::lines::BillLines;
 use crate::turns::Turns;
-use crate::way::Way;
 use pv_charge::Line;
 use pv_editor::Text;
 use pv_nodes::Cut;
 use pv_screen::Screen;
 use pv_session::{Step, Why};
+use pv_traffic::Way;
 
 /// A screen that is shown, and whether the call ended with it.
 #[derive(Clone, Copy, Debug, PartialEq, Eq)]

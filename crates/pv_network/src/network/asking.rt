@@ -13,11 +13,11 @@ ghost use Rattle.pv_network.specs.World.{World};
 
 use crate::network::Network;
 use crate::storing::Storing;
-use crate::way::Way;
 use pv_editor::EditStep;
 use pv_irc::IrcRequest;
 use pv_packet::Packet;
 use pv_page::FrameName;
+use pv_traffic::Way;
 use pv_udc::UdcRequest;
 use pv_verdicts::within;
 

@@ -1,11 +1,11 @@
 ghost use Rattle.std.specs.Prelude.{◌≡◌, ◌<◌, length, option_copied, slice_get, IfSome};
 ghost use Rattle.pv_packet.specs.Packet.{centre_of};
 ghost use Rattle.pv_packet.specs.declared.packet.Packet.TheVariants.{Down, Up};
-ghost use Rattle.pv_network.specs.Link.{ack_packet};
+ghost use Rattle.pv_traffic.specs.Link.{ack_packet, packet_room};
 ghost use Rattle.pv_network.specs.Standing.{StandsFor, Performs, IsGenuineAt};
-ghost use Rattle.pv_network.specs.Traffic.{front_of, received_count, receiver_count, packet_for, next_number_on, step_of_sending, step_of_acknowledging, step_of_answer, step_of_arrival, with_next_at, with_item_of, step_of_hearing, step_of_arriving, step_of_round, round_of_packet, with_ack_back, way_on, GoesOn, packet_room, step_of_carry};
+ghost use Rattle.pv_network.specs.Traffic.{front_of, received_count, receiver_count, packet_for, next_number_on, step_of_sending, step_of_acknowledging, step_of_answer, step_of_arrival, with_next_at, with_item_of, step_of_hearing, step_of_arriving, step_of_round, round_of_packet, with_ack_back, way_on, GoesOn, step_of_carry};
 ghost use Rattle.pv_network.specs.World.{World, centre_at};
-ghost use Rattle.pv_network.specs.declared.way.Way.TheVariants as ways;
+ghost use Rattle.pv_traffic.specs.declared.way.Way.TheVariants as ways;
 
 use crate::arrival::Arrival;
 use crate::load::Load;
@@ -13,11 +13,11 @@ use crate::network::Network;
 use crate::outcome::Outcome;
 use crate::round::Round;
 use crate::verdict::take_up;
-use crate::way::Way;
 use pv_edits::DownRecord;
 use pv_nodes::a_centre_shows_what_the_list_shows;
 use pv_packet::Packet;
 use pv_post::Item;
+use pv_traffic::Way;
 use pv_udc::down;
 
 impl Network {

@@ -1,6 +1,7 @@
 use Rattle.std.proofs.Common.{◌+◌}
-use Rattle.pv_network.specs.Traffic.{no_load, packet_room}
-use Rattle.pv_network.specs.declared.way.Way.TheVariants as ways
+use Rattle.pv_traffic.specs.Link.{packet_room}
+use Rattle.pv_network.specs.Traffic.{no_load}
+use Rattle.pv_traffic.specs.declared.way.Way.TheVariants as ways
 use Rattle.pv_network.proofs.Carried.{carried_has_both}
 use Rattle.pv_network.proofs.laws.a_carried_centre_has_every_record.Goals as goal
 

@@ -1,6 +1,7 @@
 use Rattle.std.proofs.Common.{◌+◌, arith}
-use Rattle.pv_network.specs.Traffic.{no_load, packet_room}
-use Rattle.pv_network.specs.declared.way.Way.TheVariants as ways
+use Rattle.pv_traffic.specs.Link.{packet_room}
+use Rattle.pv_network.specs.Traffic.{no_load}
+use Rattle.pv_traffic.specs.declared.way.Way.TheVariants as ways
 use Rattle.pv_network.proofs.Carrying.{rounds_suffice}
 use Rattle.pv_network.proofs.laws.a_carry_has_rounds_enough.Goals as goal
 

@@ -3,7 +3,7 @@ use Rattle.std.proofs.lemmas.List.{length-set}
 use Rattle.pv_network.specs.Standing.{State, StandsFor}
 use Rattle.pv_network.specs.Traffic.{arrival_on, world_after, with_next_at}
 use Rattle.pv_network.specs.World.{World}
-use Rattle.pv_network.specs.declared.way.Way.TheVariants as ways
+use Rattle.pv_traffic.specs.declared.way.Way.TheVariants as ways
 use Rattle.pv_network.proofs.Performing.{applied_so, applied_after, answered}
 use Rattle.pv_network.proofs.network.Network.apply.Goals as goal
 use Rattle.pv_network.proofs.network.Network.apply.Goals.{After-apply-arrival}

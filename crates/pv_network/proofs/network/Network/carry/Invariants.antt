@@ -1,7 +1,7 @@
 use Rattle.std.proofs.Common.{◌≡◌, ◌+◌, ◌≤◌, length}
-use Rattle.pv_network.specs.declared.packets.TheConstants.{MAX_PACKETS}
+use Rattle.pv_traffic.specs.Link.{packet_room}
+use Rattle.pv_traffic.specs.declared.packets.TheConstants.{MAX_PACKETS}
 use Rattle.pv_network.specs.Standing.{StandsFor}
-use Rattle.pv_network.specs.Traffic.{packet_room}
 use Rattle.pv_network.specs.World.{World}
 use Rattle.pv_network.proofs.Carrying.{Rest}
 use Rattle.pv_network.proofs.network.Network.carry.Given as goal

@@ -2,8 +2,8 @@ use Rattle.std.proofs.Common.{◌≡◌, length, ap, ◌∙◌}
 use Rattle.std.proofs.lemmas.List.{length-map}
 use Rattle.pv_network.specs.declared.outcome.Outcome.TheVariants.{Crashed}
 use Rattle.pv_network.specs.Crashing.{step_of_update_crash}
-use Rattle.pv_network.specs.declared.way.Way.TheVariants as ways
-use Rattle.pv_network.specs.Link.{with_new_end}
+use Rattle.pv_traffic.specs.declared.way.Way.TheVariants as ways
+use Rattle.pv_traffic.specs.Link.{with_new_end}
 use Rattle.pv_network.specs.Standing.{State, StandsFor}
 use Rattle.pv_network.specs.World.{World}
 use Rattle.pv_network.proofs.Crashing.{update_crashes, update_same}

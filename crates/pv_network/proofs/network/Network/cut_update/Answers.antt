@@ -1,8 +1,8 @@
 use Rattle.std.proofs.Common.{length, ap, ◌∙◌}
 use Rattle.std.proofs.lemmas.List.{length-map}
-use Rattle.pv_network.specs.declared.way.Way.TheVariants as ways
+use Rattle.pv_traffic.specs.declared.way.Way.TheVariants as ways
 use Rattle.pv_network.specs.Cutting.{node_of, stored_world, step_of_stop, cut_answer}
-use Rattle.pv_network.specs.Link.{with_new_end}
+use Rattle.pv_traffic.specs.Link.{with_new_end}
 use Rattle.pv_network.specs.Standing.{State, StandsFor}
 use Rattle.pv_network.specs.World.{World}
 use Rattle.pv_network.proofs.Crashing.{update_same}

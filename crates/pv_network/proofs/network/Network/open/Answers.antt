@@ -2,7 +2,7 @@ use Rattle.std.proofs.Common.{[], ◌∷◌, false, refl, sym, subst, ◌∙◌}
 use Rattle.std.proofs.lemmas.List.{length-replicate}
 use Rattle.pv_udc.specs.EditList.{empty_list}
 use Rattle.pv_network.specs.Centre.{Centre, CentreStands, new_centre}
-use Rattle.pv_network.specs.Link.{new_link}
+use Rattle.pv_traffic.specs.Link.{new_link}
 use Rattle.pv_network.specs.Standing.{StandsFor}
 use Rattle.pv_network.specs.World.{start}
 use Rattle.pv_network.proofs.Charged.{charged_start}

@@ -1,7 +1,7 @@
 use Rattle.std.proofs.Common.{◌≡◌, ◌<◌, List, length, Some, sym, ap, subst, ◌∙◌, arith}
-use Rattle.pv_network.specs.Link.{Link}
+use Rattle.pv_traffic.specs.Link.{Link, packet_room}
 use Rattle.pv_network.specs.Standing.{State, StandsFor}
-use Rattle.pv_network.specs.Traffic.{packet_in, packet_room, step_of_sending}
+use Rattle.pv_network.specs.Traffic.{packet_in, step_of_sending}
 use Rattle.pv_network.proofs.Carrying.{sent_takes_room}
 use Rattle.pv_network.proofs.network.Network.round.Goals as goal
 

@@ -2,7 +2,7 @@ use Rattle.std.proofs.Common.{◌≡◌, arith}
 use Rattle.pv_network.specs.Standing.{State, StandsFor}
 use Rattle.pv_network.specs.Traffic.{arrival_on, world_after, with_item_of}
 use Rattle.pv_network.specs.World.{World}
-use Rattle.pv_network.specs.declared.way.Way.TheVariants as ways
+use Rattle.pv_traffic.specs.declared.way.Way.TheVariants as ways
 use Rattle.pv_network.proofs.Performing.{takes_up, answered}
 use Rattle.pv_network.proofs.network.Network.take_up.Goals as goal
 use Rattle.pv_network.proofs.network.Network.take_up.Goals.{After-take_up-arrival}

@@ -1,0 +1,4 @@
+pub mod CallerLemmas
+mod Facts
+pub mod Rows
+pub mod Runs
