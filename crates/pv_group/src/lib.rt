@@ -16,6 +16,6 @@ mod vault;
 
 pub use desk::Desk;
 pub use live::{Live, LiveNode, open_live};
-pub use outcome::{Decided, NotDecided, Outcome};
+pub use outcome::{Decided, LeftDisk, NotDecided, Outcome};
 pub use run::{GroupRun, TakenLedger};
 pub use vault::Vault;

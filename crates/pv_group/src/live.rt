@@ -5,9 +5,10 @@ ghost use Rattle.pv_live.specs.Opening.{IsPassCount};
 ghost use Rattle.pv_live.specs.Pass.{new_passes, told_count, failed_count};
 ghost use Rattle.pv_live.specs.Asking.{HasAsked, HasFailed};
 ghost use Rattle.pv_live.specs.Closing.{IsClosed};
+ghost use Rattle.pv_group.specs.Closing.{IsLeft};
 
 use crate::desk::Desk;
-use crate::outcome::{Decided, NotDecided, Outcome};
+use crate::outcome::{Decided, LeftDisk, NotDecided, Outcome};
 use crate::run::{GroupRun, TakenLedger};
 use crate::vault::Vault;
 use left_right::Absorb;
@@ -166,16 +167,18 @@ impl<R: Rules, D: Disk, N: GroupRun<R::Rec>, H: Wait + Drop> LiveNode<
 
     /// Gives the node back, once all that was decided is stored. These are all its passes. If a call of the disk
     /// failed, the disk is given back with the failure.
-    pub fn close(self, passes: Vec<Pass<R, N>>) -> Result<Closed<R, D>, (D::Failure, D)>
+    pub fn close(self, passes: Vec<Pass<R, N>>) -> Result<Closed<R, D>, LeftDisk<D>>
         requires { vec_len passes ≡ N.passes }
-        ensures { IfOk result (λ closed. IsClosed ⟦<R as Rules>⟧ D.Reports N.limits N.opening passes.items
+        ensures closed { IfOk result (λ closed. IsClosed ⟦<R as Rules>⟧ D.Reports N.limits N.opening passes.items
             closed.node closed.asked) }
+        ensures left { IfErr result (λ left. IsLeft ⟦<R as Rules>⟧ D.Reports N.limits N.opening passes.items
+            left.disk) }
     {
         let LiveNode { desk, vault } = self;
         let (mut desk, mut vault) = (desk.into_inner(), vault.into_inner());
         match vault.store_all(&mut desk) {
             Ok(()) => Ok(desk.close(vault.into_journal(), passes)),
-            Err(failure) => Err((failure, vault.into_journal().into_disk())),
+            Err(failure) => Err(vault.leave(desk, passes, failure)),
         }
     }
 }
