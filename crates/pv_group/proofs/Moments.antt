@@ -1,12 +1,11 @@
 -- What a crash at a moment of some calls of a vault leaves of its groups.
-use Rattle.std.proofs.Common.{◌≡◌, ◌⊎◌, inl, inr, ℕ, ◌<◌, ◌≤◌, List, ◌++◌, ap, sym, ◌∙◌, subst, IsSome}
+use Rattle.std.proofs.Common.{◌≡◌, ◌⊎◌, inl, inr, ℕ, ◌≤◌, List, ◌++◌, sym, subst}
 use Rattle.pv_outside.specs.declared.failed.TheConstants.{COUNT_END}
 use Rattle.pv_outside.specs.declared.limits.Limits.{Limits}
 use Rattle.pv_outside.specs.declared.reports.Reports as reports
-use Rattle.pv_journal.specs.Journal.{EachImage, LeavesOnly, Holds, HoldsInHand}
+use Rattle.pv_journal.specs.Journal.{EachImage, LeavesOnly}
 use Rattle.pv_journal.specs.Text.{Spells, SpellsEither}
 use Rattle.pv_journal.specs.Log.{Log}
-use Rattle.pv_journal.specs.Batch.{Pack}
 use Rattle.pv_journal.proofs.Moments.{only_none, only_weaker, only_then}
 use Rattle.pv_node.specs.declared.rules.Rules as rules
 use Rattle.pv_live.specs.declared.entry.Entry.{Entry}
