@@ -12,9 +12,9 @@ use Rattle.pv_group.specs.Vault.{SpellsLog}
 module _ {S State Request Rec Reply D : Type 0} (r : rules.Ghosts S State Request Rec Reply) (d : reports.Ghosts D) (limits : Limits)
     (opening : List Rec) (passes : List (Standing Rec)) where
   -- All that was decided is a run: what is stored, then a group, then what waits to be stored. Whatever a crash leaves of the disk spells
-  -- what is stored, or that with the whole group. Each pass has seen a prefix of the run. The passes were told of no more records than the
+  -- what is stored, or that with the whole group. Each pass has seen a prefix of the run. No more records are counted as stored than the
   -- run has, and of each of the others an ask has failed. A call of the disk has failed.
-  pub record IsLeft (disk : D) : Type 0 where
+  pub record IsDiskLeft (disk : D) : Type 0 where
     pub log : List (Entry Rec)
     pub stored : List (Entry Rec)
     pub group : List (Entry Rec)

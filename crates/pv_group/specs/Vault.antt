@@ -43,8 +43,8 @@ module _ {S State Request Rec Reply D : Type 0} (r : rules.Ghosts S State Reques
     pub within : length opening + length shelf.taken ≤ limits.records
     pub kept : HoldsStored shelf.journal shelf.stored group
 
-  -- A crash at any moment of some calls of the disk, and right after them, leaves what was stored before them, or that with all that
-  -- was taken by then, or with all that is taken by the end of them. So a group is there whole, or nothing of it is.
+  -- Some calls of the disk, at any moment of which a crash leaves one of three lists: what was stored before them, all that was taken by
+  -- then, or all that is taken by their end. So a group is there whole, or nothing of it is.
   abbrev pub LeavesGroups : Shelf D Rec → Shelf D Rec → Type 0
   LeavesGroups old new = LeavesOnly d old.journal.disk new.journal.disk (λ image. SpellsLog r opening old.stored image
       ⊎ (SpellsLog r opening old.taken image ⊎ SpellsLog r opening new.taken image))

@@ -12,9 +12,9 @@
 //!
 //! ```text
 //! let (live, mut passes) = open_live::<Ledger, _, N, &R>(rt, alloc, node, 2, start, taken)?;
-//! let told = live.ask(rt, &mut passes[0], &request)?;          // decided, stored, given
+//! let reply = live.ask(rt, &mut passes[0], &request)?;         // decided, stored, given
 //! let decided = live.decide(rt, &mut passes[1], &request)?;    // ahead of the disk
-//! let told = live.give(rt, &mut passes[1], decided)?;          // stored with all that was decided by then
+//! let reply = live.give(rt, &mut passes[1], decided)?;         // stored with all that was decided by then
 //! let closed = live.close(passes)?;
 //! ```
 //!

@@ -6,7 +6,7 @@ ghost use Rattle.pv_live.specs.Opening.{IsPassCount};
 ghost use Rattle.pv_live.specs.Pass.{new_passes, told_count, failed_count};
 ghost use Rattle.pv_group.specs.Answers.{IsOutcome, AnswersAsk, AskEnds, stored_by};
 ghost use Rattle.pv_live.specs.Closing.{IsClosed};
-ghost use Rattle.pv_group.specs.Closing.{IsLeft};
+ghost use Rattle.pv_group.specs.Closing.{IsDiskLeft};
 
 use crate::desk::Desk;
 use crate::outcome::{Decided, LeftDisk, NotDecided, Outcome};
@@ -196,10 +196,10 @@ impl<R: Rules, D: Disk, N: GroupRun<R::Rec>, H: Wait + Drop> LiveNode<
     /// failed, the disk is given back with the failure.
     pub fn close(self, passes: Vec<Pass<R, N>>) -> Result<Closed<R, D>, LeftDisk<D>>
         requires { vec_len passes ≡ N.passes }
-        ensures closed { IfOk result (λ closed. IsClosed ⟦<R as Rules>⟧ D.Reports N.limits N.opening passes.items
-            closed.node closed.asked) }
-        ensures left { IfErr result (λ left. IsLeft ⟦<R as Rules>⟧ D.Reports N.limits N.opening passes.items
-            left.disk) }
+        ensures closed { IfOk result (λ closed. IsClosed ⟦<R as Rules>⟧ D.Reports N.limits N.opening
+            passes.items closed.node closed.asked) }
+        ensures left { IfErr result (λ left. IsDiskLeft ⟦<R as Rules>⟧ D.Reports N.limits N.opening
+            passes.items left.disk) }
     {
         let LiveNode { desk, vault } = self;
         let (mut desk, mut vault) = (desk.into_inner(), vault.into_inner());

@@ -5,7 +5,7 @@ ghost use Rattle.pv_journal.specs.Journal.{Holds, Spends, HasMade};
 ghost use Rattle.pv_journal.specs.Log.{IsAtRest};
 ghost use Rattle.pv_live.specs.declared.entry.Entry.{Entry};
 ghost use Rattle.pv_live.specs.Asking.{EndsInDiskFault};
-ghost use Rattle.pv_group.specs.Closing.{IsLeft};
+ghost use Rattle.pv_group.specs.Closing.{IsDiskLeft};
 ghost use Rattle.pv_group.specs.Vault.{all_bodies, LeavesGroups};
 ghost use Rattle.pv_group.specs.Answers.{IsOutcome, AnswersAsk, EndsBeforeDeciding, AskEnds, stored_by};
 
@@ -152,6 +152,8 @@ impl<R: Rules, D: Disk, N: GroupRun<R::Rec>> Vault<R, D, N> {
         ensures at_rest { OnOk result (IsAtRest self.new.journal) }
         ensures stored { (self.new.stored ≡ self.old.stored) ⊎ (self.new.stored ≡ self.old.taken) }
         ensures taken { self.new.taken ≡ self.old.taken }
+
+        // A crash at any moment of it leaves each group whole, or nothing of it.
         ensures moments { LeavesGroups ⟦<R as Rules>⟧ D.Reports N.opening self.old self.new }
         ensures spends { Spends D.Reports 6 (IsErr result)
             self.old.journal.disk self.new.journal.disk }
@@ -303,7 +305,7 @@ impl<R: Rules, D: Disk, N: GroupRun<R::Rec>> Vault<R, D, N> {
         self.journal
     }
 
-    /// Gives the disk back, of which a call failed with this. These are all passes of the node, and this is its desk.
+    /// Gives the disk back, of which a call failed with this. These are all passes of the node, and its desk.
     pub(crate) fn leave<H: Wait + Drop>(
         self,
         desk: Desk<R, N, H, Published<R, N>, Change<R, N>>,
@@ -312,7 +314,7 @@ impl<R: Rules, D: Disk, N: GroupRun<R::Rec>> Vault<R, D, N> {
     ) -> LeftDisk<D>
         requires passes { vec_len passes ≡ N.passes }
         requires failed { 0 < D.faults self.journal.disk }
-        ensures { IsLeft ⟦<R as Rules>⟧ D.Reports N.limits N.opening passes.items result.disk }
+        ensures { IsDiskLeft ⟦<R as Rules>⟧ D.Reports N.limits N.opening passes.items result.disk }
     {
         let Vault {
             journal,
