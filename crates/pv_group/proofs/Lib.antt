@@ -1,4 +1,5 @@
 pub mod Aheads
 pub mod Boards
 pub mod Endings
+pub mod Moments
 pub mod Shelves

@@ -93,19 +93,13 @@ module _ {S State Request Rec Reply : Type 0} (r : rules.Ghosts S State Request 
         kept = kept;
       }
 
-      -- what was taken is what is stored and then this group, in whatever way that is said
-      group_is : (group : List (Entry Rec)) → shelf.taken ≡ shelf.stored ++ group → is.group ≡ group
-      group_is group taken = same_rest shelf.stored is.group group (sym is.taken_is ∙ taken)
-
-      -- what holds of the bodies that are stored and of those in hand
+      -- what is said of the bodies that are stored and of those in hand is said of what is stored and of the group
       pub of_hand : (P : List (List ℕ) → List (List ℕ) → Type 0)
           → ((bodies hand : List (List ℕ)) → HoldsInHand d shelf.journal bodies hand → P bodies hand)
-          → (IsNoneInHand shelf.journal → ⊥) → (group : List (Entry Rec)) → shelf.taken ≡ shelf.stored ++ group
-          → P (all_bodies r opening shelf.stored) (bodies_of r group)
-      of_hand P holds hand group taken =
-          subst (λ (l : List (Entry Rec)). P (all_bodies r opening shelf.stored) (bodies_of r l)) (group_is group taken)
-          (holds (all_bodies r opening shelf.stored) (bodies_of r is.group)
-          (group_in_hand shelf.journal shelf.stored is.group is.kept hand).1)
+          → (IsNoneInHand shelf.journal → ⊥) → P (all_bodies r opening shelf.stored) (bodies_of r is.group)
+      of_hand P holds hand =
+          holds (all_bodies r opening shelf.stored) (bodies_of r is.group)
+          (group_in_hand shelf.journal shelf.stored is.group is.kept hand).1
 
       -- a group in hand that turns out to be stored
       pub group_stored : (new : Log D)
@@ -140,18 +134,15 @@ module _ {S State Request Rec Reply : Type 0} (r : rules.Ghosts S State Request 
         first_packed =
             let one = first_body is.group some_entries in (one.0, one.1, one.2, subst (HasPacked shelf.batch) one.2 is.packed)
 
-        -- what holds of the bodies that are stored and of those in a batch
+        -- what is said of the bodies that are stored and of those in a batch is said of what is stored and of the group
         pub of_batch : (P : List (List ℕ) → List (List ℕ) → Type 0)
             → ((bodies : List (List ℕ)) (first : List ℕ) (others : List (List ℕ)) → HasPacked shelf.batch (first ∷ others)
             → Holds d shelf.journal bodies → P bodies (first ∷ others))
-            → IsAtRest shelf.journal → (group : List (Entry Rec)) → shelf.taken ≡ shelf.stored ++ group
-            → P (all_bodies r opening shelf.stored) (bodies_of r group)
-        of_batch P holds rest group taken =
+            → IsAtRest shelf.journal → P (all_bodies r opening shelf.stored) (bodies_of r is.group)
+        of_batch P holds rest =
             let bodies = all_bodies r opening shelf.stored in
             let one = first_packed in
-            subst (λ (l : List (Entry Rec)). P bodies (bodies_of r l)) (group_is group taken)
-            (subst (P bodies) (sym one.2)
-            (holds bodies one.0 one.1 one.3 (at_rest_holds shelf.journal shelf.stored is.group is.kept rest)))
+            subst (P bodies) (sym one.2) (holds bodies one.0 one.1 one.3 (at_rest_holds shelf.journal shelf.stored is.group is.kept rest))
 
       -- there is room for all that was taken
       pub never_full : IsAtRest shelf.journal → shelf.journal.count + length is.group ≤ shelf.journal.limit

@@ -20,9 +20,9 @@ pub record DeskView (State Rec : Type 0) : Type 0 where
   pub waiting : ℕ
 
 -- readers take some of these entries, and the writer of their copies has no others
-pub record ShowsOnly {State Rec : Type 0} (board : DeskView State Rec) (stored : List (Entry Rec)) : Type 0 where
-  pub published : IsPrefix board.published stored
-  pub handed : length board.log ≤ length stored + board.waiting
+pub record ShowsOnly {State Rec : Type 0} (desk : DeskView State Rec) (stored : List (Entry Rec)) : Type 0 where
+  pub published : IsPrefix desk.published stored
+  pub handed : length desk.log ≤ length stored + desk.waiting
 
 -- these changes, one after the other, each add one entry, and lead from the first list to the last
 abbrev pub AddsUpTo : {Rec Change : Type 0} → (List (Entry Rec) → Change → List (Entry Rec)) → List (Entry Rec) → List Change

@@ -1,3 +1,4 @@
 pub mod Answers
+pub mod Closing
 pub mod Desk
 pub mod Vault

@@ -8,13 +8,15 @@ ghost use Rattle.pv_journal.specs.Batch.{Pack};
 ghost use Rattle.pv_live.specs.Entries.{with_opening};
 ghost use Rattle.pv_journal.specs.Journal.{Holds};
 ghost use Rattle.pv_live.specs.Run.{IsMade};
+ghost use Rattle.pv_live.specs.Pass.{told_count, failed_count, EachHasSeenPrefix};
 ghost use Rattle.pv_live.specs.Closing.{IsClosed};
 ghost use Rattle.pv_group.specs.Vault.{all_bodies};
-ghost use Rattle.pv_group.specs.Desk.{ShowsOnly};
+ghost use Rattle.pv_group.specs.Desk.{ShowsOnly, IsAhead};
 ghost use Rattle.pv_group.specs.Answers.{IsOutcome, GivesOutcome, IsTakenBack, stored_by};
 
 use crate::outcome::{Decided, NotDecided, Outcome};
 use crate::run::{GroupRun, TakenLedger};
+use crate::vault::Vault;
 use left_right::{Absorb, WriteHandle};
 use pv_history::Appender;
 use pv_journal::{Batch, Journal, MAX_BODY};
@@ -246,25 +248,25 @@ impl<R: Rules, N: GroupRun<R::Rec>, H: Wait + Drop> Desk<R, N, H, Published<R, N
         true
     }
 
-    /// Gives a pass what was decided, which stands on records that are stored. They are shown first, and the pass
+    /// Gives a pass what was decided, which stands on records that this vault has stored. They are shown first, and the pass
     /// has seen them then.
     pub fn give<D: Disk>(
         &mut self,
         pass: &mut Pass<R, N>,
         decided: Decided<R, N>,
-        stored: &Known<R::Rec, N>,
+        vault: &Vault<R, D, N>,
     ) -> Result<Told<R::Reply>, LiveFault<D>>
-        requires stored { IsPrefix decided.upto stored.now }
+        requires stored { IsPrefix decided.upto vault.now.stored }
         ensures told { GivesOutcome decided.outcome decided.upto pass.old pass.new result }
         ensures shown { OnOk result (IsPrefix decided.upto self.new.published) }
-        ensures none_other { ShowsOnly self.old stored.now → ShowsOnly self.new stored.now }
+        ensures none_other { ShowsOnly self.old vault.now.stored → ShowsOnly self.new vault.now.stored }
         ensures same { self.new ≡ record self.old {
           published = self.new.published;
           waiting = self.new.waiting;
         } }
     {
         let Decided { upto, outcome } = decided;
-        if !self.show(stored) {
+        if !self.show(&vault.stored) {
             return Err(LiveFault::Memory {
                 stored: outcome.place(),
             });
@@ -277,7 +279,7 @@ impl<R: Rules, N: GroupRun<R::Rec>, H: Wait + Drop> Desk<R, N, H, Published<R, N
     }
 
     /// Counts an ask of a pass that failed on the disk.
-    pub fn count_failed(&mut self, pass: &mut Pass<R, N>)
+    pub(crate) fn count_failed(&mut self, pass: &mut Pass<R, N>)
         ensures counted { pass.new ≡ record pass.old { failed = pass.old.failed + 1 } }
         ensures same { self.new ≡ self.old }
     {
@@ -286,7 +288,7 @@ impl<R: Rules, N: GroupRun<R::Rec>, H: Wait + Drop> Desk<R, N, H, Published<R, N
 
     /// Counts an ask of a pass that failed on the disk after this was decided. A record that it was to store is no
     /// longer counted: it may be stored or not.
-    pub fn take_back(&mut self, pass: &mut Pass<R, N>, outcome: &Outcome<R::Reply>)
+    pub(crate) fn take_back(&mut self, pass: &mut Pass<R, N>, outcome: &Outcome<R::Reply>)
         requires { stored_by outcome.now ≤ pass.old.told }
         ensures counted { IsTakenBack outcome.now pass.old pass.new }
         ensures same { self.new ≡ self.old }
@@ -297,12 +299,14 @@ impl<R: Rules, N: GroupRun<R::Rec>, H: Wait + Drop> Desk<R, N, H, Published<R, N
         }
     }
 
-    /// Gives the node back, over a journal that holds all that was decided. These are all its passes.
-    pub(crate) fn close<D: Disk>(self, journal: Journal<D>, passes: Vec<Pass<R, N>>) -> Closed<R, D>
+    /// Ends the run. These are all its passes. Returns the state of all that was decided, and how many records
+    /// that are after the opening.
+    pub(crate) fn count_up(self, passes: Vec<Pass<R, N>>) -> (R::State, u64)
         requires passes { vec_len passes ≡ N.passes }
-        requires limit { journal.limit ≡ N.limits.records }
-        requires holds { Holds D.Reports journal (all_bodies ⟦<R as Rules>⟧ N.opening self.log) }
-        ensures { IsClosed ⟦<R as Rules>⟧ D.Reports N.limits N.opening passes.items result.node result.asked }
+        ensures ahead { IsAhead ⟦<R as Rules>⟧ N.limits N.opening result.0 self.log
+            (told_count passes.items) (failed_count passes.items) }
+        ensures seen { EachHasSeenPrefix self.log passes.items }
+        ensures count { result.1 ≡ length self.log }
     {
         let Self {
             state,
@@ -331,9 +335,20 @@ impl<R: Rules, N: GroupRun<R::Rec>, H: Wait + Drop> Desk<R, N, H, Published<R, N
         told.audit(&mut told_count);
         failed.audit(&mut failed_count);
         writer.take();
+        (state, known.count())
+    }
+
+    /// Gives the node back, over a journal that holds all that was decided. These are all its passes.
+    pub(crate) fn close<D: Disk>(self, journal: Journal<D>, passes: Vec<Pass<R, N>>) -> Closed<R, D>
+        requires passes { vec_len passes ≡ N.passes }
+        requires limit { journal.limit ≡ N.limits.records }
+        requires holds { Holds D.Reports journal (all_bodies ⟦<R as Rules>⟧ N.opening self.log) }
+        ensures { IsClosed ⟦<R as Rules>⟧ D.Reports N.limits N.opening passes.items result.node result.asked }
+    {
+        let (state, asked) = self.count_up(passes);
         Closed {
             node: Node::from_parts(state, journal),
-            asked: known.count(),
+            asked,
         }
     }
 }

@@ -1,13 +1,15 @@
-ghost use Rattle.std.specs.Prelude.{◌≡◌, length, vec_len, [], None, IfOk, IfErr, OnOk};
+ghost use Rattle.std.specs.Prelude.{◌≡◌, ◌+◌, ◌<◌, ◌≤◌, length, vec_len, None, Err, IfOk, IfErr, OnErr};
 ghost use mathlib.Core.List.{IsPrefix};
 ghost use Rattle.pv_node.specs.Standing.{StandsFor};
+ghost use Rattle.pv_group.specs.declared.outcome.NotDecided.TheVariants.{NoRoom};
 ghost use Rattle.pv_live.specs.Opening.{IsPassCount};
 ghost use Rattle.pv_live.specs.Pass.{new_passes, told_count, failed_count};
-ghost use Rattle.pv_live.specs.Asking.{HasAsked, HasFailed};
+ghost use Rattle.pv_group.specs.Answers.{IsOutcome, AnswersAsk, AskEnds, stored_by};
 ghost use Rattle.pv_live.specs.Closing.{IsClosed};
+ghost use Rattle.pv_group.specs.Closing.{IsDiskLeft};
 
 use crate::desk::Desk;
-use crate::outcome::{Decided, NotDecided, Outcome};
+use crate::outcome::{Decided, LeftDisk, NotDecided, Outcome};
 use crate::run::{GroupRun, TakenLedger};
 use crate::vault::Vault;
 use left_right::Absorb;
@@ -122,6 +124,44 @@ impl<R: Rules, D: Disk, N: GroupRun<R::Rec>, H: Wait + Drop> LiveNode<
     Published<R, N>,
     Change<R, N>,
 > {
+    /// Decides on a request of a pass, ahead of the disk. What it stores is counted as stored, and waits to be
+    /// stored with what else waits, by the next ask that stores anything or by the closing.
+    pub fn decide<W: Wait>(
+        &self,
+        rt: &W,
+        pass: &mut Pass<R, N>,
+        request: &R::Request,
+    ) -> Result<Decided<R, N>, NotDecided>
+        requires valid { R.is_request request.now }
+
+        // It is what the rules decide at all that was decided before, which is no less than the pass has seen.
+        ensures decided { IfOk result (λ d. IsOutcome ⟦<R as Rules>⟧ N.limits N.opening request.now pass.old
+            (record pass.new { seen = d.upto }) d.outcome) }
+        ensures seen { IfOk result (λ d. IsPrefix pass.old.seen d.upto) }
+        ensures within { IfOk result (λ d. length N.opening + length d.upto ≤ N.limits.records) }
+        ensures same { pass.new ≡ record pass.old { told = pass.new.told } }
+        ensures refused { OnErr result (pass.new ≡ pass.old) }
+
+        // If the batch has no room, there is room for a record more.
+        ensures no_room { result ≡ Err NoRoom → length N.opening + length pass.old.seen < N.limits.records }
+    {
+        self.desk.lock(rt).decide(pass, request)
+    }
+
+    /// Gives a pass what was decided for it, once all that it stands on is stored: the first who stores takes with
+    /// him what all others have decided. If a call of the disk failed, a record of it may be stored or not.
+    pub fn give<W: Wait>(
+        &self,
+        rt: &W,
+        pass: &mut Pass<R, N>,
+        decided: Decided<R, N>,
+    ) -> Result<Told<R::Reply>, LiveFault<D>>
+        requires counted { stored_by decided.outcome ≤ pass.old.told }
+        ensures answered { AnswersAsk decided.outcome decided.upto pass.old pass.new result }
+    {
+        self.vault.lock(rt).give(rt, &self.desk, pass, decided)
+    }
+
     /// Answers a request of a pass of this node. It is decided at once, and answered when all is stored that it
     /// stands on: the first who stores takes with him what all others have decided. On success the pass
     /// has seen all records that the reply stands on.
@@ -134,22 +174,10 @@ impl<R: Rules, D: Disk, N: GroupRun<R::Rec>, H: Wait + Drop> LiveNode<
         requires valid { R.is_request request.now }
 
         // The reply is what is decided at the records that the pass has seen, or, if one was stored, before the last.
-        ensures told { IfOk result (λ told. HasAsked ⟦<R as Rules>⟧ N.limits N.opening request.now
-            pass.old pass.new told) }
-        ensures seen { IsPrefix pass.old.seen pass.new.seen }
-        ensures same { pass.new ≡ record pass.old {
-          seen = pass.new.seen;
-          told = pass.new.told;
-          failed = pass.new.failed;
-        } }
-        ensures not_failed { OnOk result (pass.new.failed ≡ pass.old.failed) }
-
         // Each fault has its cause.
-        ensures failed { IfErr result (λ fault. HasFailed ⟦<R as Rules>⟧ N.limits N.opening request.now
-            pass.old pass.new fault) }
+        ensures { AskEnds ⟦<R as Rules>⟧ N.limits N.opening request.now pass.old pass.new result }
     {
-        let first = self.desk.lock(rt).decide(pass, request);
-        match first {
+        match self.decide(rt, pass, request) {
             Ok(decided) if decided.upto.length() == pass.length() => {
                 // All that it stands on was shown to the pass, so it is stored.
                 let Decided { upto: _, outcome } = decided;
@@ -158,7 +186,7 @@ impl<R: Rules, D: Disk, N: GroupRun<R::Rec>, H: Wait + Drop> LiveNode<
                     Outcome::Full { count } => Err(LiveFault::Full { count }),
                 }
             }
-            Ok(decided) => self.vault.lock(rt).give(rt, &self.desk, pass, decided),
+            Ok(decided) => self.give(rt, pass, decided),
             Err(NotDecided::Memory) => Err(LiveFault::Memory { stored: None }),
             Err(NotDecided::NoRoom) => self.vault.lock(rt).ask(rt, &self.desk, pass, request),
         }
@@ -166,16 +194,18 @@ impl<R: Rules, D: Disk, N: GroupRun<R::Rec>, H: Wait + Drop> LiveNode<
 
     /// Gives the node back, once all that was decided is stored. These are all its passes. If a call of the disk
     /// failed, the disk is given back with the failure.
-    pub fn close(self, passes: Vec<Pass<R, N>>) -> Result<Closed<R, D>, (D::Failure, D)>
+    pub fn close(self, passes: Vec<Pass<R, N>>) -> Result<Closed<R, D>, LeftDisk<D>>
         requires { vec_len passes ≡ N.passes }
-        ensures { IfOk result (λ closed. IsClosed ⟦<R as Rules>⟧ D.Reports N.limits N.opening passes.items
-            closed.node closed.asked) }
+        ensures closed { IfOk result (λ closed. IsClosed ⟦<R as Rules>⟧ D.Reports N.limits N.opening
+            passes.items closed.node closed.asked) }
+        ensures left { IfErr result (λ left. IsDiskLeft ⟦<R as Rules>⟧ D.Reports N.limits N.opening
+            passes.items left.disk) }
     {
         let LiveNode { desk, vault } = self;
         let (mut desk, mut vault) = (desk.into_inner(), vault.into_inner());
         match vault.store_all(&mut desk) {
             Ok(()) => Ok(desk.close(vault.into_journal(), passes)),
-            Err(failure) => Err((failure, vault.into_journal().into_disk())),
+            Err(failure) => Err(vault.leave(desk, passes, failure)),
         }
     }
 }

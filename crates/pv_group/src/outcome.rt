@@ -3,6 +3,7 @@ ghost use Rattle.pv_group.specs.Answers.{place_of};
 
 use pv_live::{Known, Run};
 use pv_node::{Rules, Told};
+use pv_outside::Disk;
 
 /// What is decided on a request. It is given once all is stored that it stands on.
 #[derive(Drop)]
@@ -41,4 +42,13 @@ pub enum NotDecided {
     Memory,
     /// The batch has no room for the record: those that wait have to be taken to be stored first.
     NoRoom,
+}
+
+/// What is left of a node whose disk failed at the closing.
+#[derive(Drop)]
+pub struct LeftDisk<D: Disk> {
+    /// Why the call failed.
+    pub failure: D::Failure,
+    /// The disk. It holds what was stored, and may hold the group that was being stored.
+    pub disk: D,
 }

@@ -1,17 +1,16 @@
 //! What lies under the lock of those who store: the journal, and what was taken from the desk.
-ghost use Rattle.std.specs.Prelude.{◌≡◌, ◌⊎◌, ℕ, ◌+◌, ◌<◌, ◌≤◌, List, ◌++◌, ◌∷◌, [], length, IfOk, IfErr, OnOk, OnErr, IsErr};
+ghost use Rattle.std.specs.Prelude.{◌≡◌, ◌⊎◌, ℕ, ◌+◌, ◌<◌, ◌≤◌, List, ◌++◌, ◌∷◌, [], length, vec_len, IfOk, IfErr, OnOk, OnErr, IsErr};
 ghost use mathlib.Core.List.{IsPrefix};
-ghost use Rattle.pv_journal.specs.Journal.{Holds, LeavesOnly, Spends, HasMade};
+ghost use Rattle.pv_journal.specs.Journal.{Holds, Spends, HasMade};
 ghost use Rattle.pv_journal.specs.Log.{IsAtRest};
-ghost use Rattle.pv_journal.specs.Text.{SpellsEither};
 ghost use Rattle.pv_live.specs.declared.entry.Entry.{Entry};
 ghost use Rattle.pv_live.specs.Asking.{EndsInDiskFault};
-ghost use Rattle.pv_group.specs.Desk.{bodies_of};
-ghost use Rattle.pv_group.specs.Vault.{all_bodies};
+ghost use Rattle.pv_group.specs.Closing.{IsDiskLeft};
+ghost use Rattle.pv_group.specs.Vault.{all_bodies, LeavesGroups};
 ghost use Rattle.pv_group.specs.Answers.{IsOutcome, AnswersAsk, EndsBeforeDeciding, AskEnds, stored_by};
 
 use crate::desk::Desk;
-use crate::outcome::{Decided, NotDecided};
+use crate::outcome::{Decided, LeftDisk, NotDecided};
 use crate::run::{GroupRun, TakenLedger};
 use left_right::Absorb;
 use pv_journal::{AppendFault, Batch, Journal};
@@ -30,7 +29,7 @@ pub struct Vault<R: Rules, D: Disk, N: GroupRun<R::Rec>> {
     /// The bodies that were taken and are not known to be stored.
     batch: Batch,
     /// All records that are stored.
-    stored: Known<R::Rec, N>,
+    pub(crate) stored: Known<R::Rec, N>,
     /// All records that were taken to be stored.
     taken: Known<R::Rec, N>,
     share: Share<TakenLedger<R::Rec, N>>,
@@ -109,10 +108,7 @@ impl<R: Rules, D: Disk, N: GroupRun<R::Rec>> Vault<R, D, N> {
         ensures taken { self.new.taken ≡ self.old.taken }
 
         // A crash at any moment leaves what was stored, or that with the whole group.
-        ensures moments { (group : List (Entry R.Rec)) → self.old.taken ≡ self.old.stored ++ group
-            → LeavesOnly D.Reports self.old.journal.disk self.new.journal.disk
-            (SpellsEither (all_bodies ⟦<R as Rules>⟧ N.opening self.old.stored)
-            (bodies_of ⟦<R as Rules>⟧ group)) }
+        ensures moments { LeavesGroups ⟦<R as Rules>⟧ D.Reports N.opening self.old self.new }
         ensures spends { Spends D.Reports 4 (IsErr result)
             self.old.journal.disk self.new.journal.disk }
     {
@@ -133,10 +129,7 @@ impl<R: Rules, D: Disk, N: GroupRun<R::Rec>> Vault<R, D, N> {
         ensures at_rest { OnOk result (IsAtRest self.new.journal) }
         ensures stored { (self.new.stored ≡ self.old.stored) ⊎ (self.new.stored ≡ self.old.taken) }
         ensures taken { self.new.taken ≡ self.old.taken }
-        ensures moments { (group : List (Entry R.Rec)) → self.old.taken ≡ self.old.stored ++ group
-            → LeavesOnly D.Reports self.old.journal.disk self.new.journal.disk
-            (SpellsEither (all_bodies ⟦<R as Rules>⟧ N.opening self.old.stored)
-            (bodies_of ⟦<R as Rules>⟧ group)) }
+        ensures moments { LeavesGroups ⟦<R as Rules>⟧ D.Reports N.opening self.old self.new }
         ensures spends { Spends D.Reports 2 (IsErr result)
             self.old.journal.disk self.new.journal.disk }
     {
@@ -154,11 +147,14 @@ impl<R: Rules, D: Disk, N: GroupRun<R::Rec>> Vault<R, D, N> {
 
     /// Stores all that was taken. What an earlier call had in hand is settled first, and appended again if it is
     /// not stored.
-    pub(crate) fn store(&mut self) -> Result<(), D::Failure>
+    pub fn store(&mut self) -> Result<(), D::Failure>
         ensures all { OnOk result (self.new.stored ≡ self.old.taken) }
         ensures at_rest { OnOk result (IsAtRest self.new.journal) }
         ensures stored { (self.new.stored ≡ self.old.stored) ⊎ (self.new.stored ≡ self.old.taken) }
         ensures taken { self.new.taken ≡ self.old.taken }
+
+        // A crash at any moment of it leaves each group whole, or nothing of it.
+        ensures moments { LeavesGroups ⟦<R as Rules>⟧ D.Reports N.opening self.old self.new }
         ensures spends { Spends D.Reports 6 (IsErr result)
             self.old.journal.disk self.new.journal.disk }
     {
@@ -184,6 +180,7 @@ impl<R: Rules, D: Disk, N: GroupRun<R::Rec>> Vault<R, D, N> {
         upto: &Known<R::Rec, N>,
     ) -> Result<(), D::Failure>
         ensures stored { OnOk result (IsPrefix upto.now self.new.stored) }
+        ensures moments { LeavesGroups ⟦<R as Rules>⟧ D.Reports N.opening self.old self.new }
         ensures spends { Spends D.Reports 12 (IsErr result)
             self.old.journal.disk self.new.journal.disk }
     {
@@ -212,11 +209,14 @@ impl<R: Rules, D: Disk, N: GroupRun<R::Rec>> Vault<R, D, N> {
         requires counted { stored_by decided.outcome ≤ pass.old.told }
         ensures answered { AnswersAsk decided.outcome decided.upto pass.old pass.new result }
         ensures stored { OnOk result (IsPrefix decided.upto self.new.stored) }
+
+        // A crash at any moment of it leaves each group whole, or nothing of it.
+        ensures moments { LeavesGroups ⟦<R as Rules>⟧ D.Reports N.opening self.old self.new }
         ensures spends { Spends D.Reports 12 (EndsInDiskFault result)
             self.old.journal.disk self.new.journal.disk }
     {
         match self.store_upto(rt, desk, &decided.upto) {
-            Ok(()) => desk.lock(rt).give(pass, decided, &self.stored),
+            Ok(()) => desk.lock(rt).give(pass, decided, self),
             Err(failure) => {
                 desk.lock(rt).take_back(pass, &decided.outcome);
                 Err(LiveFault::Disk(failure))
@@ -286,6 +286,8 @@ impl<R: Rules, D: Disk, N: GroupRun<R::Rec>> Vault<R, D, N> {
     >(&mut self, desk: &mut Desk<R, N, H, T, O>) -> Result<(), D::Failure>
         ensures all { OnOk result (self.new.stored ≡ desk.new.log) }
         ensures at_rest { OnOk result (IsAtRest self.new.journal) }
+        ensures spends { Spends D.Reports 12 (IsErr result)
+            self.old.journal.disk self.new.journal.disk }
     {
         self.store()?;
         let stored = self.stored.copy();
@@ -301,5 +303,32 @@ impl<R: Rules, D: Disk, N: GroupRun<R::Rec>> Vault<R, D, N> {
             → Holds D.Reports result (all_bodies ⟦<R as Rules>⟧ N.opening self.stored) }
     {
         self.journal
+    }
+
+    /// Gives the disk back, of which a call failed with this. These are all passes of the node, and its desk.
+    pub(crate) fn leave<H: Wait + Drop>(
+        self,
+        desk: Desk<R, N, H, Published<R, N>, Change<R, N>>,
+        passes: Vec<Pass<R, N>>,
+        failure: D::Failure,
+    ) -> LeftDisk<D>
+        requires passes { vec_len passes ≡ N.passes }
+        requires failed { 0 < D.faults self.journal.disk }
+        ensures { IsDiskLeft ⟦<R as Rules>⟧ D.Reports N.limits N.opening passes.items result.disk }
+    {
+        let Vault {
+            journal,
+            batch: _,
+            stored: _,
+            mut taken,
+            share: _,
+        } = self;
+        let mut desk = desk;
+        taken.catch_up(&mut desk.appender, &desk.known);
+        desk.count_up(passes);
+        LeftDisk {
+            failure,
+            disk: journal.into_disk(),
+        }
     }
 }

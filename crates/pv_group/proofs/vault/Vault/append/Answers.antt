@@ -3,6 +3,7 @@ use Rattle.pv_journal.specs.Journal.{Holds, HoldsInHand, LeavesOnly}
 use Rattle.pv_journal.specs.Text.{SpellsEither}
 use Rattle.pv_journal.proofs.CallerLemmas.{spends_most}
 use Rattle.pv_group.specs.Vault.{all_bodies}
+use Rattle.pv_group.proofs.Moments.{leaves}
 use Rattle.pv_group.proofs.Shelves.{shelf_stored, shelf_kept, at_rest_holds, first_packed, some_entries, of_batch, never_full, bodies_count}
 use Rattle.pv_group.proofs.vault.Vault.append.Goals as goal
 
@@ -58,18 +59,20 @@ unreachable-requires g c =
     )
 
 pub returns-in-Ok-clause-moments : goal.returns-in-Ok-clause-moments
-returns-in-Ok-clause-moments g c group is =
+returns-in-Ok-clause-moments g c =
     rw (← c.self.view_is)
+    (leaves g.R.Rules g.D.Reports g.N.Run.opening g.N.Run.limits _ c.self.invariant.0 c.append_all.new.self.disk c.self.inside.taken
     (of_batch g.R.Rules g.D.Reports g.N.Run.opening g.N.Run.limits _ c.self.invariant.0 (rw (← c.self.view_is) at c.requires.some)
     (λ bodies hand. LeavesOnly g.D.Reports c.self.inside.journal.disk c.append_all.new.self.disk (SpellsEither bodies hand))
-    c.append_all.ensures.moments (rw (← c.self.view_is) at c.requires.at_rest) group (rw (← c.self.view_is) at is))
+    c.append_all.ensures.moments (rw (← c.self.view_is) at c.requires.at_rest)))
 
 pub returns-in-Err-Disk-clause-moments : goal.returns-in-Err-Disk-clause-moments
-returns-in-Err-Disk-clause-moments g c group is =
+returns-in-Err-Disk-clause-moments g c =
     rw (← c.self.view_is)
+    (leaves g.R.Rules g.D.Reports g.N.Run.opening g.N.Run.limits _ c.self.invariant.0 c.append_all.new.self.disk c.self.inside.taken
     (of_batch g.R.Rules g.D.Reports g.N.Run.opening g.N.Run.limits _ c.self.invariant.0 (rw (← c.self.view_is) at c.requires.some)
     (λ bodies hand. LeavesOnly g.D.Reports c.self.inside.journal.disk c.append_all.new.self.disk (SpellsEither bodies hand))
-    c.append_all.ensures.moments (rw (← c.self.view_is) at c.requires.at_rest) group (rw (← c.self.view_is) at is))
+    c.append_all.ensures.moments (rw (← c.self.view_is) at c.requires.at_rest)))
 
 pub returns-in-Ok-clause-spends : goal.returns-in-Ok-clause-spends
 returns-in-Ok-clause-spends g c =

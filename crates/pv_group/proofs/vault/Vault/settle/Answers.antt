@@ -2,6 +2,7 @@ use Rattle.std.proofs.Common.{Ok, Some, inl, ap, ◌∙◌}
 use Rattle.pv_journal.specs.Journal.{LeavesOnly}
 use Rattle.pv_journal.specs.Text.{SpellsEither}
 use Rattle.pv_group.proofs.Shelves.{shelf_stored, shelf_kept, group_stored, group_dropped, of_hand}
+use Rattle.pv_group.proofs.Moments.{leaves, leaves_none}
 use Rattle.pv_group.proofs.vault.Vault.settle.Goals as goal
 
 pub invariant_of-self-in-Ok-Some-true : goal.invariant_of-self-in-Ok-Some-true
@@ -30,25 +31,36 @@ invariant_of-self-in-Ok-Some-false g c =
     )
 
 pub returns-in-Err-clause-moments : goal.returns-in-Err-clause-moments
-returns-in-Err-clause-moments g c group is =
+returns-in-Err-clause-moments g c =
     let e = c.in-Err.ensures in
     rw (← c.self.view_is)
+    (leaves g.R.Rules g.D.Reports g.N.Run.opening g.N.Run.limits _ c.self.invariant.0 c.settle.new.self.disk c.self.inside.taken
     (of_hand g.R.Rules g.D.Reports g.N.Run.opening g.N.Run.limits _ c.self.invariant.0
     (λ bodies hand. LeavesOnly g.D.Reports c.self.inside.journal.disk c.settle.new.self.disk (SpellsEither bodies hand))
-    e.moments (λ none. cc (e.none.1 none)) group (rw (← c.self.view_is) at is))
+    e.moments (λ none. cc (e.none.1 none))))
 
 pub returns-in-Ok-Some-true-clause-moments : goal.returns-in-Ok-Some-true-clause-moments
-returns-in-Ok-Some-true-clause-moments g c group is =
+returns-in-Ok-Some-true-clause-moments g c =
     let e = c.in-Ok-Some-true.ensures in
     rw (← c.self.view_is)
+    (leaves g.R.Rules g.D.Reports g.N.Run.opening g.N.Run.limits _ c.self.invariant.0 c.settle.new.self.disk c.self.inside.taken
     (of_hand g.R.Rules g.D.Reports g.N.Run.opening g.N.Run.limits _ c.self.invariant.0
     (λ bodies hand. LeavesOnly g.D.Reports c.self.inside.journal.disk c.settle.new.self.disk (SpellsEither bodies hand))
-    e.moments (λ none. cc (e.none.1 none, c.in-Ok-Some-true.field-0-is)) group (rw (← c.self.view_is) at is))
+    e.moments (λ none. cc (e.none.1 none, c.in-Ok-Some-true.field-0-is))))
 
 pub returns-in-Ok-Some-false-clause-moments : goal.returns-in-Ok-Some-false-clause-moments
-returns-in-Ok-Some-false-clause-moments g c group is =
+returns-in-Ok-Some-false-clause-moments g c =
     let e = c.in-Ok-Some-false.ensures in
     rw (← c.self.view_is)
+    (leaves g.R.Rules g.D.Reports g.N.Run.opening g.N.Run.limits _ c.self.invariant.0 c.settle.new.self.disk c.self.inside.taken
     (of_hand g.R.Rules g.D.Reports g.N.Run.opening g.N.Run.limits _ c.self.invariant.0
     (λ bodies hand. LeavesOnly g.D.Reports c.self.inside.journal.disk c.settle.new.self.disk (SpellsEither bodies hand))
-    e.moments (λ none. cc (e.none.1 none, c.in-Ok-Some-false.field-0-is)) group (rw (← c.self.view_is) at is))
+    e.moments (λ none. cc (e.none.1 none, c.in-Ok-Some-false.field-0-is))))
+
+pub returns-in-Ok-None-clause-moments : goal.returns-in-Ok-None-clause-moments
+returns-in-Ok-None-clause-moments g c =
+    let e = c.in-Ok-None.ensures in
+    rw (← c.self.view_is)
+    (rw (e.unchanged (e.none.0 (ap Ok c.in-Ok-None.field-0-is)))
+    (leaves_none g.R.Rules g.D.Reports g.N.Run.opening g.met.D.Disk.only_now g.met.D.Disk.now_is_known g.N.Run.limits _
+    c.self.invariant.0))
