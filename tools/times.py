@@ -56,15 +56,15 @@ def kind_of(words):
 
 
 def stat_of(process):
-    """The process that began this one, and the processor seconds that it has used, which its words stand for."""
+    """The process that began this one, and the processor seconds that it and those that it has waited for have used."""
     # (the name of the command, in brackets, may have spaces)
     fields = (process / "stat").read_text().rpartition(")")[2].split()
-    return int(fields[1]), (int(fields[11]) + int(fields[12])) / TICKS
+    return int(fields[1]), sum(int(used) for used in fields[11:15]) / TICKS
 
 
 def look(top, seen):
-    """Notes in seen, by process, what each check below the process top does and how many seconds it has used."""
-    parents, checks = {}, {}
+    """Notes in seen, by process, what each check below the process top does and how many seconds it has used, with those below it."""
+    parents, used, checks = {}, {}, {}
     for process in Path("/proc").iterdir():
         if not process.name.isdigit():
             continue
@@ -74,16 +74,24 @@ def look(top, seen):
         except OSError:
             # (it has ended)
             continue
-        parents[int(process.name)] = parent
+        number = int(process.name)
+        parents[number], used[number] = parent, seconds
         kind = kind_of(words) if len(words) > 1 else None
         if kind:
-            checks[int(process.name)] = kind, seconds
-    for number, check in checks.items():
-        above = number
+            checks[number] = kind
+    sums = defaultdict(float)
+    for number, seconds in used.items():
+        # the check that all of this is a part of: the last one on the way to the top
+        above, check = number, None
         while above in parents and above != top:
+            check = above if above in checks else check
             above = parents[above]
-        if above == top:
-            seen[number] = check
+        if above == top and check:
+            sums[check] += seconds
+    for number, seconds in sums.items():
+        # (what a process has used is nobody's between its end and the wait for it)
+        before = seen[number][1] if number in seen else 0
+        seen[number] = checks[number], max(before, seconds)
 
 
 def watch(top, seen, is_over):
