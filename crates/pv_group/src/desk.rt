@@ -147,6 +147,8 @@ fn take_in<R: Rules>(state: &mut R::State, rec: &R::Rec, place: u64) -> u64
     requires room { R.fits state.old rec.now }
     requires next { place ≡ R.count_of state.old }
     requires within { place < (R.limits_of state.old).records }
+
+    // What is judged next is judged after it.
     ensures state { state.new ≡ R.after state.old rec.now place }
     ensures next { result ≡ place + 1 }
 {
