@@ -141,6 +141,21 @@ fn publish_first<T: Absorb<O> + Drop, O: Drop, H: Wait + Drop>(
     writer.publish().is_ok()
 }
 
+/// Takes a record into the state that the next request is judged at, and returns the place of the next record.
+fn take_in<R: Rules>(state: &mut R::State, rec: &R::Rec, place: u64) -> u64
+    requires spelled { R.is_record rec.now }
+    requires room { R.fits state.old rec.now }
+    requires next { place ≡ R.count_of state.old }
+    requires within { place < (R.limits_of state.old).records }
+
+    // What is judged next is judged after it.
+    ensures state { state.new ≡ R.after state.old rec.now place }
+    ensures next { result ≡ place + 1 }
+{
+    R::absorb(state, rec, place);
+    place + 1
+}
+
 impl<R: Rules, N: GroupRun<R::Rec>, H: Wait + Drop> Desk<R, N, H, Published<R, N>, Change<R, N>> {
     /// Decides on a request of a pass, at all that was decided before. If it stores a record, that is staged, and
     /// counted as stored.
@@ -215,12 +230,12 @@ impl<R: Rules, N: GroupRun<R::Rec>, H: Wait + Drop> Desk<R, N, H, Published<R, N
             return Err(NotDecided::NoRoom);
         }
         let place = self.known.length();
-        R::absorb(&mut self.state, rec, place);
+        let next = take_in::<R>(&mut self.state, rec, place);
         let entry = Entry {
             rec: *rec,
             pass: pass.number(),
         };
-        self.known.append(&mut self.appender, &entry, place + 1);
+        self.known.append(&mut self.appender, &entry, next);
         self.changes
             .push_back_reserved(Change::new(entry, self.known.copy()));
         pass.count_told(&mut self.told);

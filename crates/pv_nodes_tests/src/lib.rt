@@ -2,6 +2,8 @@
 #![tactic(auto)]
 
 #[cfg(test)]
+mod group;
+#[cfg(test)]
 mod live;
 #[cfg(test)]
 mod node;

@@ -23,16 +23,16 @@ use std::test::Fail;
 use std::thread::{Threads, for_each_mut};
 
 /// Room for two frames and a thousand records.
-const LIMITS: Limits = Limits {
+pub(crate) const LIMITS: Limits = Limits {
     frames: 2,
     records: 1_000,
 };
 
-type Udc = Node<UdcRules, MemDisk>;
+pub(crate) type Udc = Node<UdcRules, MemDisk>;
 
 /// A fresh Update Centre, of whose disk the calls of these numbers fail. The first seven are those of the
 /// formatting and the opening.
-fn fresh(alloc: Global, fails: &[u64]) -> Result<Udc, Fail>
+pub(crate) fn fresh(alloc: Global, fails: &[u64]) -> Result<Udc, Fail>
     ensures stands { IfOk result
         (λ node. StandsFor ⟦<UdcRules as Rules>⟧ ⟦<MemDisk as Reports>⟧ node node.state.records) }
     ensures rest { IfOk result (λ node. node.hand ≡ None) }
@@ -51,7 +51,7 @@ fn name() -> Option<FrameName> {
 }
 
 /// The operator's edit of this number: a blank frame.
-fn edit(q: u32) -> Option<UdcRequest>
+pub(crate) fn edit(q: u32) -> Option<UdcRequest>
     ensures { IfSome result (λ request. IsRequest request) }
 {
     Some(UdcRequest::Edit {
@@ -65,7 +65,7 @@ fn edit(q: u32) -> Option<UdcRequest>
 }
 
 /// The item of this number of a centre.
-fn item(centre: u8, k: u64) -> Option<UdcRequest>
+pub(crate) fn item(centre: u8, k: u64) -> Option<UdcRequest>
     requires { IsCentre centre }
     ensures { IfSome result (λ request. IsRequest request) }
 {
@@ -85,7 +85,7 @@ fn item(centre: u8, k: u64) -> Option<UdcRequest>
 }
 
 /// How many asks for an edit failed, the first reply, and the place of the record that it stored.
-type Reply = (u64, UdcReply, Option<u64>);
+pub(crate) type Reply = (u64, UdcReply, Option<u64>);
 
 /// The first reply to an edit, of which a record may be stored at this place alone.
 fn first_reply<N: Run<Record>, H: Wait + Drop, R: Wait>(

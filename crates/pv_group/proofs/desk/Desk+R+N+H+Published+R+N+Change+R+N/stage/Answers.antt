@@ -8,14 +8,14 @@ use Rattle.pv_group.proofs.Aheads.{ahead_more, staged_more}
 use Rattle.pv_group.proofs.Boards.{adds_behind}
 use Rattle.pv_group.proofs.desk.Desk+R+N+H+Published+R+N+Change+R+N.stage.Goals as goal
 
-pub absorb-requires-clause-room : goal.absorb-requires-clause-room
-absorb-requires-clause-room g c =
+pub take_in-next-requires-clause-room : goal.take_in-next-requires-clause-room
+take_in-next-requires-clause-room g c =
     let made = rw (← ap (λ b. b.log) c.self.view_is) at c.requires.made in
     (made_fits g.R.Rules g.N.Run.limits g.N.Run.opening g.met.R.Rules.stored g.met.R.Rules.same_room c.self.inside.state
     (with_opening g.N.Run.opening c.self.inside.known) c.args.rec.now c.self.invariant.0.state_of made).1
 
-pub absorb-requires-clause-next : goal.absorb-requires-clause-next
-absorb-requires-clause-next g c =
+pub take_in-next-requires-clause-next : goal.take_in-next-requires-clause-next
+take_in-next-requires-clause-next g c =
     c.length-place.ensures
     ∙ sym (with_count g.N.Run.opening c.self.inside.known)
     ∙ sym (g.met.R.Rules.counted c.self.inside.state (with_opening g.N.Run.opening c.self.inside.known)
@@ -28,7 +28,7 @@ invariant_of-self-2 g c =
     let entry : Entry g.row.R-Rec.Denot = record { rec = c.args.rec.now; pass = c.number.result } in
     let place : c.length-place.result ≡ length (with_opening g.N.Run.opening c.self.inside.known) =
     c.length-place.ensures ∙ sym (with_count g.N.Run.opening c.self.inside.known) in (
-      rw (c.absorb.ensures, place, c.append.ensures.added, c.count_told.ensures.total)
+      rw (c.take_in-next.ensures.state, place, c.append.ensures.added, c.count_told.ensures.total)
           (ahead_more g.R.Rules g.N.Run.limits g.N.Run.opening g.met.R.Rules.stored g.met.R.Rules.same_room g.met.R.Rules.grows
           g.met.R.Rules.limits_stay c.self.inside.state c.self.inside.known entry c.self.inside.told.total c.self.inside.failed.total
           i.0 made),
