@@ -5,7 +5,7 @@
     tools/times.py NAME..     runs rt ci for these crates and those below them, and prints the rows alone
 
 What a run of this machine passed before is kept by rt and not proved again. So the document is written on a machine that has
-proved nothing of the repository yet, or after `rt ci --anew`; a crate that was not proved has no row.
+proved nothing of the repository yet, or after `rt ci --anew`. It is not written if some crate was not proved.
 
 rt says no times, so this looks every second which checks run, and how much processor time each has used: a check that ends
 between two looks loses less than a second. A check of an edit begins with what a check of the crate without it proved; that
@@ -29,10 +29,11 @@ PASSED = re.compile(r"^\d+ passed, 0 failed", re.M)
 HEAD = """# What a proof costs
 
 Processor seconds for each crate in a gate from nothing: its proof, the proof of its tests, and its must-fail edits with the
-check that they begin with. [tools/times.py](../tools/times.py) makes this page; the times are of {processors} processors that did
-nothing else. After a change, the crates above the changed one are proved again too: [tools/above.py](../tools/above.py) names them.
+check that they begin with. [tools/times.py](../tools/times.py) makes this page. After a change, the crates above the changed one are
+proved again too: [tools/above.py](../tools/above.py) names them.
 
-The gate took {minutes:.0f} minutes, and {spent:.0f} minutes of processor time.
+`rt ci` took {minutes:.0f} minutes on {processors} processors, and these checks {spent:.0f} minutes of processor time. [checks/run](../checks/run) comes
+after it in the gate.
 
 | crate | proof | tests | edits | sum |
 |---|---:|---:|---:|---:|
@@ -131,7 +132,7 @@ def main(names):
     rows = [row(name, seconds) for name in crates() if any((name, kind) in seconds for kind in KINDS)]
     if names:
         print("\n".join(rows))
-    elif status == 0 and PASSED.search(said):
+    elif status == 0 and PASSED.search(said) and all((name, "proof") in seconds or (name, "tests") in seconds for name in crates()):
         sums = [sum(used for (_, kind), used in seconds.items() if kind == it) for it in KINDS]
         rows.append("| all | " + " | ".join(f"{it:.0f}" for it in [*sums, sum(sums)]) + " |")
         head = HEAD.format(processors=len(os.sched_getaffinity(0)), minutes=(time.monotonic() - begun) / 60, spent=sum(sums) / 60)
