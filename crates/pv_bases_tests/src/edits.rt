@@ -181,7 +181,7 @@ fn each_prefix_is_no_record(rt: HostRuntime) -> Result<(), Fail> {
     Ok(())
 }
 
-/// Puts another byte at a place, if there is one.
+/// Puts another byte at a place. A place past the end is left alone.
 fn change(bytes: &mut [u8], at: usize, byte: u8) {
     if let Some(changed) = bytes.get_mut(at) {
         *changed = byte;

@@ -51,11 +51,11 @@ module _ {S State Request Rec Reply D : Type 0} (r : rules.Ghosts S State Reques
   rests old new lacked_at NoRoom (inr some) none = some.1.why.0
   rests old new lacked_at (DiskFault failure) ends none = absurd cc
 
--- what holds if there is one holds of this one
+-- what holds of whatever is there holds of this one
 pub at_some : {X : Type 0} (there : Option X) (x : X) → there ≡ Some x → (P : X → Type 0) → IfSome there P → P x
 at_some {X} there x is P holds = subst (λ (o : Option X). IfSome o P) is holds
 
--- what is so if there is one, and what follows from it
+-- what follows if anything is there
 pub if_some_later : {X : Type 0} (there : Option X) (P Q : Type 0) → (P → Q) → IfSome there (λ x. P) → IfSome there (λ x. Q)
 if_some_later None P Q later is = tt
 if_some_later (Some x) P Q later is = later is

@@ -210,7 +210,7 @@ doors_append calls [] olds' (new ∷ news) news' reports reports' each more = ab
 doors_append calls (old ∷ olds) olds' [] news' reports reports' each more = absurd each
 doors_append calls (old ∷ olds) olds' (new ∷ news) news' [] reports' each more = absurd each
 
--- if no port has met a fault, each door has given back as many lines as it was to
+-- if no port has met a fault, each door has given back as many connections as it was to
 pub all_finished : {L D F : Type 0} (calls : ℕ) (olds news : List (DoorReport L)) (reports : List (PortReport D F))
     → ServesEachDoor calls olds news reports → All (λ (r : PortReport D F). r.fault ≡ None) reports
     → GiveBackMore calls olds news

@@ -98,7 +98,7 @@ module _ {S State Request Reply D : Type 0} (r : rules.Ghosts S State Request Ce
         applied_grows opening carrier.centre.seen closed.log seen.1.0,
       )
 
--- the pass of the Update Centre that a carrier has, if there is one
+-- the pass of the Update Centre that a carrier has, as a list: no carrier, no pass
 abbrev pub udc_pass : Option CarrierState → List (Standing Record)
 udc_pass carrier = option_to_list (option_map (λ c. c.udc) carrier)
 

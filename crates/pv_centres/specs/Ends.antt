@@ -9,7 +9,7 @@ use Rattle.pv_service.specs.declared.port_report.PortFault.TheVariants as ports
 use Rattle.pv_service.specs.declared.port_report.PortReport.{PortReport}
 use Rattle.pv_centres.specs.declared.ends.Ends.{Ends}
 
--- the earlier failure, if there is one
+-- the first of two failures, of which either may not have happened
 abbrev pub first_failure : {F : Type 0} → Option F → Option F → Option F
 first_failure (Some earlier) later = Some earlier
 first_failure None later = later

@@ -30,8 +30,8 @@ use Rattle.pv_centres.specs.Parts.{PerCentre, all_rows, row_lengths}
 abbrev pub IsNewPass : {Rec : Type 0} → Standing Rec → Type 0
 IsNewPass pass = pass ≡ new_pass pass.number
 
--- A row of stands, each of which is to serve this many lines: there are `count` of them, their passes are new, and the counts of their
--- doors are not at their end.
+-- A row of stands, each of which is to serve this many connections: there are `count` of them, their passes are new, and the counts of
+-- their doors are not at their end.
 module _ {T Rec O : Type 0} (accepted : O → ℕ) (pass_of : T → Standing Rec) (door_of : T → O) (calls_of : T → ℕ) where
   pub record IsFreshRow (count calls : ℕ) (stands : List T) : Type 0 where
     pub counted : length stands ≡ count
@@ -73,13 +73,13 @@ module _ {Rec L R : Type 0} (HasServed : Standing Rec → L → Standing Rec →
       pub ports : EachServes old passes new reports
       pub closed : IsClosedWith r d limits opening brought Quiet passes node
 
--- a centre was served from its opening to its closing, each line of its doors by a call
+-- a centre was served from its opening to its closing, each connection of its doors by a call
 module _ {S L D F : Type 0} (r : rules.Ghosts S CentreState IrcRequest CentreRecord IrcReply) (d : reports.Ghosts D) (limits : Limits)
     (opening : List CentreRecord) (shown : Option ℕ) (report_of : L → LineState) (calls : ℕ) (Quiet : Type 0) where
   abbrev pub CentreServed : List (DoorReport L) → List (DoorReport L) → List (PortReport D F) → Parts D CentreState CentreRecord → Type 0
   CentreServed = NodeServed (HasServedCalls r limits opening shown report_of calls) r d limits applied_of Quiet opening
 
--- so was the Update Centre, each line by a session
+-- so was the Update Centre, each connection by a session
 module _ {S L D F : Type 0} (r : rules.Ghosts S EditList UdcRequest Record UdcReply) (d : reports.Ghosts D) (limits : Limits)
     (opening : List Record) (report_of : L → LineState) (calls : ℕ) (Quiet : Type 0) where
   abbrev pub UpdateServed : List (DoorReport L) → List (DoorReport L) → List (PortReport D F) → Parts D EditList Record → Type 0
@@ -95,8 +95,8 @@ pub record ServedRows {L R : Type 0} (counts : PerCentre ℕ) (old new : List L)
   pub new_rows : new ≡ all_rows news
   pub met_rows : reports ≡ all_rows met
 
--- What is known of a door from its counts: `count` lines were let in and given back, as many as the port was to serve unless there was a
--- fault; and if that was the door's, its count of failed accepts rose.
+-- What is known of a door from its counts: `count` connections were let in and given back, as many as the port was to serve unless there
+-- was a fault; and if that was the door's, its count of failed accepts rose.
 pub record DoorServed {L D F : Type 0} (calls : ℕ) (old new : DoorReport L) (report : PortReport D F) : Type 0 where
   pub count : ℕ
   pub accepted : new.accepted ≡ old.accepted + count
@@ -119,6 +119,6 @@ pub record SomeDoorRose {L : Type 0} (old new : List (DoorReport L)) : Type 0 wh
   pub within : place < length old
   pub rose : (door : DoorReport L) → Rose (slice_index_or old place door).faults (slice_index_or new place door).faults
 
--- each of these doors has given back this many lines more
+-- each of these doors has given back this many connections more
 abbrev pub GiveBackMore : {L : Type 0} → ℕ → List (DoorReport L) → List (DoorReport L) → Type 0
 GiveBackMore calls old new = map (λ door. door.finished) new ≡ map (λ door. door.finished + calls) old

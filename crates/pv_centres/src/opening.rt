@@ -49,7 +49,7 @@ impl<R: Rules, D: Disk + Drop> Place<R, D> {
         Place { disk, opened: None }
     }
 
-    /// Opens the node over the disk, if there is one.
+    /// Opens the node over the disk. An empty place stays empty.
     fn open(&mut self, alloc: Global, node: u8, limits: Limits) -> Result<(), NotOpened<D>>
         requires { self.old.opened ≡ None }
         ensures opened { OnOk result ((self.new.disk ≡ None)
@@ -82,7 +82,7 @@ impl<R: Rules, D: Disk + Drop> Place<R, D> {
         }
     }
 
-    /// Hands the disk back, if there is one.
+    /// Hands the disk back. An empty place has none.
     fn give_back(self, disks: &mut Vec<D>)
         requires { vec_len disks.old + count_of (disk_at (λ o. o.node.journal.disk) self.disk self.opened)
             ≤ vec_capacity disks.old }
@@ -107,7 +107,7 @@ fn disk_of<R: Rules, D: Disk + Drop>(disk: Option<D>, opened: Option<Opened<R, D
     }
 }
 
-/// Appends a disk, if there is one.
+/// Appends a disk, or nothing.
 fn push_if_there<D: Drop>(disks: &mut Vec<D>, disk: Option<D>)
     requires { vec_len disks.old + count_of disk ≤ vec_capacity disks.old }
     ensures count { vec_len disks.new ≡ vec_len disks.old + count_of disk }

@@ -187,7 +187,7 @@ fn reading_with(alloc: Global, at: usize, byte: u8) -> Result<(Vec<u8>, Option<F
     reading_of(alloc, disk_of(alloc, &bytes, &[])?)
 }
 
-/// Puts another byte at a place, if there is one.
+/// Puts another byte at a place. A place past the end is left alone.
 fn change(bytes: &mut [u8], at: usize, byte: u8) {
     if let Some(changed) = bytes.get_mut(at) {
         *changed = byte;

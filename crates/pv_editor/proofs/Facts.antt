@@ -109,7 +109,7 @@ eight_fields = (refl, refl, refl)
 abbrev pub busy_seat : EditorSeat
 busy_seat = record { account = Some 0; working = Some (frame_for (record { page = 1; letter = 97 }) (with_many 8)) }
 
--- the same without a frame
+-- the operator, with no frame open
 abbrev pub idle_seat : EditorSeat
 idle_seat = record { account = Some 0; working = None }
 

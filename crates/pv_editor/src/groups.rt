@@ -83,7 +83,7 @@ fn numbers_of(text: &[u8]) -> Option<([u16; ACCOUNT_GROUPS], usize)>
     Some((numbers, count))
 }
 
-/// The text before the first comma, and the text after it, if there is one.
+/// The text before the first comma, and the text after it. `None`: it has no comma.
 fn first_part(text: &[u8]) -> (&[u8], Option<&[u8]>)
     ensures parts { comma_parts text.now
         ≡ result.0.now ∷ option_map_or (λ rest. comma_parts rest.now) result.1 [] }

@@ -209,7 +209,7 @@ impl EditorSeat {
         }
     }
 
-    /// Makes a change of the working frame, if there is one.
+    /// Makes a change of the working frame. Without one nothing changes.
     fn change_frame(&mut self, change: &FrameChange)
         ensures account { self.new.account ≡ self.old.account }
         ensures working { self.new.working ≡ option_map (changed_working change.now) self.old.working }

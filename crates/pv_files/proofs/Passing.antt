@@ -22,7 +22,7 @@ module _ (next : Option ErrorKind) (rest : List (Option ErrorKind)) (counts : is
       let later = passed_too k passed (omega (arith, le)) is over in
       (omega (arith, later.0), later.1)
 
-  -- the same, with the number of tries so far
+  -- one more is passed over, after as many tries
   pub one_passed : (k : ℕ) (passed : List (Option ErrorKind)) → k ≤ length passed → before ≡ Some (drop k passed ++ next ∷ rest)
       → is_passed_over end ≡ true → (k + 1 ≤ length passed) × (now ≡ Some (drop (k + 1) passed ++ next ∷ rest))
   one_passed k passed le is over =

@@ -27,7 +27,7 @@ module _ {S State Request Rec Reply D : Type 0} (r : rules.Ghosts S State Reques
   images journal stored group (inl holds) some image left = inl (holds.images some image left)
   images journal stored group (inr hand) some image left = either stored group image (hand.1.images some image left)
 
-  -- the same, of what a vault has taken, and of more that it may take
+  -- so has each image of a vault that has taken them, and may take more
   more : (limits : Limits) (shelf : Shelf D Rec) (is : IsShelf r d opening limits shelf) (last : List (Entry Rec)) (image : List ℕ)
       → SpellsLog r opening shelf.stored image ⊎ SpellsLog r opening (shelf.stored ++ is.group) image
       → SpellsLog r opening shelf.stored image ⊎ (SpellsLog r opening shelf.taken image ⊎ SpellsLog r opening last image)

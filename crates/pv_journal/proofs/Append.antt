@@ -34,7 +34,7 @@ both_writes : (gate : ℕ) (bytes text : List ℕ) → gate < length text
     → text_after_write gate (1 ∷ []) (text_after_write (gate + 1) bytes text) ≡ text_after_write gate (1 ∷ bytes) text
 both_writes gate bytes text within = search (rules, length-take-le, append_assoc, take-append-le, take-take, drop_at)
 
--- the same of a text that may not be reported
+-- so do they to a disk, if it reports its bytes
 pub both_written : (old : Option (List ℕ)) (gate : ℕ) (bytes : List ℕ) → IfSome old (HasClosedGate gate)
     → option_map (text_after_write gate (1 ∷ [])) (option_map (text_after_write (gate + 1) bytes) old)
     ≡ option_map (text_after_write gate (1 ∷ bytes)) old

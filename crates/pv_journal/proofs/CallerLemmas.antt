@@ -40,7 +40,7 @@ module _ {D : Type 0} (g : reports.Ghosts D) where
     failed = λ fails. let rose = b.failed fails in omega (arith, a.counted, rose);
   }
 
-  -- the same of calls that write nothing
+  -- calls that write nothing: a bound may be raised, and none at all keep the disk
   pub reads_most : {n most : ℕ} {F Fails : Type 0} {old new : D} → n ≤ most → (Fails → F) → ReadsOnly g n F old new
       → ReadsOnly g most Fails old new
   reads_most le fails a =

@@ -47,7 +47,7 @@ abbrev pub count_with_hand : Phase → ℕ → ℕ
 count_with_hand (InHand size bodies) count = count + bodies
 count_with_hand _ count = count
 
--- the same of a journal
+-- how many bodies a journal may have with those in hand
 abbrev pub most : {D : Type 0} → Log D → ℕ
 most log = count_with_hand log.phase log.count
 

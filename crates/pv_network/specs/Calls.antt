@@ -174,7 +174,7 @@ abbrev pub away_answer : ℕ → Step → Outcome
 away_answer count (steps.Ended why screen) = outcomes.StoreFull count screen
 away_answer count _ = outcomes.Nothing
 
--- a wish is stored, unless it is refused: then the caller is turned away
+-- a wish is stored, unless it is refused: then the call ends
 abbrev pub storing_unless : Bool → Holdings → Calls → ℕ → Call → Wish → Calls × Outcome
 storing_unless true holdings calls port call wish =
     (with_call calls port None, away_answer holdings.count (full_turn call.seat call.seat.phase).1)

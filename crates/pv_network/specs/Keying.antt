@@ -58,7 +58,7 @@ is_over _ = false
 
 -- ---- all keys
 
--- the keys in turn, and the screens that they show; after the end of the call no key is read
+-- the keys one after another, and the screens that they show; after the end of the call no key is read
 abbrev pub keys_from : World → ℕ → ℕ → List KeyedByte → World × List Turn
 keys_from w c port [] = (w, [])
 keys_from w c port (key ∷ keys) =

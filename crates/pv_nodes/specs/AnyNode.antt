@@ -10,7 +10,7 @@ use Rattle.pv_nodes.specs.declared.centre.AnyNode.TheVariants.{Zero, One, Two, T
 abbrev pub on_disk : {State Rec : Type 0} → Parts Medium State Rec → OnDisk State
 on_disk node = record { state = node.state; disk = node.journal.disk }
 
--- the same of a node of any number
+-- what a centre of any number knows, and its disk
 abbrev pub seen_of : AnyNode → OnDisk CentreState
 seen_of (Zero node) = on_disk node
 seen_of (One node) = on_disk node

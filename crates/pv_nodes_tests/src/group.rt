@@ -24,7 +24,7 @@ type Reply = Option<(UdcReply, Option<u64>)>;
 /// The replies to as many asks.
 type Replies = [Reply; 8];
 
-/// The request of this turn: edits and items in turn, and each fourth time the first edit again.
+/// The request of this turn: edits and items by turns, and each fourth time the first edit again.
 fn request_of(turn: u32) -> Option<UdcRequest>
     ensures { IfSome result (λ request. IsRequest request) }
 {
@@ -51,7 +51,7 @@ fn ask<N: GroupRun<Record>, H: Wait + Drop, R: Wait>(
     Some((told.reply, told.number))
 }
 
-/// The same of a node that stores one record at a time.
+/// The reply to an ask of the pass at this place, of a node that stores one record at a time.
 fn ask_single<N: Run<Record>, H: Wait + Drop, R: Wait>(
     rt: &R,
     live: &pv_live::Live<UdcRules, MemDisk, N, H>,
@@ -66,7 +66,7 @@ fn ask_single<N: Run<Record>, H: Wait + Drop, R: Wait>(
     Some((told.reply, told.number))
 }
 
-/// The replies to three passes that ask in turn.
+/// The replies to three passes that ask one after another.
 fn in_turn<N: GroupRun<Record>, R: Wait>(
     rt: &R,
     alloc: Global,
@@ -92,7 +92,7 @@ fn in_turn<N: GroupRun<Record>, R: Wait>(
     Ok(replies)
 }
 
-/// The same of a node that stores one record at a time.
+/// The replies to three passes that ask one after another, of a node that stores one record at a time.
 fn in_turn_single<N: Run<Record>, R: Wait>(
     rt: &R,
     alloc: Global,

@@ -469,9 +469,9 @@ fn a_log_on_is_stored_first(rt: HostRuntime) -> Result<(), Fail> {
     Ok(())
 }
 
-/// What a caller is sent at each byte if he keys all of them in turn, from 0 on, at a centre with the frames 0a and 2a.
-/// At `#` he is shown 0a. `*0` waits for a key, and 1 is none that can come after it. Then 2 is a route of 0a, and no
-/// other digit is one of 2a. `_` is `#`, and there is no frame 2b. All other bytes are no keys.
+/// What a caller is sent at each byte if he keys all of them one after another, from 0 on, at a centre with the frames
+/// 0a and 2a. At `#` he is shown 0a. `*0` waits for a key, and 1 is none that can come after it. Then 2 is a route of
+/// 0a, and no other digit is one of 2a. `_` is `#`, and there is no frame 2b. All other bytes are no keys.
 fn sent_in_turn(byte: u8) -> Sent {
     match byte {
         b'#' => Page(b"0a"),

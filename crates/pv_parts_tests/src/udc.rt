@@ -128,7 +128,7 @@ fn whole(reply: Said) -> UdcReply {
 /// An editor, a number, what he asks and the reply.
 type Turn = (u64, u32, Ask, Said);
 
-/// The index of the first turn that has another reply.
+/// The index of the first ask that has another reply.
 fn first_wrong(state: &mut UdcState, turns: &[Turn]) -> Result<Option<usize>, Fail> {
     for (i, (editor, q, asked, reply)) in turns.iter().enumerate() {
         if edit(state, *editor, *q, *asked)? != whole(*reply) {
@@ -443,7 +443,7 @@ fn a_reply_is_for_whoever_has_the_page_now(rt: HostRuntime) -> Result<(), Fail> 
     Ok(())
 }
 
-/// Charge lines of two accounts in turn, and a reply among them.
+/// Charge lines of one account and of the other by turns, and a reply among them.
 const CHARGES: [Arrival; 6] = [
     (0, 0, Sent::Charge, UdcReply::Stored(0)),
     (0, 1, Sent::Reply(b"12a"), UdcReply::Stored(1)),

@@ -101,7 +101,7 @@ item_brought C opening (UpHeard centre count) before at after early late is = tt
 -- ---- a link
 
 module _ {L : Type 0} (k : links.Ghosts L) where
-  -- one packet is given, if there is one, and then others
+  -- one packet or none is given, and then others
   gives_then : (one : Option Packet) (more : List Packet) (a b c : L) → GivesEach k (option_to_list one) a b → GivesEach k more b c
       → GivesEach k (cons_option one more) a c
   gives_then None more a b c first later = subst (λ (l : L). GivesEach k more l c) first later
@@ -383,7 +383,7 @@ module _ {L : Type 0} (k : links.Ghosts L) (udc_limits centre_limits : Limits) (
   abbrev AtDown : Arrival → Round L → Type 0
   AtDown came round = IsDownAt came (with_opening centre_opening round.centre.seen)
 
-  -- the same of what came up
+  -- what came up may be answered so, no more is acknowledged than the Update Centre has taken, and the packet is brought by that
   abbrev IsUpAt : Arrival → List Record → Type 0
   IsUpAt came records =
       MayAnswer came.packet came.answer × IfSome came.answer (GoesDown records) × IfSome came.packet (IsBroughtUp C records records)

@@ -47,7 +47,7 @@ lasts_on (steps.Ended why screen) phase tells goes = absurd goes
 pub never_full : (step : Step) (phase : Phase) → Tells step phase → EndedFor whys.Full step → ⊥
 never_full step phase tells ended = (subst (λ (s : Step). Tells s phase) ended.1 tells) refl
 
--- the same of a turn
+-- what the step of a turn says fits the phase that follows
 abbrev TellsOf : CallState × Step → Type 0
 TellsOf turn = Tells turn.1 turn.0.phase
 

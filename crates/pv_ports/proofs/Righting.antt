@@ -49,7 +49,7 @@ next_up C items records (Some k) same = by (slice_get items k) refl
     by None is = tt
     by (Some item) is = ap (λ (l : List Item). slice_get l k) (sym same) ∙ is
 
--- what holds of a packet, if there is one, and is weaker
+-- what holds of a packet or of none, and is weaker
 pub weaker_if : {P Q : Packet → Type 0} (packet : Option Packet) → ((one : Packet) → P one → Q one) → IfSome packet P → IfSome packet Q
 weaker_if None weaker is = tt
 weaker_if (Some packet) weaker is = weaker packet is
@@ -221,12 +221,12 @@ module _ {L : Type 0} (k : links.Ghosts L) (udc_limits centre_limits : Limits) (
 
 -- ---- what comes out of links that hold right packets
 
--- one packet more, if there is one
+-- one packet more, or none
 all_with : (P : Packet → Type 0) (one : Option Packet) (more : List Packet) → IfSome one P → All P more → All P (cons_option one more)
 all_with P None more is all = all
 all_with P (Some packet) more is all = All-cons P packet more is all
 
--- all of one packet, if there is one
+-- all of one packet, or of none
 all_of : (P : Packet → Type 0) (one : Option Packet) → IfSome one P → All P (option_to_list one)
 all_of P None is = All-nil P
 all_of P (Some packet) is = All-cons P packet [] is (All-nil P)

@@ -24,7 +24,7 @@ use Rattle.pv_ports.specs.Round.{Stop, Round, round_at, GivesTo, IsReadAs, Looks
 use Rattle.pv_ports.specs.Session.{ask_fault}
 use Rattle.pv_ports.specs.declared.trip.Trip.{Trip}
 
--- the same stop, whatever the failure of the disk is
+-- the stop does not depend on which failure of the disk it was
 pub same_stop : {D F : Type 0} (node : ℕ) (fault : LiveFault D F) → ask_stop node fault ≡ ask_stop node (ask_fault fault)
 same_stop node (faults.Memory stored) = refl
 same_stop node (faults.Disk failure) = refl

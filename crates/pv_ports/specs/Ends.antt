@@ -29,7 +29,7 @@ use Rattle.pv_ports.specs.Talk.{Happening, TurnedAway, Talked, Talks, PassAsks}
 use Rattle.pv_ports.specs.declared.end.CallEnd.{CallEnd}
 use Rattle.pv_ports.specs.declared.end.CallEnd.TheVariants.{Finished, Hung, Refused, Spent, ReadFault, WriteFault, DiskFault, Full, Memory}
 
--- what a line reports: what was read from it, what was written to it, whether its end was met, and its counts of faults
+-- what a connection reports: what was read from it, what was written to it, whether its end was met, and its counts of faults
 pub record LineState : Type 0 where
   pub taken : Option (List ℕ)
   pub written : Option (List ℕ)
@@ -47,7 +47,7 @@ line_of s k line = record {
   write_faults = k.write_faults line;
 }
 
--- a call that only writes: nothing is read from the line, and a fault is counted
+-- a call that only writes: nothing is read from the connection, and a fault is counted
 pub record OnlyWrites {T E : Type 0} (old new : LineState) (result : Result T E) : Type 0 where
   pub taken : new.taken ≡ old.taken
   pub ended : new.ended ≡ old.ended
@@ -86,14 +86,14 @@ abbrev pub IsLast : Happening → List Happening → Type 0
 IsLast happening [] = ⊥
 IsLast happening (last ∷ earlier) = last ≡ happening
 
--- all bytes were written; or, after a fault of the line, a part of them from the beginning
+-- all bytes were written; or, after a fault of the connection, a part of them from the beginning
 abbrev pub IsWritten : {D F : Type 0} → CallEnd D F → Option (List ℕ) → Option (List ℕ) → List ℕ → Type 0
 IsWritten WriteFault old new bytes = (n : ℕ) × Appends old new (take n bytes)
 IsWritten _ old new bytes = Appends old new bytes
 
 module _ {S : Type 0} (r : rules.Ghosts S CentreState IrcRequest CentreRecord IrcReply) (limits : Limits) (opening : List CentreRecord)
     (shown : Option ℕ) where
-  -- A call in progress, since its pass was `start` and its line `first`. These keys were read and are still to be taken, and these
+  -- A call in progress, since its pass was `start` and its connection `first`. These keys were read and are still to be taken, and these
   -- bytes were made and are still to be written.
   pub record InCall (start : Standing CentreRecord) (first : LineState) (pass : Standing CentreRecord) (call : CallState) (marks : List ℕ)
       (rest queued : List ℕ) (line : LineState) : Type 0 where

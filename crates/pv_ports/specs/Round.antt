@@ -104,7 +104,7 @@ module _ {L : Type 0} (k : links.Ghosts L) where
     pub held : IfOk result (λ length. IfSome length (λ n. k.may_hold old (take n into)))
     pub only : (held : List ℕ) → k.may_hold new held → k.may_hold old held
 
-  -- a packet is given to a link, if there is one
+  -- a packet or none is given to a link
   abbrev pub GivesTo : Option Packet → L → Trip → L → Trip → Option Stop → Type 0
   GivesTo None link trip link2 trip2 stop = (link2 ≡ link) × (trip2 ≡ trip) × (stop ≡ None)
   GivesTo (Some packet) link trip link2 trip2 stop =
@@ -231,12 +231,12 @@ UpToTwo Receives old new stop =
     (mid : Round _) × (came : Result Bool Stop) × Receives old mid came × ReceivesNext Receives came mid new stop
 
 module _ {L : Type 0} (k : links.Ghosts L) where
-  -- a packet goes down, if there is one
+  -- a packet or none goes down
   abbrev pub GivesDown : Option Packet → Round L → Round L → Option Stop → Type 0
   GivesDown packet old new stop =
       GivesTo k packet old.down old.trip new.down new.trip stop × (new ≡ record old { down = new.down; trip = new.trip })
 
-  -- a packet goes up, if there is one
+  -- a packet or none goes up
   abbrev pub GivesUp : Option Packet → Round L → Round L → Option Stop → Type 0
   GivesUp packet old new stop =
       GivesTo k packet old.up old.trip new.up new.trip stop × (new ≡ record old { up = new.up; trip = new.trip })

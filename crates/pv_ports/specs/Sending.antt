@@ -1,4 +1,4 @@
--- What a port has made and not written yet, and what its writes do to a line.
+-- What a port has made and not written yet, and what its writes do to a connection.
 use Rattle.std.specs.Prelude.{◌≡◌, ℕ, List, ◌++◌, take, Option, Result, MatchResult}
 use Rattle.std.specs.Io.KnownBytes.{Appends}
 

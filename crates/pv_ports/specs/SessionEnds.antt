@@ -40,7 +40,7 @@ GivesWay None = Unit {0}
 GivesWay (Some ends.Closed) = Unit {0}
 GivesWay _ = ⊥
 
--- the same, as it is made
+-- the end of a session whose last write failed
 abbrev pub end_if_cut : {D F : Type 0} → Option (EditEnd D F) → EditEnd D F
 end_if_cut None = ends.WriteFault
 end_if_cut (Some ends.Closed) = ends.WriteFault
@@ -56,7 +56,7 @@ EndsAs ends.WriteFault happened spent rest first line = GivesWay (last_end happe
 EndsAs end happened spent rest first line = last_end happened ≡ Some (session_end end)
 
 module _ {S : Type 0} (r : rules.Ghosts S EditList UdcRequest Record UdcReply) (limits : Limits) (opening : List Record) where
-  -- A session in progress, since its pass was `start` and its line `first`. These bytes were read and are still to be taken. Of the
+  -- A session in progress, since its pass was `start` and its connection `first`. These bytes were read and are still to be taken. Of the
   -- line that has no end yet these are kept, and this many bytes were taken in all.
   pub record InSession (start : Standing Record) (first : LineState) (pass : Standing Record) (seat : EditorSeat) (marks kept : List ℕ)
       (count : ℕ) (rest : List ℕ) (line : LineState) : Type 0 where

@@ -34,7 +34,7 @@ use Rattle.pv_wishes.specs.Wishes.{request_for, paid_by}
 use Rattle.pv_ports.specs.declared.port.TheConstants.{MAX_MARKS}
 
 -- What happens at a port: a byte is taken at a moment; or the centre is asked for what is owed, and this is its answer; or it is full, with
--- this many records, and the caller is turned away.
+-- this many records, and the call ends.
 pub data Happening : Type 0 where
   KeyTaken : ℕ → ℕ → Happening
   WishAnswered : Wish → Told IrcReply → Happening

@@ -9,9 +9,9 @@ pub enum EditEnd<D: Disk> {
     Hung,
     /// He has had as many lines or bytes as a session may have.
     Spent,
-    /// His line could not be read.
+    /// His connection could not be read.
     ReadFault,
-    /// His line could not be written.
+    /// His connection could not be written.
     WriteFault,
     /// A call of the Update Centre's disk failed. His last reply is `NO 15 DISK`, cut off if its write failed too.
     DiskFault(D::Failure),

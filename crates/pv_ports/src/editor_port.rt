@@ -67,7 +67,7 @@ impl<N: Run<Record>> EditorPort<N> {
         pass
     }
 
-    /// Serves an editor over his line, from its first byte to the end of the session.
+    /// Serves an editor over his connection, from its first byte to the end of the session.
     pub fn serve_editor<D: Disk, H: Wait + Drop, L: Line, W: Wait>(
         &mut self,
         rt: &W,

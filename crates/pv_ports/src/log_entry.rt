@@ -27,9 +27,9 @@ pub enum LogEnd {
     Refused,
     /// He has had as much as a call or session may have.
     Spent,
-    /// His line could not be read.
+    /// His connection could not be read.
     ReadFault,
-    /// His line could not be written.
+    /// His connection could not be written.
     WriteFault,
     /// A call of the node's disk failed.
     DiskFault,

@@ -20,7 +20,7 @@ pub(crate) struct DownParcel<const C: u8> {
     pub(crate) end: DownEnd,
     /// How many records the last look has seen.
     pub(crate) count: u64,
-    /// How many bytes the packet has, if there is one.
+    /// How many bytes the packet has. `None`: there is no packet.
     pub(crate) size: Option<usize>,
     pub(crate) bytes: [u8; MAX_PACKET],
     ghost centre: { IsCentre C },
@@ -67,7 +67,7 @@ pub(crate) struct UpParcel<const C: u8> {
     pub(crate) end: UpEnd,
     /// How many items the last look has seen.
     pub(crate) count: u64,
-    /// How many bytes the packet has, if there is one.
+    /// How many bytes the packet has. `None`: there is no packet.
     pub(crate) size: Option<usize>,
     pub(crate) bytes: [u8; MAX_PACKET],
     ghost centre: { IsCentre C },
@@ -106,7 +106,7 @@ impl<const C: u8> Viewer<IrcState> for UpParcel<C> {
     }
 }
 
-/// Spells the packet of the record of a number, if there is one.
+/// Spells the packet of the record of a number. `None`: no record has it.
 fn spell_record<const C: u8>(
     state: &UdcState,
     number: u64,
@@ -124,7 +124,7 @@ fn spell_record<const C: u8>(
     Some(spell(&packet, into))
 }
 
-/// Spells the packet of the item of a number, if there is one.
+/// Spells the packet of the item of a number. `None`: no item has it.
 fn spell_item<const C: u8>(
     state: &IrcState,
     number: u64,

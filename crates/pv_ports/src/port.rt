@@ -84,7 +84,7 @@ impl<const C: u8, N: Run<CentreRecord>> CallerPort<C, N> {
         pass
     }
 
-    /// Serves a caller over his line, from the dial to the end of the call.
+    /// Serves a caller over his connection, from the dial to the end of the call.
     pub fn serve_call<D: Disk, H: Wait + Drop, L: Line, K: Clock, W: Wait>(
         &mut self,
         rt: &W,

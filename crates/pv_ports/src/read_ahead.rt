@@ -48,7 +48,7 @@ impl ReadAhead {
         self.end = 0;
     }
 
-    /// The first of them, if there is one.
+    /// Takes the first of them. `None`: all were taken.
     pub(crate) fn take(&mut self) -> Option<u8>
         ensures { MatchOption result ((self.old ≡ []) × (self.new ≡ []))
             (λ byte. self.old ≡ byte ∷ self.new) }
@@ -86,7 +86,7 @@ impl ReadAhead {
         Ok(self.end > 0)
     }
 
-    /// The next key of a line, of those that were read ahead or else read now. `None` exactly at the end of the line.
+    /// The next key of a connection, of those that were read ahead or else read now. `None` exactly at its end.
     pub(crate) fn next<L: Line>(&mut self, line: &mut L) -> Result<Option<u8>, Failed>
         requires goes_on { L.ended line.old ≡ false }
         ensures keyed { (first : Option (List ℕ)) (keys : List ℕ)

@@ -393,7 +393,7 @@ fn stop_in<D: Disk>(came: Result<bool, RoundEnd<D>>) -> Option<RoundEnd<D>>
     }
 }
 
-/// Gives the packet that a buffer begins with to a link, if there is one: it has this many bytes.
+/// Gives the packet that a buffer begins with to a link. `size` says how many bytes it has. `None`: there is no packet.
 fn give<D: Disk, L: Link>(
     link: &mut L,
     trip: &mut Trip,
@@ -417,7 +417,7 @@ fn give<D: Disk, L: Link>(
     }
 }
 
-/// Gives an acknowledgement to a link, if there is one.
+/// Gives an acknowledgement to a link. `None` gives nothing.
 fn acknowledge<D: Disk, L: Link>(
     link: &mut L,
     trip: &mut Trip,
@@ -496,7 +496,7 @@ fn taken_by(number: u64, reply: &UdcReply) -> Option<u64>
     }
 }
 
-/// The acknowledgement of records, if there is one.
+/// The acknowledgement of records. `None`: the reply acknowledges none.
 fn records_heard<const C: u8>(number: u64, reply: &IrcReply) -> Option<Packet>
     ensures value { result ≡ option_map (DownHeard C) (applied_by number reply.now) }
     ensures centre { IfSome result (λ p. centre_of p ≡ C) }
@@ -505,7 +505,7 @@ fn records_heard<const C: u8>(number: u64, reply: &IrcReply) -> Option<Packet>
     Some(Packet::DownHeard { centre: C, number })
 }
 
-/// The acknowledgement of items, if there is one.
+/// The acknowledgement of items. `None`: the reply acknowledges none.
 fn items_heard<const C: u8>(number: u64, reply: &UdcReply) -> Option<Packet>
     ensures value { result ≡ option_map (UpHeard C) (taken_by number reply.now) }
     ensures centre { IfSome result (λ p. centre_of p ≡ C) }

@@ -227,7 +227,7 @@ const UNKNOWN: Case<'static> = Case {
     ..CALL
 };
 
-/// The same with a byte more than a call may have.
+/// A call at a centre without records that has a byte more than a call may have.
 const SPENT: Case<'static> = Case {
     sent: &[Alone(Message::KeyAccount), Row(Message::CallEnded)],
     end: Ended::Spent,

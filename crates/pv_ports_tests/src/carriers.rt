@@ -45,9 +45,9 @@ const ONE_FRAME: Limits = Limits {
     records: 4,
 };
 
-/// How many edits the Update Centre has stored, of two frames in turn, and how many items the centre has kept before the
-/// first round; whether the centre has room for both frames; which calls of the disks fail; what comes of each round; and
-/// how many records there are at the Update Centre and at the centre after the last one.
+/// How many edits the Update Centre has stored, of one frame and of the other, and how many items the centre has kept
+/// before the first round; whether the centre has room for both frames; which calls of the disks fail; what comes of
+/// each round; and how many records there are at the Update Centre and at the centre after the last one.
 #[derive(Clone, Copy)]
 struct Case {
     edits: u32,
@@ -142,7 +142,7 @@ const CENTRE_FAULTS: [(&[u64], &[Came]); 4] = [
     (&[10], &[DiskFault, Moved(0, 0), Idle]),
 ];
 
-/// The same of the Update Centre's disk while an item is stored.
+/// Calls of the Update Centre's disk that fail while an item is stored, and what comes of the rounds.
 const UPDATE_FAULTS: [(&[u64], &[Came]); 4] = [
     (
         &[7],
@@ -163,7 +163,7 @@ const UPDATE_FAULTS: [(&[u64], &[Came]); 4] = [
 ];
 
 /// What is carried, the calls of the link down and of the link up that fail, and what comes of the rounds. A record takes
-/// a give and two takes of each link, since its acknowledgement goes up: each of them fails in turn. Then the two gives
+/// a give and two takes of each link, since its acknowledgement goes up: each of them fails once. Then the two gives
 /// fail that are made for an item alone.
 const LINK_FAULTS: [(Case, &[u64], &[u64], &[Came]); 8] = [
     (RECORD, &[0], &[], &[LinkFault, Moved(1, 0), Idle]),
@@ -398,7 +398,7 @@ fn rounds<U: Run<Record> + Send + Sync, N: Run<CentreRecord> + Send + Sync, L: L
     Ok((is_as_expected, (udc_pass.length(), centre_pass.length())))
 }
 
-/// The operator's edit of this number: he puts a blank frame, the first and the second in turn.
+/// The operator's edit of this number: he puts a blank frame, the first if the number is even, the second if it is odd.
 fn edit(q: u32) -> Option<UdcRequest>
     ensures { IfSome result (λ request. IsRequest request) }
 {

@@ -38,7 +38,7 @@ impl Unsteady {
         })
     }
 
-    /// The packet that the next take hands out, if there is one.
+    /// The packet that the next take hands out. `None`: none waits.
     fn next(&mut self) -> Option<Given>
         ensures { (self.new.given ≡ self.old.given) × (self.new.taken ≡ self.old.taken) }
     {

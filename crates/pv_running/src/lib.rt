@@ -2,7 +2,7 @@
 //!
 //! [`serve_nodes`] serves the doors of a network. Each node is made live, under a name of its own. Each port has a thread, and
 //! so has each centre's carrier; once all have ended, the nodes are closed, and [`ClosedNetwork`] has them and what the
-//! threads met. A [`Plan`] says how many ports a centre has, and how many lines each serves.
+//! threads met. A [`Plan`] says how many ports a centre has, and how many connections each serves.
 //!
 //! ```text
 //! let closed = serve_nodes(rt, alloc, nodes, limits, callers, editors, plan, clock)?;

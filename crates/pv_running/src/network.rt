@@ -26,12 +26,12 @@ use std::mem;
 use std::sync::Wait;
 use std::vec::IntoIter;
 
-/// How many ports a network has, and how many lines each serves.
+/// How many ports a network has, and how many connections each serves.
 #[derive(Clone, Copy, Debug)]
 pub struct Plan {
     /// How many callers' ports each centre has.
     pub ports: usize,
-    /// How many lines each port serves.
+    /// How many connections each port serves.
     pub calls: u32,
 }
 

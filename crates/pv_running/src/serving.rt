@@ -26,8 +26,8 @@ use std::marker::Brand;
 use std::sync::Wait;
 use std::thread::Threads;
 
-/// Serves the doors of a network: each port as many lines as the plan says. If no memory is found for the work, the disks
-/// keep what they held.
+/// Serves the doors of a network: each port as many connections as the plan says. If no memory is found for the work,
+/// the disks keep what they held.
 ///
 /// There is a door for each port, those of the first centre first. All nodes have these limits.
 pub fn serve_nodes<
@@ -88,7 +88,7 @@ where
         (K.moment clock.now) (line_of ⟦<O::Line as Source>⟧ ⟦<O::Line as Sink>⟧) plan.calls (AreQuiet closed.carriers_met.items)
         rows.olds.fourth rows.news.fourth rows.met.fourth n) nodes.fourth closed.nodes.fourth) }
 
-    // Each door has let in and given back as many lines as it was to, unless there was a fault.
+    // Each door has let in and given back as many connections as it was to, unless there was a fault.
     ensures callers_doors { IfOk result (λ closed. ServesEachDoor plan.calls (map
         (door_of O.lines O.accepted O.finished O.faults) callers.items)
         (map (door_of O.lines O.accepted O.finished O.faults) closed.callers.items) closed.callers_met.items) }

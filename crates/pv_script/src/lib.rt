@@ -1,4 +1,4 @@
-//! The script of a play, its transcript, and the play that turns the one into the other.
+//! The script of a play, its transcript, and the play that makes the one of the other.
 //!
 //! A script is a text of lines. [`parse`] reads a line as a [`Command`]: nothing, limits for the play, or an event of
 //! the network. [`play`] takes the words of the command line, a source and a sink: it reads a whole script, lets its

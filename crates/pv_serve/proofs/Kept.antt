@@ -249,13 +249,13 @@ module _ {S L D F : Type 0} (r : rules.Ghosts S EditList UdcRequest Record UdcRe
         },
       )
 
--- ---- all lines of a node
+-- ---- all connections of a node
 
 module _ {L E F Rec : Type 0} (Serves : Standing Rec → Served L E → Standing Rec → Type 0)
     (Keeps : List (Entry Rec) → Standing Rec → Served L E → Standing Rec → Type 0) (failure_in : E → Option F) (lacked_memory : E → Bool)
     (keeps : (log : List (Entry Rec)) (old : Standing Rec) (served : Served L E) (new : Standing Rec) → Serves old served new
     → IsPrefix new.seen log → IsPrefix old.seen log × Keeps log old served new) where
-  -- each line of a port is kept
+  -- each connection of a port is kept
   chain_keeps : (log : List (Entry Rec)) (served : List (Served L E)) (old new : Standing Rec) → IsChain Serves served old new
       → IsPrefix new.seen log → IsChain (Keeps log) served old new
   chain_keeps log [] old new is prefix = is

@@ -46,25 +46,25 @@ StoresChargesFirst r = (limits : Limits) (opening : List CentreRecord) (shown : 
 
 module _ {S L D F : Type 0} (r : rules.Ghosts S CentreState IrcRequest CentreRecord IrcReply) (limits : Limits)
     (opening : List CentreRecord) (shown : Option ℕ) (report_of : L → LineState) (log : List (Entry CentreRecord)) where
-  -- A call served a line. The closed list of the centre has its marks, and the record of each charge that it had stored, so of each
+  -- A call served a connection. The closed list of the centre has its marks, and the record of each charge that it had stored, so of each
   -- charged screen of which it sent a byte.
   pub record KeepsCall (old : Standing CentreRecord) (served : Served L (CallEnd D F)) (new : Standing CentreRecord) : Type 0 where
     pub serves : ServesCall r limits opening shown report_of old served new
     pub marked : AreMarksIn opening log serves.marks
     pub charged : All (HasRecord log) (charges_of serves.call.talks.happened)
 
-  -- so it is of each line that a port has served
+  -- so it is of each connection that a port has served
   abbrev pub HasKeptCalls : ℕ → Standing CentreRecord → DoorReport L → Standing CentreRecord → DoorReport L → PortReport D F → Type 0
   HasKeptCalls = HasServed KeepsCall call_failure call_lacked_memory
 
-  -- a centre was served from its opening to its closing, each line of its doors by such a call
+  -- a centre was served from its opening to its closing, each connection of its doors by such a call
   abbrev pub CentreKept : reports.Ghosts D → ℕ → Type 0 → List (DoorReport L) → List (DoorReport L) → List (PortReport D F)
       → Parts D CentreState CentreRecord → Type 0
   CentreKept d calls Quiet = NodeServed (HasKeptCalls calls) r d limits applied_of Quiet opening
 
 module _ {S L D F : Type 0} (r : rules.Ghosts S EditList UdcRequest Record UdcReply) (limits : Limits) (opening : List Record)
     (report_of : L → LineState) (log : List (Entry Record)) where
-  -- a session served a line, and the closed list of the Update Centre has its marks
+  -- a session served a connection, and the closed list of the Update Centre has its marks
   pub record KeepsSession (old : Standing Record) (served : Served L (EditEnd D F)) (new : Standing Record) : Type 0 where
     pub serves : ServesSession r limits opening report_of old served new
     pub marked : AreMarksIn opening log serves.marks
@@ -72,7 +72,7 @@ module _ {S L D F : Type 0} (r : rules.Ghosts S EditList UdcRequest Record UdcRe
   abbrev pub HasKeptSessions : ℕ → Standing Record → DoorReport L → Standing Record → DoorReport L → PortReport D F → Type 0
   HasKeptSessions = HasServed KeepsSession session_failure session_lacked_memory
 
-  -- the Update Centre was served from its opening to its closing, each line of its doors by such a session
+  -- the Update Centre was served from its opening to its closing, each connection of its doors by such a session
   abbrev pub UpdateKept : reports.Ghosts D → ℕ → Type 0 → List (DoorReport L) → List (DoorReport L) → List (PortReport D F)
       → Parts D EditList Record → Type 0
   UpdateKept d calls Quiet = NodeServed (HasKeptSessions calls) r d limits taken_count Quiet opening

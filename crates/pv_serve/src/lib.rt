@@ -1,7 +1,7 @@
 //! The server, over any disks and doors and over files and sockets; its words and statuses, and the formatting of disks.
 //!
-//! - [`serve`] serves callers and editors until each port has served as many lines as the words ask for. Whatever comes
-//!   of it, [`Served`] has the status, the disks and the doors.
+//! - [`serve`] serves callers and editors until each port has served as many connections as the words ask for. Whatever
+//!   comes of it, [`Served`] has the status, the disks and the doors.
 //! - [`run_serve`] is the word `serve`: it locks the files of a folder, binds ports of the machine, and calls [`serve`].
 //!   [`ErrorOutput`] says what standard error has then beside faults.
 //! - [`run_web`] is the word `web`: it serves as `serve` does, and shows a terminal to browsers too.

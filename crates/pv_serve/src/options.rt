@@ -16,7 +16,7 @@ pub const MAX_PORTS: u8 = 16;
 /// The most ports for editors.
 pub const MAX_EDITORS: u8 = 4;
 
-/// The most lines that a port may be asked to serve.
+/// The most connections that a port may be asked to serve.
 pub const MAX_CALLS: u32 = 1_000_000;
 
 /// The last number of a port of the machine.
@@ -33,7 +33,7 @@ pub struct ServeOptions {
     pub ports: u8,
     /// How many ports there are for editors, 1 to [`MAX_EDITORS`].
     pub editors: u8,
-    /// How many lines each port serves, 1 to [`MAX_CALLS`].
+    /// How many connections each port serves, 1 to [`MAX_CALLS`].
     pub calls: u32,
     /// The machine's port for the callers of centre 0. Those of the others follow it.
     pub port: u16,

@@ -1,4 +1,4 @@
-//! The server over whatever keeps its records and lets its lines in.
+//! The server over whatever keeps its records and lets its connections in.
 ghost use Rattle.std.specs.Prelude.{◌≡◌, ◌⊎◌, ◌<◌, ℕ, List, All, IfSome, None, map, string_bytes, vec_len};
 ghost use Rattle.pv_outside.specs.Counts.{Rose};
 ghost use Rattle.pv_node.specs.Standing.{Stands};
@@ -53,7 +53,7 @@ pub struct Served<D: Disk + Drop, O: Door + Drop, E: Door + Drop> {
     pub editors: Vec<E>,
 }
 
-/// Serves callers and editors, until each port has served as many lines as the words ask for.
+/// Serves callers and editors, until each port has served as many connections as the words ask for.
 ///
 /// There is a disk for each node, the Update Centre's first, a door for each port of callers, those of centre 0 first, and
 /// one for each port of editors. `spawner` is asked once for leave to start all threads: one for each port and one for each
@@ -103,7 +103,7 @@ where
         (door_of O.lines O.accepted O.finished O.faults) result.callers.items)
         ⊎ SomeDoorRose (map (door_of E.lines E.accepted E.finished E.faults) editors.items) (map (door_of E.lines E.accepted E.finished E.faults) result.editors.items) }
 
-    // If it is done, or a node is full, each door has given back as many lines as the words ask for.
+    // If it is done, or a node is full, each door has given back as many connections as the words ask for.
     ensures finished { HasServedAll result.status → (options : ServeOptions)
         × AskToServe (map string_bytes words.now) options
         × GiveBackMore options.calls (map (door_of O.lines O.accepted O.finished O.faults) callers.items)

@@ -206,7 +206,7 @@ pub fn outcome_of(
     })
 }
 
-/// What the first line was sent that was given back to the first of these doors, if there is one.
+/// What was sent on the first connection that was given back to the first of these doors.
 fn first_sent(doors: &[MemDoor]) -> &[u8] {
     match doors.first() {
         Some(door) => sent_at(door),
@@ -214,7 +214,7 @@ fn first_sent(doors: &[MemDoor]) -> &[u8] {
     }
 }
 
-/// What the first line was sent that was given back to a door, if there is one.
+/// What was sent on the first connection that was given back to a door.
 pub fn sent_at(door: &MemDoor) -> &[u8] {
     match door.finished().first() {
         Some(line) => line.sent(),

@@ -40,7 +40,7 @@ impl<'a> ScriptedDoor<'a> {
         }
     }
 
-    /// The line that comes in, if there is one and nothing was read from it.
+    /// The connection that comes in. `None`: no more come, or something was read from it.
     fn next(&mut self) -> Option<ScriptedLine<'a>>
         ensures unused { IfSome result (λ line. line.ended ≡ false) }
         ensures same { self.new ≡ record self.old { coming = self.new.coming } }

@@ -8,7 +8,7 @@ use Rattle.pv_service.specs.Serving.{Served, lines_in, ServesNext, HasServedSome
 use Rattle.pv_service.specs.declared.port_report.PortFault.TheVariants as faults
 use Rattle.pv_service.specs.declared.port_report.PortReport.{PortReport}
 
--- what a door can report, with a line more
+-- what a door can report, with a connection more
 back_more : {L : Type 0} (old : Option (List L)) (earlier : List L) (line : L)
     → option_map (λ (b : List L). b ++ line ∷ []) (option_map (λ (b : List L). b ++ earlier) old)
     ≡ option_map (λ (b : List L). b ++ (earlier ++ line ∷ [])) old
@@ -20,7 +20,7 @@ back_same : {L : Type 0} (old : Option (List L)) → old ≡ option_map (λ (b :
 back_same None = refl
 back_same (Some before) = ap Some (sym (append-nil before))
 
--- no line was given back yet
+-- no connection was given back yet
 no_lines : {L : Type 0} (door : DoorReport L) → GivesBack [] door door
 no_lines door = record {
   back = back_same door.lines;
@@ -49,7 +49,7 @@ line_none lines old mid new earlier last = record {
   faults = omega (arith, earlier.faults, last.counted);
 }
 
--- there are as many lines as were served
+-- there are as many connections as were served
 pub length-lines_in : {L E : Type 0} (served : List (Served L E)) → length (lines_in served) ≡ length served
 length-lines_in [] = refl
 length-lines_in (last ∷ earlier) =

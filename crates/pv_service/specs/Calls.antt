@@ -1,4 +1,4 @@
--- Callers' lines at a door: each is served by a call.
+-- Callers' connections at a door: each is served by a call.
 use Rattle.std.specs.Prelude.{ℕ, Bool, true, false, List, Option, None, Some}
 use Rattle.pv_outside.specs.declared.limits.Limits.{Limits}
 use Rattle.pv_outside.specs.Line.{IsUnused}
@@ -27,7 +27,7 @@ call_lacked_memory _ = false
 
 module _ {S L D F : Type 0} (r : rules.Ghosts S CentreState IrcRequest CentreRecord IrcReply) (limits : Limits)
     (opening : List CentreRecord) (shown : Option ℕ) (report_of : L → LineState) where
-  -- a line came in unused, and a call served it, from the dial to its end
+  -- a connection came in unused, and a call served it, from the dial to its end
   pub record ServesCall (old : Standing CentreRecord) (served : Served L (CallEnd D F)) (new : Standing CentreRecord) : Type 0 where
     pub accepted : L
     pub unused : IsUnused (report_of accepted).taken (report_of accepted).written (report_of accepted).ended

@@ -1,4 +1,4 @@
--- Editors' lines at a door: each is served by a session.
+-- Editors' connections at a door: each is served by a session.
 use Rattle.std.specs.Prelude.{ℕ, Bool, true, false, List, Option, None, Some}
 use Rattle.pv_outside.specs.declared.limits.Limits.{Limits}
 use Rattle.pv_outside.specs.Line.{IsUnused}
@@ -28,7 +28,7 @@ session_lacked_memory _ = false
 
 module _ {S L D F : Type 0} (r : rules.Ghosts S EditList UdcRequest Record UdcReply) (limits : Limits) (opening : List Record)
     (report_of : L → LineState) where
-  -- a line came in unused, and a session served it, from its first byte to its end
+  -- a connection came in unused, and a session served it, from its first byte to its end
   pub record ServesSession (old : Standing Record) (served : Served L (EditEnd D F)) (new : Standing Record) : Type 0 where
     pub accepted : L
     pub unused : IsUnused (report_of accepted).taken (report_of accepted).written (report_of accepted).ended

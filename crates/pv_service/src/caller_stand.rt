@@ -15,24 +15,25 @@ use pv_outside::{Clock, Disk, Door, Failed, Sink, Source};
 use pv_ports::{CallEnd, CallerPort};
 use std::sync::Wait;
 
-/// A stand's door has accepted fewer lines than this when the work begins, so that its counts do not come to their end.
+/// A stand's door has accepted fewer connections than this when the work begins, so that its counts do not come to
+/// their end.
 pub const MAX_ACCEPTED: u64 = 1 << 63;
 
-/// A caller's port with the door at which its lines come in, how many of them it is to serve, and how that ended.
+/// A caller's port with the door at which its connections come in, how many of them it is to serve, and how that ended.
 #[derive(Drop)]
 pub struct CallerStand<const C: u8, N: Run<CentreRecord>, D: Disk, O: Door + Drop> {
     /// The port.
     pub port: CallerPort<C, N>,
     /// The door.
     pub door: Box<O>,
-    /// How many lines it is to serve.
+    /// How many connections it is to serve.
     pub calls: u32,
     /// How its work has ended.
     pub report: Box<PortReport<D>>,
 }
 
 impl<const C: u8, N: Run<CentreRecord>, D: Disk, O: Door + Drop> CallerStand<C, N, D, O> {
-    /// A stand that is to serve this many lines, with the report that its work is to fill in.
+    /// A stand that is to serve this many connections, with the report that its work is to fill in.
     pub fn new(
         port: CallerPort<C, N>,
         door: Box<O>,
@@ -53,7 +54,7 @@ impl<const C: u8, N: Run<CentreRecord>, D: Disk, O: Door + Drop> CallerStand<C, 
     }
 }
 
-/// Accepts the next line, serves it by a call, and gives it back. If the door fails, nothing was served.
+/// Accepts the next connection, serves it by a call, and gives it back. If the door fails, nothing was served.
 fn serve_next<
     const C: u8,
     N: Run<CentreRecord>,
@@ -100,7 +101,7 @@ fn failure_in<D: Disk>(end: CallEnd<D>, memory: &mut bool) -> Option<D::Failure>
     }
 }
 
-/// Serves the lines of a door, one after the other.
+/// Serves the connections of a door, one after the other.
 fn serve_lines<
     const C: u8,
     N: Run<CentreRecord>,
@@ -142,8 +143,8 @@ fn serve_lines<
     }
 }
 
-/// Serves the lines of a stand until there were as many as it is to serve, or until its door or its centre's disk fails.
-/// A line that was accepted is always given back. A call that finds no memory ends, and the next line is served.
+/// Serves the connections of a stand until there were as many as it is to serve, or until its door or its centre's disk
+/// fails. One that was accepted is always given back. A call that finds no memory ends, and the next one is served.
 pub fn serve_callers<
     const C: u8,
     N: Run<CentreRecord>,

@@ -17,21 +17,22 @@ use pv_ports::{EditEnd, EditorPort};
 use pv_udc::UdcRules;
 use std::sync::Wait;
 
-/// An editor's port with the door at which its lines come in, how many of them it is to serve, and how that ended.
+/// An editor's port with the door at which its connections come in, how many of them it is to serve, and how that
+/// ended.
 #[derive(Drop)]
 pub struct EditorStand<N: Run<Record>, D: Disk, O: Door + Drop> {
     /// The port.
     pub port: EditorPort<N>,
     /// The door.
     pub door: Box<O>,
-    /// How many lines it is to serve.
+    /// How many connections it is to serve.
     pub calls: u32,
     /// How its work has ended.
     pub report: Box<PortReport<D>>,
 }
 
 impl<N: Run<Record>, D: Disk, O: Door + Drop> EditorStand<N, D, O> {
-    /// A stand that is to serve this many lines, with the report that its work is to fill in.
+    /// A stand that is to serve this many connections, with the report that its work is to fill in.
     pub fn new(
         port: EditorPort<N>,
         door: Box<O>,
@@ -52,8 +53,8 @@ impl<N: Run<Record>, D: Disk, O: Door + Drop> EditorStand<N, D, O> {
     }
 }
 
-/// Accepts the next line, serves it by a session, and gives it back. If the door fails, nothing was served. Each edit that
-/// is acknowledged on the line wakes the carriers.
+/// Accepts the next connection, serves it by a session, and gives it back. If the door fails, nothing was served. Each
+/// edit that is acknowledged on it wakes the carriers.
 fn serve_next<N: Run<Record>, D: Disk, H: Wait + Drop, O: Door + Log, W: Wait>(
     rt: &W,
     udc: &Live<UdcRules, D, N, H>,
@@ -97,7 +98,7 @@ fn failure_in<D: Disk>(end: EditEnd<D>, memory: &mut bool) -> Option<D::Failure>
     }
 }
 
-/// Serves the lines of a door, one after the other.
+/// Serves the connections of a door, one after the other.
 fn serve_lines<N: Run<Record>, D: Disk, H: Wait + Drop, O: Door + Log, W: Wait>(
     rt: &W,
     udc: &Live<UdcRules, D, N, H>,
@@ -130,9 +131,9 @@ fn serve_lines<N: Run<Record>, D: Disk, H: Wait + Drop, O: Door + Log, W: Wait>(
     }
 }
 
-/// Serves the lines of a stand until there were as many as it is to serve, or until its door or the Update Centre's disk
-/// fails.
-/// A line that was accepted is always given back. A session that finds no memory ends, and the next line is served.
+/// Serves the connections of a stand until there were as many as it is to serve, or until its door or the Update
+/// Centre's disk fails. One that was accepted is always given back. A session that finds no memory ends, and the next
+/// one is served.
 pub fn serve_editors<N: Run<Record>, D: Disk, H: Wait + Drop, O: Door + Log + Drop, W: Wait>(
     rt: &W,
     udc: &Live<UdcRules, D, N, H>,

@@ -1,6 +1,6 @@
-//! The work of a server's threads: ports that serve the lines of their doors, and carriers beside them.
+//! The work of a server's threads: ports that serve the connections of their doors, and carriers beside them.
 //!
-//! - A [`CallerStand`] is a caller's port with its door. [`serve_callers`] accepts line after line, serves each by a
+//! - A [`CallerStand`] is a caller's port with its door. [`serve_callers`] accepts connections, serves each by a
 //!   call, and gives it back to the door. An [`EditorStand`] is the same for editors, with [`serve_editors`].
 //! - A [`CarrierStand`] is a carrier with its two links. [`carry_rounds`] makes rounds until the ports are done and a
 //!   round has nothing more to bring.
@@ -9,7 +9,7 @@
 //! - [`Signals`] are what these threads tell each other: a bell for each centre, so that a carrier sleeps while there is
 //!   nothing to bring, and how many ports are at work.
 //!
-//! A door hears how each of its lines was served ([`Log`]).
+//! A door hears how each of its connections was served ([`Log`]).
 //!
 //! Each stand has a report of how its work ended ([`PortReport`], [`CarrierReport`]), so that a row of stands can be
 //! served side by side and read afterwards. It is made first: if memory runs out, whoever makes stands still has the
@@ -20,11 +20,11 @@
 //! let stand = CallerStand::new(port, door, calls, PortReport::boxed(alloc)?);
 //! // .. more of them in a row, and the carrier's stand
 //! run_centre(rt, &udc, &centre, &clock, &signals, &mut callers, &mut carrier);
-//! callers[0].report.fault;    // None: all its lines were served
+//! callers[0].report.fault;    // None: all its connections were served
 //! ```
 //!
-//! What a stand has done is `HasServed` of `specs/Serving.antt`: the lines that were served, each by one call or session
-//! on what its pass had seen when the one before it ended. What a carrier has done is `HasCarried` of
+//! What a stand has done is `HasServed` of `specs/Serving.antt`: the connections that were served, each by one call or
+//! session on what its pass had seen when the one before it ended. What a carrier has done is `HasCarried` of
 //! `specs/Rounds.antt`. A row keeps each stand in its place (`EachBecomes` of `specs/Rows.antt`).
 #![tactic(auto)]
 

@@ -3,10 +3,10 @@ ghost use Rattle.std.specs.Prelude.{◌≡◌, false, None, IfOk};
 use pv_outside::Disk;
 use std::alloc::{AllocError, Global};
 
-/// Why a port ended before all of its lines were served.
+/// Why a port ended before all of its connections were served.
 #[derive(Drop)]
 pub enum PortFault<D: Disk> {
-    /// Its door let no line in.
+    /// Its door let no connection in.
     Door,
     /// A call of its node's disk failed.
     Disk(D::Failure),
@@ -17,7 +17,7 @@ pub enum PortFault<D: Disk> {
 pub struct PortReport<D: Disk> {
     /// Whether a call or a session ended since no memory was found.
     pub memory: bool,
-    /// Why it ended before all of its lines were served.
+    /// Why it ended before all of its connections were served.
     pub fault: Option<PortFault<D>>,
 }
 

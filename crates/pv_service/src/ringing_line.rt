@@ -4,8 +4,8 @@ use pv_outside::{Failed, Line, Sink, Source};
 /// What a reply begins with that acknowledges an edit.
 const ACKNOWLEDGED: &[u8] = b"OK ";
 
-/// An editor's line that wakes all carriers before an edit is acknowledged on it. The edit is stored by then, so it is on
-/// its way to the centres when the editor reads that it is. What the line reports is what the line within it reports.
+/// An editor's connection that wakes all carriers before an edit is acknowledged on it. The edit is stored by then, so
+/// it is on its way to the centres when the editor reads that it is. It reports what the connection within it reports.
 #[derive(Drop)]
 pub(crate) struct RingingLine<'a, L: Line + Drop> {
     pub(crate) line: L,

@@ -57,7 +57,7 @@ module _ {S D : Type 0} (r : rules.Ghosts S EditList UdcRequest Record UdcReply)
   abbrev LoadEnd : {F : Type 0} → Parts D EditList Record → TapeEnd D F → Type 0
   LoadEnd new end = IsLoadEnd g old.journal.disk new (GainsAll r g old new) old.state.records head edits end
 
-  -- the same lines
+  -- a run goes on as it is if its lines are written in another way
   pub going_at : (new : Parts D EditList Record) (p : Progress) (lines others : List (List ℕ)) → lines ≡ others → Going new p lines
       → Going new p others
   going_at new p lines others same going = subst (Going new p) same going

@@ -156,7 +156,7 @@ impl<'a, R: AllocGlobal + Net<Listener = TcpListener, Stream = TcpStream> + Cloc
     }
 }
 
-/// Has the poll look at this socket. What is ready is tried in turn, so that all have one token.
+/// Has the poll look at this socket. What is ready is tried one after another, so that all have one token.
 fn watch(poll: &Poll, socket: i32, interest: Interest) -> io::Result<()> {
     poll.registry()
         .register(&mut SourceFd(&socket), Token(0), interest)

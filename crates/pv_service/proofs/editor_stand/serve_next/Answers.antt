@@ -2,7 +2,7 @@ use Rattle.std.proofs.Common.{List, [], ◌∷◌, ◌++◌, ap, ◌∙◌, arit
 use Rattle.std.specs.Option.{option_map}
 use Rattle.pv_service.proofs.editor_stand.serve_next.Goals as goal
 
--- the line that came in was served and given back
+-- the connection that came in was served and given back
 pub returns-clause-served : goal.returns-clause-served
 returns-clause-served g c =
     let line = c.serve_editor-end.new.line.line in
