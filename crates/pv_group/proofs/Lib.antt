@@ -3,3 +3,4 @@ pub mod Boards
 pub mod Endings
 pub mod Moments
 pub mod Shelves
+pub mod Leaving

@@ -2,3 +2,4 @@ pub mod Answers
 pub mod Closing
 pub mod Desk
 pub mod Vault
+pub mod Run

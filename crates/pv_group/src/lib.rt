@@ -11,7 +11,7 @@
 //! stores finds out whether it is stored, and appends it again if it is not.
 //!
 //! ```text
-//! let (live, mut passes) = open_live::<Ledger, _, N, &R>(rt, alloc, node, 2, start, taken)?;
+//! let (live, mut passes) = open_live::<Ledger, _, N, &R>(rt, alloc, node, 2, GroupStart::new(2))?;
 //! let reply = live.ask(rt, &mut passes[0], &request)?;         // decided, stored, given
 //! let decided = live.decide(rt, &mut passes[1], &request)?;    // ahead of the disk
 //! let reply = live.give(rt, &mut passes[1], decided)?;         // stored with all that was decided by then
@@ -31,5 +31,5 @@ mod vault;
 pub use desk::Desk;
 pub use live::{Live, LiveNode, open_live};
 pub use outcome::{Decided, LeftDisk, NotDecided, Outcome};
-pub use run::{GroupRun, TakenLedger};
+pub use run::{GroupRun, GroupStart, TakenLedger};
 pub use vault::Vault;

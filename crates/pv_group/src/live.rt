@@ -10,19 +10,18 @@ ghost use Rattle.pv_group.specs.Closing.{IsDiskLeft};
 
 use crate::desk::Desk;
 use crate::outcome::{Decided, LeftDisk, NotDecided, Outcome};
-use crate::run::{GroupRun, TakenLedger};
+use crate::run::{GroupRun, GroupStart, TakenLedger};
 use crate::vault::Vault;
 use left_right::Absorb;
 use pv_journal::{Batch, MAX_BODY};
 use pv_live::{
-    Change, Closed, Entry, FailedLedger, Known, LiveFault, Pass, Published, Start, ToldLedger,
+    Change, Closed, Entry, FailedLedger, Known, LiveFault, Pass, Published, ToldLedger,
     make_passes, publish_state,
 };
 use pv_node::{Node, Rules, Told};
 use pv_outside::{Disk, MAX_RECORDS};
 use std::alloc::{AllocError, Global};
 use std::collections::VecDeque;
-use std::sync::ledger::Blank;
 use std::sync::{Mutex, Wait};
 
 /// A node under two locks: that of its desk, and that of its vault, which is taken first by who needs both.
@@ -45,15 +44,13 @@ pub struct LiveNode<
 pub type Live<R, D, N, H> = LiveNode<R, D, N, H, Published<R, N>, Change<R, N>>;
 
 /// Shares a node, of which no record is in hand, among this many passes. The run is named by what it starts
-/// with, and by the ledger of what is taken to be stored. If no memory is found the node is dropped, and its
-/// disk keeps what it held.
+/// with. If no memory is found the node is dropped, and its disk keeps what it held.
 pub fn open_live<R: Rules, D: Disk + Drop, N: GroupRun<R::Rec>, H: Wait + Drop>(
     rt: H,
     alloc: Global,
     node: Node<R, D>,
     passes: usize,
-    start: Start<R::Rec>,
-    taken: Blank,
+    start: GroupStart<R::Rec>,
 ) -> Result<(Live<R, D, N, H>, Vec<Pass<R, N>>), AllocError>
     requires stands { StandsFor ⟦<R as Rules>⟧ D.Reports node N.opening }
     requires at_rest { node.hand ≡ None }
@@ -66,14 +63,15 @@ pub fn open_live<R: Rules, D: Disk + Drop, N: GroupRun<R::Rec>, H: Wait + Drop>(
       told = N.told;
       failed = N.failed;
       passes = N.passes;
+      taken = N.taken;
     } }
-    requires taken { (taken.name ≡ N.taken) × (taken.parts ≡ 1) }
     ensures passes { IfOk result (λ r. r.1.items ≡ new_passes passes) }
     ensures count { IfOk result (λ r. vec_len r.1 ≡ passes) }
 
     // No ask has been answered: if it were closed now, the node would have the records of its opening.
     ensures unasked { IfOk result (λ r. (told_count r.1.items ≡ 0) × (failed_count r.1.items ≡ 0)) }
 {
+    let (start, taken) = start.into_parts();
     let (history, told, failed) = start.into_parts();
     let (appender, entries) = history.named::<N>(alloc, MAX_RECORDS)?;
     let known = Known::opening(entries, node.count());
@@ -199,7 +197,7 @@ impl<R: Rules, D: Disk, N: GroupRun<R::Rec>, H: Wait + Drop> LiveNode<
         ensures closed { IfOk result (λ closed. IsClosed ⟦<R as Rules>⟧ D.Reports N.limits N.opening
             passes.items closed.node closed.asked) }
         ensures left { IfErr result (λ left. IsDiskLeft ⟦<R as Rules>⟧ D.Reports N.limits N.opening
-            passes.items left.disk) }
+            passes.items left) }
     {
         let LiveNode { desk, vault } = self;
         let (mut desk, mut vault) = (desk.into_inner(), vault.into_inner());

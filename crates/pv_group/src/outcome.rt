@@ -51,4 +51,7 @@ pub struct LeftDisk<D: Disk> {
     pub failure: D::Failure,
     /// The disk. It holds what was stored, and may hold the group that was being stored.
     pub disk: D,
+    /// Whether no pass has seen more than is stored. None ever has, since nothing is shown before it is stored. But no
+    /// clause follows that through the passes, so it is counted.
+    pub seen_is_stored: bool,
 }

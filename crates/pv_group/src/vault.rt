@@ -1,5 +1,6 @@
 //! What lies under the lock of those who store: the journal, and what was taken from the desk.
-ghost use Rattle.std.specs.Prelude.{◌≡◌, ◌⊎◌, ℕ, ◌+◌, ◌<◌, ◌≤◌, List, ◌++◌, ◌∷◌, [], length, vec_len, IfOk, IfErr, OnOk, OnErr, IsErr};
+ghost use Rattle.std.specs.Prelude.{◌≡◌, ◌⊎◌, ℕ, ◌+◌, ◌<◌, ◌≤◌, nat_le, List, ◌++◌, ◌∷◌, [], length, vec_len, IfOk, IfErr, OnOk, OnErr, IsErr};
+ghost use Rattle.std.specs.List.{list_all};
 ghost use mathlib.Core.List.{IsPrefix};
 ghost use Rattle.pv_journal.specs.Journal.{Holds, Spends, HasMade};
 ghost use Rattle.pv_journal.specs.Log.{IsAtRest};
@@ -314,21 +315,30 @@ impl<R: Rules, D: Disk, N: GroupRun<R::Rec>> Vault<R, D, N> {
     ) -> LeftDisk<D>
         requires passes { vec_len passes ≡ N.passes }
         requires failed { 0 < D.faults self.journal.disk }
-        ensures { IsDiskLeft ⟦<R as Rules>⟧ D.Reports N.limits N.opening passes.items result.disk }
+        ensures { IsDiskLeft ⟦<R as Rules>⟧ D.Reports N.limits N.opening passes.items result }
     {
         let Vault {
             journal,
             batch: _,
-            stored: _,
+            stored,
             mut taken,
             share: _,
         } = self;
         let mut desk = desk;
         taken.catch_up(&mut desk.appender, &desk.known);
+        let seen_is_stored = have_seen_at_most(&passes, stored.length());
         desk.count_up(passes);
         LeftDisk {
             failure,
             disk: journal.into_disk(),
+            seen_is_stored,
         }
     }
+}
+
+/// Whether each of these passes has seen at most this many records.
+fn have_seen_at_most<R: Rules, N: GroupRun<R::Rec>>(passes: &[Pass<R, N>], most: u64) -> bool
+    ensures { result ≡ list_all (λ pass. nat_le (length N.opening + length pass.seen) most) passes.now }
+{
+    passes.iter().all(|pass| pass.length() <= most)
 }

@@ -6,7 +6,7 @@ ghost use Rattle.pv_live.specs.Opening.{IsPassCount};
 
 use crate::live::{LIMITS, Udc, edit, fresh, item};
 use pv_edits::Record;
-use pv_group::{GroupRun, Live, open_live};
+use pv_group::{GroupRun, GroupStart, Live, open_live};
 use pv_live::{Pass, Run, Start};
 use pv_memory::MemDisk;
 use pv_node::{Node, Rules};
@@ -15,7 +15,6 @@ use pv_udc::{UdcReply, UdcRequest, UdcRules};
 use std::alloc::Global;
 use std::marker::Brand;
 use std::sync::Wait;
-use std::sync::ledger::Blank;
 use std::test::Fail;
 
 /// The reply to an ask, with the place of the record that it stored.
@@ -71,18 +70,20 @@ fn in_turn<N: GroupRun<Record>, R: Wait>(
     rt: &R,
     alloc: Global,
     node: Udc,
-    start: Start<Record>,
-    taken: Blank,
+    start: GroupStart<Record>,
 ) -> Result<Replies, Fail>
     requires stands { StandsFor ⟦<UdcRules as Rules>⟧ ⟦<MemDisk as Reports>⟧ node N.opening }
     requires rest { (node.hand ≡ None) × (node.state.limits ≡ N.limits) }
     requires passes { N.passes ≡ 3 }
-    requires start { start ≡ record { book = N.book; told = N.told; failed = N.failed; passes = N.passes } }
-    requires taken { (taken.name ≡ N.taken) × (taken.parts ≡ 1) }
+    requires start { start ≡ record {
+      book = N.book;
+      told = N.told;
+      failed = N.failed;
+      passes = N.passes;
+      taken = N.taken;
+    } }
 {
-    let (live, mut passes) = open_live::<UdcRules, MemDisk, N, &R>(
-        rt, alloc, node, 3, start, taken,
-    )?;
+    let (live, mut passes) = open_live::<UdcRules, MemDisk, N, &R>(rt, alloc, node, 3, start)?;
     let mut replies = [None; 8];
     for (turn, reply) in replies.iter_mut().enumerate() {
         if let Some(request) = request_of(turn as u32) {
@@ -120,7 +121,7 @@ fn in_turn_single<N: Run<Record>, R: Wait>(
 fn passes_in_turn_get_the_replies_of_a_live_node(rt: HostRuntime) -> Result<(), Fail> {
     let alloc = rt.alloc();
     let single = in_turn_single::<Brand, _>(&rt, alloc, fresh(alloc, &[])?, Start::new(3))?;
-    let group = in_turn::<Brand, _>(&rt, alloc, fresh(alloc, &[])?, Start::new(3), Blank::new(1))?;
+    let group = in_turn::<Brand, _>(&rt, alloc, fresh(alloc, &[])?, GroupStart::new(3))?;
     assert_eq!(rt; group, single);
     assert_eq!(rt; single[3], Some((UdcReply::Again(0), None)));
     Ok(())
@@ -163,23 +164,26 @@ fn edit_at<N: GroupRun<Record>, R: Wait>(
     rt: &R,
     alloc: Global,
     node: Udc,
-    start: Start<Record>,
-    taken: Blank,
+    start: GroupStart<Record>,
     items: u64,
     asks: u64,
 ) -> Result<Outcome, Fail>
     requires stands { StandsFor ⟦<UdcRules as Rules>⟧ ⟦<MemDisk as Reports>⟧ node N.opening }
     requires rest { (node.hand ≡ None) × (node.state.limits ≡ N.limits) }
     requires passes { N.passes ≡ 2 }
-    requires start { start ≡ record { book = N.book; told = N.told; failed = N.failed; passes = N.passes } }
-    requires taken { (taken.name ≡ N.taken) × (taken.parts ≡ 1) }
+    requires start { start ≡ record {
+      book = N.book;
+      told = N.told;
+      failed = N.failed;
+      passes = N.passes;
+      taken = N.taken;
+    } }
 {
-    let (live, mut passes) = open_live::<UdcRules, MemDisk, N, &R>(
-        rt, alloc, node, 2, start, taken,
-    )?;
+    let (live, mut passes) = open_live::<UdcRules, MemDisk, N, &R>(rt, alloc, node, 2, start)?;
     let (faults, reply) = edit_after(rt, &live, &mut passes, items, asks);
     match live.close(passes) {
         Ok(closed) => Ok((faults, reply, true, closed.node.count())),
+        Err(left) if !left.seen_is_stored => Err("a pass has seen more than is stored".into()),
         Err(left) => match Node::<UdcRules, _>::open(alloc, left.disk, LIMITS) {
             Ok(node) => Ok((faults, reply, false, node.count())),
             Err(_) => Err("not opened".into()),
@@ -196,7 +200,7 @@ fn edited<R: Wait>(
     asks: u64,
 ) -> Result<Outcome, Fail> {
     let node = fresh(alloc, fails)?;
-    edit_at::<Brand, _>(rt, alloc, node, Start::new(2), Blank::new(1), items, asks)
+    edit_at::<Brand, _>(rt, alloc, node, GroupStart::new(2), items, asks)
 }
 
 #[test]

@@ -14,4 +14,4 @@ abbrev pub ghosts-edit_at-N-HistoryName : goal.ghosts-edit_at-N-HistoryName
 ghosts-edit_at-N-HistoryName g a = record { book = a.start.book }
 
 abbrev pub ghosts-edit_at-N-GroupRun : goal.ghosts-edit_at-N-GroupRun
-ghosts-edit_at-N-GroupRun g a = record { taken = a.taken.name }
+ghosts-edit_at-N-GroupRun g a = record { taken = a.start.taken }

@@ -14,7 +14,7 @@ abbrev pub ghosts-in_turn-N-HistoryName : goal.ghosts-in_turn-N-HistoryName
 ghosts-in_turn-N-HistoryName g a = record { book = a.start.book }
 
 abbrev pub ghosts-in_turn-N-GroupRun : goal.ghosts-in_turn-N-GroupRun
-ghosts-in_turn-N-GroupRun g a = record { taken = a.taken.name }
+ghosts-in_turn-N-GroupRun g a = record { taken = a.start.taken }
 
 abbrev pub ghosts-in_turn_single-N-Run : goal.ghosts-in_turn_single-N-Run
 ghosts-in_turn_single-N-Run g a = record {
