@@ -18,8 +18,9 @@ use crate::outbox::Outbox;
 use crate::port::MAX_MARKS;
 use crate::pressing::{Pressing, press};
 use crate::read_ahead::ReadAhead;
+use pv_group::{GroupRun, Live};
 use pv_irc::{CentreRecord, IrcRules};
-use pv_live::{Live, LiveFault, Pass, Run};
+use pv_live::{LiveFault, Pass, Run};
 use pv_node::Rules;
 use pv_outside::{Clock, Disk, Failed, Line};
 use pv_session::{Seat, Step, Why, Wish, a_call_owes_what_is_its_own};
@@ -174,7 +175,7 @@ fn price_owed(seat: &Seat) -> u32 {
 
 /// Has stored what the call owes, and queues the screen of the step that comes of it. Nothing is queued before, so that
 /// a stop while the centre is asked leaves this wish alone without its screen.
-fn store<const C: u8, N: Run<CentreRecord>, D: Disk, H: Wait + Drop, L: Line, W: Wait>(
+fn store<const C: u8, N: GroupRun<CentreRecord>, D: Disk, H: Wait + Drop, L: Line, W: Wait>(
     rt: &W,
     centre: &Live<IrcRules<C>, D, N, H>,
     pass: &mut Pass<IrcRules<C>, N>,
@@ -219,7 +220,7 @@ fn store<const C: u8, N: Run<CentreRecord>, D: Disk, H: Wait + Drop, L: Line, W:
 }
 
 /// Has stored what the call owes, if it owes anything. What is queued is written first.
-fn owe<const C: u8, N: Run<CentreRecord>, D: Disk, H: Wait + Drop, L: Line, W: Wait>(
+fn owe<const C: u8, N: GroupRun<CentreRecord>, D: Disk, H: Wait + Drop, L: Line, W: Wait>(
     rt: &W,
     centre: &Live<IrcRules<C>, D, N, H>,
     pass: &mut Pass<IrcRules<C>, N>,
@@ -247,7 +248,7 @@ fn owe<const C: u8, N: Run<CentreRecord>, D: Disk, H: Wait + Drop, L: Line, W: W
 }
 
 /// Takes a key, and has stored what the call owes then.
-fn turn<const C: u8, N: Run<CentreRecord>, D: Disk, H: Wait + Drop, L: Line, W: Wait>(
+fn turn<const C: u8, N: GroupRun<CentreRecord>, D: Disk, H: Wait + Drop, L: Line, W: Wait>(
     rt: &W,
     centre: &Live<IrcRules<C>, D, N, H>,
     pass: &mut Pass<IrcRules<C>, N>,
@@ -328,7 +329,7 @@ fn next_key<const C: u8, N: Run<CentreRecord>, D: Disk, L: Line>(
 /// Takes keys until the call ends.
 pub(crate) fn talk<
     const C: u8,
-    N: Run<CentreRecord>,
+    N: GroupRun<CentreRecord>,
     D: Disk,
     H: Wait + Drop,
     L: Line,

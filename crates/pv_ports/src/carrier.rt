@@ -11,8 +11,9 @@ use crate::round::Hand;
 use crate::round_end::RoundEnd;
 use crate::trip::Trip;
 use pv_edits::Record;
+use pv_group::{GroupRun, Live};
 use pv_irc::{CentreRecord, IrcRules};
-use pv_live::{Live, Pass, Run};
+use pv_live::{Pass, Run};
 use pv_node::Rules;
 use pv_outside::{Disk, Link, MAX_PACKET};
 use pv_packet::a_packet_is_read_as_it_is_spelled;
@@ -74,7 +75,9 @@ impl<const C: u8, U: Run<Record>, N: Run<CentreRecord>> Carrier<C, U, N> {
         } = hand;
         (udc, centre)
     }
+}
 
+impl<const C: u8, U: GroupRun<Record>, N: GroupRun<CentreRecord>> Carrier<C, U, N> {
     /// One round: looks at both nodes, gives the links what goes next, takes what has come, up to two packets on each
     /// link, and has it stored and acknowledged.
     pub fn carry_round<D: Disk, H: Wait + Drop, L: Link, W: Wait>(

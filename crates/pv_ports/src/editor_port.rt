@@ -6,7 +6,8 @@ use crate::edit_end::EditEnd;
 use crate::log_entry::{LogEnd, LogEntry};
 use crate::session::{Desk, begin, converse};
 use pv_edits::Record;
-use pv_live::{Live, Pass, Run};
+use pv_group::{GroupRun, Live};
+use pv_live::{Pass, Run};
 use pv_node::Rules;
 use pv_outside::{Disk, Line};
 use pv_udc::UdcRules;
@@ -66,7 +67,9 @@ impl<N: Run<Record>> EditorPort<N> {
         let EditorPort { pass, desk: _ } = self;
         pass
     }
+}
 
+impl<N: GroupRun<Record>> EditorPort<N> {
     /// Serves an editor over his connection, from its first byte to the end of the session.
     pub fn serve_editor<D: Disk, H: Wait + Drop, L: Line, W: Wait>(
         &mut self,

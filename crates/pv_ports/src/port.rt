@@ -7,8 +7,9 @@ use crate::log_entry::{LogEnd, LogEntry};
 use crate::outbox::Outbox;
 use crate::pressing::Pressing;
 use crate::read_ahead::ReadAhead;
+use pv_group::{GroupRun, Live};
 use pv_irc::{CentreRecord, IrcRules};
-use pv_live::{Live, Pass, Run};
+use pv_live::{Pass, Run};
 use pv_node::Rules;
 use pv_outside::{Clock, Disk, Line};
 use pv_session::{Seat, Step};
@@ -83,7 +84,9 @@ impl<const C: u8, N: Run<CentreRecord>> CallerPort<C, N> {
         let CallerPort { pass, hand: _ } = self;
         pass
     }
+}
 
+impl<const C: u8, N: GroupRun<CentreRecord>> CallerPort<C, N> {
     /// Serves a caller over his connection, from the dial to the end of the call.
     pub fn serve_call<D: Disk, H: Wait + Drop, L: Line, K: Clock, W: Wait>(
         &mut self,

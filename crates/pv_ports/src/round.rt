@@ -14,8 +14,9 @@ use crate::parcel::{DownParcel, UpParcel, spell};
 use crate::round_end::RoundEnd;
 use crate::trip::Trip;
 use pv_edits::{DownRecord, Record};
+use pv_group::{GroupRun, Live};
 use pv_irc::{CentreRecord, IrcReply, IrcRequest, IrcRules};
-use pv_live::{Live, LiveFault, Pass, Run, Viewer};
+use pv_live::{LiveFault, Pass, Run, Viewer};
 use pv_node::Rules;
 use pv_outside::{Disk, Failed, Link, MAX_PACKET};
 use pv_packet::{Packet, a_packet_is_read_as_it_is_spelled};
@@ -71,7 +72,9 @@ impl<const C: u8, U: Run<Record>, N: Run<CentreRecord>> Hand<C, U, N> {
         self.trip.posting = self.up.end;
         self.trip.item_count = self.up.count;
     }
+}
 
+impl<const C: u8, U: GroupRun<Record>, N: GroupRun<CentreRecord>> Hand<C, U, N> {
     /// Has a record applied, and acknowledges it.
     fn apply<D: Disk, H: Wait + Drop, L: Link, W: Wait>(
         &mut self,

@@ -17,7 +17,8 @@ use crate::typing::{KEPT, NEWLINE, keep};
 use crate::verdict::exchange;
 use pv_editor::{EditorSeat, ROOM, Text};
 use pv_edits::Record;
-use pv_live::{Live, Pass, Run};
+use pv_group::{GroupRun, Live};
+use pv_live::Pass;
 use pv_node::Rules;
 use pv_outside::{Disk, Failed, Line};
 use pv_udc::UdcRules;
@@ -108,7 +109,7 @@ fn cut_off<D: Disk>(end: Option<EditEnd<D>>) -> EditEnd<D>
 }
 
 /// The line has its end: takes it, and sends the reply.
-fn answer<N: Run<Record>, D: Disk, H: Wait + Drop, L: Line, W: Wait>(
+fn answer<N: GroupRun<Record>, D: Disk, H: Wait + Drop, L: Line, W: Wait>(
     rt: &W,
     udc: &Live<UdcRules, D, N, H>,
     pass: &mut Pass<UdcRules, N>,
@@ -138,7 +139,7 @@ fn answer<N: Run<Record>, D: Disk, H: Wait + Drop, L: Line, W: Wait>(
 }
 
 /// Takes a byte of a line, which may be its end.
-fn take<N: Run<Record>, D: Disk, H: Wait + Drop, L: Line, W: Wait>(
+fn take<N: GroupRun<Record>, D: Disk, H: Wait + Drop, L: Line, W: Wait>(
     rt: &W,
     udc: &Live<UdcRules, D, N, H>,
     pass: &mut Pass<UdcRules, N>,
@@ -167,7 +168,7 @@ fn take<N: Run<Record>, D: Disk, H: Wait + Drop, L: Line, W: Wait>(
 }
 
 /// Takes lines until the session ends.
-pub(crate) fn converse<N: Run<Record>, D: Disk, H: Wait + Drop, L: Line, W: Wait>(
+pub(crate) fn converse<N: GroupRun<Record>, D: Disk, H: Wait + Drop, L: Line, W: Wait>(
     rt: &W,
     udc: &Live<UdcRules, D, N, H>,
     pass: &mut Pass<UdcRules, N>,

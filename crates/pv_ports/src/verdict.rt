@@ -7,7 +7,8 @@ use crate::edit_end::EditEnd;
 use crate::typing::text_in_line;
 use pv_editor::{EditStep, EditorSeat, Text, closing_text, reply_text};
 use pv_edits::{EditWish, Record};
-use pv_live::{Live, LiveFault, Pass, Run};
+use pv_group::{GroupRun, Live};
+use pv_live::{LiveFault, Pass, Run};
 use pv_node::Rules;
 use pv_outside::Disk;
 use pv_page::AccountNo;
@@ -42,7 +43,7 @@ fn look<N: Run<Record>, W: Wait>(
 }
 
 /// Asks the Update Centre for an edit.
-fn ask<N: Run<Record>, D: Disk, H: Wait + Drop, W: Wait>(
+fn ask<N: GroupRun<Record>, D: Disk, H: Wait + Drop, W: Wait>(
     rt: &W,
     udc: &Live<UdcRules, D, N, H>,
     pass: &mut Pass<UdcRules, N>,
@@ -78,7 +79,7 @@ fn ask<N: Run<Record>, D: Disk, H: Wait + Drop, W: Wait>(
 }
 
 /// Takes a line, of which this is kept, and has the Update Centre judge the edit that it asks for.
-pub(crate) fn exchange<N: Run<Record>, D: Disk, H: Wait + Drop, W: Wait>(
+pub(crate) fn exchange<N: GroupRun<Record>, D: Disk, H: Wait + Drop, W: Wait>(
     rt: &W,
     udc: &Live<UdcRules, D, N, H>,
     pass: &mut Pass<UdcRules, N>,

@@ -4,8 +4,8 @@ ghost use Rattle.pv_node.specs.Standing.{StandsFor};
 
 use super::nodes::{LIMITS, apply_first, fresh, line_of, name, priced_frame};
 use Sent::{Alone, Frame, Row};
+use pv_group::{GroupRun, GroupStart, open_live};
 use pv_irc::{CentreRecord, IrcRules};
-use pv_live::{Run, Start, open_live};
 use pv_memory::{MemDisk, MemLine, SetClock};
 use pv_node::{Opened, Rules};
 use pv_outside::Reports;
@@ -345,7 +345,7 @@ fn served<R: Wait + Abort>(rt: &R, alloc: Global, case: Case<'_>) -> Result<(), 
         rt,
         alloc,
         centre,
-        Start::new(1),
+        GroupStart::new(1),
         case.applied,
         &mut line,
     )?;
@@ -359,11 +359,11 @@ fn served<R: Wait + Abort>(rt: &R, alloc: Global, case: Case<'_>) -> Result<(), 
 }
 
 /// Serves the call at this node, and returns how it ended, how many records there are then, and what a log may have of it.
-fn called<N: Run<CentreRecord> + Send + Sync, R: Wait>(
+fn called<N: GroupRun<CentreRecord> + Send + Sync, R: Wait>(
     rt: &R,
     alloc: Global,
     centre: Opened<IrcRules<0>, MemDisk>,
-    start: Start<CentreRecord>,
+    start: GroupStart<CentreRecord>,
     applied: u8,
     line: &mut MemLine,
 ) -> Result<(Ended, u64, LogEntry), Fail>
@@ -374,6 +374,7 @@ fn called<N: Run<CentreRecord> + Send + Sync, R: Wait>(
       told = N.told;
       failed = N.failed;
       passes = N.passes;
+      taken = N.taken;
     } }
     requires line { line.old.source.ended ≡ false }
 {

@@ -10,8 +10,9 @@ use pv_charge::Line;
 use pv_edits::{EditWish, Record};
 use pv_fields::Out;
 use pv_frame::Frame;
+use pv_group::{GroupRun, GroupStart, Live, open_live};
 use pv_irc::{CentreRecord, IrcRequest, IrcRules};
-use pv_live::{Live, Pass, Run, Start, open_live};
+use pv_live::Pass;
 use pv_memory::{MemDisk, Pipe};
 use pv_node::{Opened, Rules};
 use pv_outside::{Limits, Link, MAX_PACKET, Reports};
@@ -133,34 +134,10 @@ const CROWDED: [Case; 3] = [
     },
 ];
 
-/// Calls of the centre's disk that fail while a record is stored, and what comes of the rounds: seven calls are those of
-/// the formatting and the opening. The next round settles what is in hand: it is stored if only the last call failed.
-const CENTRE_FAULTS: [(&[u64], &[Came]); 4] = [
-    (&[7], &[DiskFault, Moved(1, 0), Idle]),
-    (&[8], &[DiskFault, Moved(1, 0), Idle]),
-    (&[9], &[DiskFault, Moved(1, 0), Idle]),
-    (&[10], &[DiskFault, Moved(0, 0), Idle]),
-];
-
-/// Calls of the Update Centre's disk that fail while an item is stored, and what comes of the rounds.
-const UPDATE_FAULTS: [(&[u64], &[Came]); 4] = [
-    (
-        &[7],
-        &[DiskFault, Moved(0, 1), Moved(1, 0), Moved(0, 0), Idle],
-    ),
-    (
-        &[8],
-        &[DiskFault, Moved(0, 1), Moved(1, 0), Moved(0, 0), Idle],
-    ),
-    (
-        &[9],
-        &[DiskFault, Moved(0, 1), Moved(1, 0), Moved(0, 0), Idle],
-    ),
-    (
-        &[10],
-        &[DiskFault, Moved(0, 0), Moved(1, 0), Moved(0, 0), Idle],
-    ),
-];
+/// Calls of a disk that fail while a record or an item is stored: seven calls are those of the formatting and the
+/// opening, and four store it. What was decided stays decided, whichever of them fails: the next round has it stored,
+/// and the answer is that it is there.
+const STORE_FAULTS: [&[u64]; 4] = [&[7], &[8], &[9], &[10]];
 
 /// What is carried, the calls of the link down and of the link up that fail, and what comes of the rounds. A record takes
 /// a give and two takes of each link, since its acknowledgement goes up: each of them fails once. Then the two gives
@@ -204,18 +181,18 @@ fn node_without_room_is_told(rt: HostRuntime) -> Result<(), Fail> {
 
 #[test]
 fn disk_that_fails_loses_nothing(rt: HostRuntime) -> Result<(), Fail> {
-    for (centre_disk, rounds) in CENTRE_FAULTS {
+    for centre_disk in STORE_FAULTS {
         let case = Case {
             centre_disk,
-            rounds,
+            rounds: &[DiskFault, Moved(0, 0), Idle],
             ..RECORD
         };
         piped(&rt, rt.alloc(), case, &[], &[])?;
     }
-    for (udc_disk, rounds) in UPDATE_FAULTS {
+    for udc_disk in STORE_FAULTS {
         let case = Case {
             udc_disk,
-            rounds,
+            rounds: &[DiskFault, Moved(0, 0), Moved(1, 0), Moved(0, 0), Idle],
             ..ITEM
         };
         piped(&rt, rt.alloc(), case, &[], &[])?;
@@ -330,9 +307,9 @@ fn carried<L: Link, R: Wait + Abort>(
         rt,
         alloc,
         udc,
-        Start::new(1),
+        GroupStart::new(1),
         centre,
-        Start::new(1),
+        GroupStart::new(1),
         case,
         down,
         up,
@@ -344,13 +321,18 @@ fn carried<L: Link, R: Wait + Abort>(
 
 /// Makes the rounds between these nodes. Returns whether each came to what was expected, and how many records there are
 /// then.
-fn rounds<U: Run<Record> + Send + Sync, N: Run<CentreRecord> + Send + Sync, L: Link, R: Wait>(
+fn rounds<
+    U: GroupRun<Record> + Send + Sync,
+    N: GroupRun<CentreRecord> + Send + Sync,
+    L: Link,
+    R: Wait,
+>(
     rt: &R,
     alloc: Global,
     udc: Opened<UdcRules, MemDisk>,
-    udc_start: Start<Record>,
+    udc_start: GroupStart<Record>,
     centre: Opened<IrcRules<0>, MemDisk>,
-    centre_start: Start<CentreRecord>,
+    centre_start: GroupStart<CentreRecord>,
     case: Case,
     down: &mut L,
     up: &mut L,
@@ -362,6 +344,7 @@ fn rounds<U: Run<Record> + Send + Sync, N: Run<CentreRecord> + Send + Sync, L: L
       told = U.told;
       failed = U.failed;
       passes = U.passes;
+      taken = U.taken;
     } }
 
     // The centre.
@@ -372,6 +355,7 @@ fn rounds<U: Run<Record> + Send + Sync, N: Run<CentreRecord> + Send + Sync, L: L
       told = N.told;
       failed = N.failed;
       passes = N.passes;
+      taken = N.taken;
     } }
 {
     let (udc, mut udc_passes) = open_live::<UdcRules, MemDisk, U, &R>(
@@ -414,7 +398,7 @@ fn edit(q: u32) -> Option<UdcRequest>
 }
 
 /// Has the first `count` edits of the operator stored.
-fn store_edits<U: Run<Record>, H: Wait + Drop, W: Wait>(
+fn store_edits<U: GroupRun<Record>, H: Wait + Drop, W: Wait>(
     rt: &W,
     udc: &Live<UdcRules, MemDisk, U, H>,
     pass: &mut Pass<UdcRules, U>,
@@ -442,7 +426,7 @@ fn charge(number: u32) -> Result<Item, Fail> {
 }
 
 /// Has this many charges kept.
-fn keep_items<N: Run<CentreRecord>, H: Wait + Drop, W: Wait>(
+fn keep_items<N: GroupRun<CentreRecord>, H: Wait + Drop, W: Wait>(
     rt: &W,
     centre: &Live<IrcRules<0>, MemDisk, N, H>,
     pass: &mut Pass<IrcRules<0>, N>,

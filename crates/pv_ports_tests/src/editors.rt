@@ -4,7 +4,7 @@ ghost use Rattle.pv_node.specs.Standing.{StandsFor};
 
 use super::nodes::{LIMITS, fresh, line_of};
 use pv_edits::Record;
-use pv_live::{Run, Start, open_live};
+use pv_group::{GroupRun, GroupStart, open_live};
 use pv_memory::{MemDisk, MemLine};
 use pv_node::{Opened, Rules};
 use pv_outside::Reports;
@@ -313,16 +313,16 @@ fn session<R: Wait>(
     requires { line.old.source.ended ≡ false }
 {
     let udc = fresh::<UdcRules>(alloc, LIMITS, disk)?;
-    one_session::<Brand, _>(rt, alloc, udc, Start::new(1), line, marks)
+    one_session::<Brand, _>(rt, alloc, udc, GroupStart::new(1), line, marks)
 }
 
 /// Serves the session at this node, and returns how it ended, whether these are its marks, and how many records there are
 /// then.
-fn one_session<N: Run<Record> + Send + Sync, R: Wait>(
+fn one_session<N: GroupRun<Record> + Send + Sync, R: Wait>(
     rt: &R,
     alloc: Global,
     udc: Opened<UdcRules, MemDisk>,
-    start: Start<Record>,
+    start: GroupStart<Record>,
     line: &mut MemLine,
     marks: &[u64],
 ) -> Result<(Ended, bool, u64), Fail>
@@ -333,6 +333,7 @@ fn one_session<N: Run<Record> + Send + Sync, R: Wait>(
       told = N.told;
       failed = N.failed;
       passes = N.passes;
+      taken = N.taken;
     } }
     requires line { line.old.source.ended ≡ false }
 {

@@ -4,8 +4,9 @@ ghost use Rattle.pv_node.specs.Standing.{StandsFor};
 
 use super::nodes::{LIMITS, apply, apply_first, frame_with, fresh, line_of, name, put};
 use pv_edits::DownRecord;
+use pv_group::{GroupRun, GroupStart, Live, open_live};
 use pv_irc::{CentreRecord, IrcRules};
-use pv_live::{Live, Pass, Run, Start, open_live};
+use pv_live::Pass;
 use pv_memory::{MemDisk, MemLine, SetClock};
 use pv_node::{Opened, Rules};
 use pv_outside::{Failed, Line, Reports, Sink, Source};
@@ -22,7 +23,7 @@ const AHEAD: usize = 256;
 
 /// A caller's line: before its second read a record is applied at his centre, by a pass of its own.
 #[derive(Drop)]
-struct LateLine<'a, N: Run<CentreRecord>, H: Wait + Drop, W: Wait> {
+struct LateLine<'a, N: GroupRun<CentreRecord>, H: Wait + Drop, W: Wait> {
     rt: &'a W,
     centre: &'a Live<IrcRules<0>, MemDisk, N, H>,
     pass: Pass<IrcRules<0>, N>,
@@ -31,7 +32,7 @@ struct LateLine<'a, N: Run<CentreRecord>, H: Wait + Drop, W: Wait> {
     line: MemLine,
 }
 
-impl<'a, N: Run<CentreRecord>, H: Wait + Drop, W: Wait> Source for LateLine<'a, N, H, W> {
+impl<'a, N: GroupRun<CentreRecord>, H: Wait + Drop, W: Wait> Source for LateLine<'a, N, H, W> {
     ghost use Rattle.std.specs.Prelude.{Some};
 
     ghost read_faults = { λ l. l.line.source.plan.faults };
@@ -47,7 +48,7 @@ impl<'a, N: Run<CentreRecord>, H: Wait + Drop, W: Wait> Source for LateLine<'a, 
     }
 }
 
-impl<'a, N: Run<CentreRecord>, H: Wait + Drop, W: Wait> Sink for LateLine<'a, N, H, W> {
+impl<'a, N: GroupRun<CentreRecord>, H: Wait + Drop, W: Wait> Sink for LateLine<'a, N, H, W> {
     ghost use Rattle.std.specs.Prelude.{Some};
 
     ghost write_faults = { λ l. l.line.sink.plan.faults };
@@ -61,7 +62,7 @@ impl<'a, N: Run<CentreRecord>, H: Wait + Drop, W: Wait> Sink for LateLine<'a, N,
     }
 }
 
-impl<'a, N: Run<CentreRecord>, H: Wait + Drop, W: Wait> Line for LateLine<'a, N, H, W> {
+impl<'a, N: GroupRun<CentreRecord>, H: Wait + Drop, W: Wait> Line for LateLine<'a, N, H, W> {
     fn hear(&mut self, into: &mut [u8]) -> Result<usize, Failed> {
         self.reads = self.reads.saturating_add(1);
         if self.reads == 2 {
@@ -78,7 +79,7 @@ impl<'a, N: Run<CentreRecord>, H: Wait + Drop, W: Wait> Line for LateLine<'a, N,
 #[test]
 fn second_look_finds_what_was_applied_since(rt: HostRuntime) -> Result<(), Fail> {
     let centre = fresh::<IrcRules<0>>(rt.alloc(), LIMITS, &[])?;
-    let shown = look_twice::<Brand, _>(&rt, rt.alloc(), centre, Start::new(2))?;
+    let shown = look_twice::<Brand, _>(&rt, rt.alloc(), centre, GroupStart::new(2))?;
     assert_eq!(rt; shown, (true, true));
     Ok(())
 }
@@ -92,11 +93,11 @@ fn is_last(sent: &[u8], letter: u8) -> Result<bool, Fail> {
 
 /// A caller keys `*1#` twice, and the frame changes before the second is read. Returns whether the call ended with its
 /// line, and whether he saw the later frame last.
-fn look_twice<N: Run<CentreRecord> + Send + Sync, R: Wait>(
+fn look_twice<N: GroupRun<CentreRecord> + Send + Sync, R: Wait>(
     rt: &R,
     alloc: Global,
     centre: Opened<IrcRules<0>, MemDisk>,
-    start: Start<CentreRecord>,
+    start: GroupStart<CentreRecord>,
 ) -> Result<(bool, bool), Fail>
     requires stands { StandsFor ⟦<IrcRules<0> as Rules>⟧ ⟦<MemDisk as Reports>⟧ centre.node N.opening }
     requires rest { (centre.node.hand ≡ None) × (centre.node.state.limits ≡ N.limits) × (2 ≡ N.passes) }
@@ -105,6 +106,7 @@ fn look_twice<N: Run<CentreRecord> + Send + Sync, R: Wait>(
       told = N.told;
       failed = N.failed;
       passes = N.passes;
+      taken = N.taken;
     } }
 {
     let (live, mut passes) = open_live::<IrcRules<0>, MemDisk, N, &R>(

@@ -7,8 +7,9 @@ use super::nodes::{LIMITS, apply_first, fresh};
 use pv_editor::{EditStep, EditorSeat};
 use pv_edits::{EditWish, Record};
 use pv_frame::Frame;
+use pv_group::{GroupRun, GroupStart, open_live};
 use pv_irc::{CentreRecord, IrcRules};
-use pv_live::{Pass, Run, Start, open_live};
+use pv_live::{Pass, Run};
 use pv_memory::MemDisk;
 use pv_node::{Opened, Rules};
 use pv_outside::Reports;
@@ -34,7 +35,7 @@ struct Keyed {
 #[test]
 fn key_is_answered_from_its_own_look(rt: HostRuntime) -> Result<(), Fail> {
     let centre = fresh::<IrcRules<0>>(rt.alloc(), LIMITS, &[])?;
-    let keyed = key_late::<Brand, _>(&rt, rt.alloc(), centre, Start::new(2))?;
+    let keyed = key_late::<Brand, _>(&rt, rt.alloc(), centre, GroupStart::new(2))?;
     let known = Keyed {
         first_is_quiet: true,
         last_is_owed: true,
@@ -73,11 +74,11 @@ fn press_all<N: Run<CentreRecord>>(
 
 /// The account and the password are keyed but for the last key, the account is applied by another pass, and the last key
 /// is keyed.
-fn key_late<N: Run<CentreRecord> + Send + Sync, R: Wait>(
+fn key_late<N: GroupRun<CentreRecord> + Send + Sync, R: Wait>(
     rt: &R,
     alloc: Global,
     centre: Opened<IrcRules<0>, MemDisk>,
-    start: Start<CentreRecord>,
+    start: GroupStart<CentreRecord>,
 ) -> Result<Keyed, Fail>
     requires stands { StandsFor ⟦<IrcRules<0> as Rules>⟧ ⟦<MemDisk as Reports>⟧ centre.node N.opening }
     requires rest { (centre.node.hand ≡ None) × (centre.node.state.limits ≡ N.limits) × (2 ≡ N.passes) }
@@ -86,6 +87,7 @@ fn key_late<N: Run<CentreRecord> + Send + Sync, R: Wait>(
       told = N.told;
       failed = N.failed;
       passes = N.passes;
+      taken = N.taken;
     } }
 {
     let (live, mut passes) = open_live::<IrcRules<0>, MemDisk, N, &R>(
@@ -114,7 +116,7 @@ fn key_late<N: Run<CentreRecord> + Send + Sync, R: Wait>(
 #[test]
 fn line_is_answered_from_its_own_look(rt: HostRuntime) -> Result<(), Fail> {
     let udc = fresh::<UdcRules>(rt.alloc(), LIMITS, &[])?;
-    let said = say_late::<Brand, _>(&rt, rt.alloc(), udc, Start::new(2))?;
+    let said = say_late::<Brand, _>(&rt, rt.alloc(), udc, GroupStart::new(2))?;
     assert_eq!(rt; said, (true, true, 1));
     Ok(())
 }
@@ -156,11 +158,11 @@ fn is_reply(step: &EditStep, reply: &[u8]) -> bool {
 
 /// The operator asks for his last edit before he is logged on, and again after another pass has stored his first.
 /// Returns whether each reply is right, and how many records his pass saw.
-fn say_late<N: Run<Record> + Send + Sync, R: Wait>(
+fn say_late<N: GroupRun<Record> + Send + Sync, R: Wait>(
     rt: &R,
     alloc: Global,
     udc: Opened<UdcRules, MemDisk>,
-    start: Start<Record>,
+    start: GroupStart<Record>,
 ) -> Result<(bool, bool, u64), Fail>
     requires stands { StandsFor ⟦<UdcRules as Rules>⟧ ⟦<MemDisk as Reports>⟧ udc.node N.opening }
     requires rest { (udc.node.hand ≡ None) × (udc.node.state.limits ≡ N.limits) × (2 ≡ N.passes) }
@@ -169,6 +171,7 @@ fn say_late<N: Run<Record> + Send + Sync, R: Wait>(
       told = N.told;
       failed = N.failed;
       passes = N.passes;
+      taken = N.taken;
     } }
 {
     let (live, mut passes) = open_live::<UdcRules, MemDisk, N, &R>(rt, alloc, udc.node, 2, start)?;

@@ -6,9 +6,10 @@ ghost use Rattle.pv_node.specs.Trail.{trail_records};
 use pv_account::{Account, Groups, digest};
 use pv_edits::{DownRecord, Record};
 use pv_frame::{CheckedFrame, Frame};
+use pv_group::{GroupRun, Live};
 use pv_irc::{CentreRecord, IrcRequest, IrcRules};
 use pv_journal::format;
-use pv_live::{Live, Pass, Run};
+use pv_live::Pass;
 use pv_memory::{MemDisk, MemLine, MemSink, MemSource};
 use pv_node::{Node, Opened, Rules};
 use pv_outside::{Limits, Reports};
@@ -111,7 +112,7 @@ fn made() -> Result<DownRecord, Fail> {
 }
 
 /// Has a record applied at a centre, and returns whether it was stored.
-pub fn apply<N: Run<CentreRecord>, H: Wait + Drop, W: Wait>(
+pub fn apply<N: GroupRun<CentreRecord>, H: Wait + Drop, W: Wait>(
     rt: &W,
     centre: &Live<IrcRules<0>, MemDisk, N, H>,
     pass: &mut Pass<IrcRules<0>, N>,
@@ -135,7 +136,7 @@ fn record_at(n: u8, price: u16) -> Result<DownRecord, Fail> {
 }
 
 /// Has this many of the records applied, from the first on. The frames are at this price.
-pub fn apply_first<N: Run<CentreRecord>, H: Wait + Drop, W: Wait>(
+pub fn apply_first<N: GroupRun<CentreRecord>, H: Wait + Drop, W: Wait>(
     rt: &W,
     centre: &Live<IrcRules<0>, MemDisk, N, H>,
     pass: &mut Pass<IrcRules<0>, N>,

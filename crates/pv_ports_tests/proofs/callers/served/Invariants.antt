@@ -13,3 +13,6 @@ ghosts-called-N-Run g a = record {
 
 abbrev pub ghosts-called-N-HistoryName : goal.ghosts-called-N-HistoryName
 ghosts-called-N-HistoryName g a = record { book = a.start.book }
+
+abbrev pub ghosts-called-N-GroupRun : goal.ghosts-called-N-GroupRun
+ghosts-called-N-GroupRun g a = record { taken = a.start.taken }

@@ -14,6 +14,9 @@ ghosts-rounds-U-Run g a = record {
 abbrev pub ghosts-rounds-U-HistoryName : goal.ghosts-rounds-U-HistoryName
 ghosts-rounds-U-HistoryName g a = record { book = a.udc_start.book }
 
+abbrev pub ghosts-rounds-U-GroupRun : goal.ghosts-rounds-U-GroupRun
+ghosts-rounds-U-GroupRun g a = record { taken = a.udc_start.taken }
+
 abbrev pub ghosts-rounds-N-Run : goal.ghosts-rounds-N-Run
 ghosts-rounds-N-Run g a = record {
   opening = trail_records a.centre.trail.items;
@@ -25,3 +28,6 @@ ghosts-rounds-N-Run g a = record {
 
 abbrev pub ghosts-rounds-N-HistoryName : goal.ghosts-rounds-N-HistoryName
 ghosts-rounds-N-HistoryName g a = record { book = a.centre_start.book }
+
+abbrev pub ghosts-rounds-N-GroupRun : goal.ghosts-rounds-N-GroupRun
+ghosts-rounds-N-GroupRun g a = record { taken = a.centre_start.taken }

@@ -13,3 +13,6 @@ ghosts-one_session-N-Run g a = record {
 
 abbrev pub ghosts-one_session-N-HistoryName : goal.ghosts-one_session-N-HistoryName
 ghosts-one_session-N-HistoryName g a = record { book = a.start.book }
+
+abbrev pub ghosts-one_session-N-GroupRun : goal.ghosts-one_session-N-GroupRun
+ghosts-one_session-N-GroupRun g a = record { taken = a.start.taken }

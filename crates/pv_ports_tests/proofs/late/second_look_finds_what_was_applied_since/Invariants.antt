@@ -13,3 +13,6 @@ ghosts-look_twice-N-Run g a = record {
 
 abbrev pub ghosts-look_twice-N-HistoryName : goal.ghosts-look_twice-N-HistoryName
 ghosts-look_twice-N-HistoryName g a = record { book = a.start.book }
+
+abbrev pub ghosts-look_twice-N-GroupRun : goal.ghosts-look_twice-N-GroupRun
+ghosts-look_twice-N-GroupRun g a = record { taken = a.start.taken }

@@ -13,3 +13,6 @@ ghosts-key_late-N-Run g a = record {
 
 abbrev pub ghosts-key_late-N-HistoryName : goal.ghosts-key_late-N-HistoryName
 ghosts-key_late-N-HistoryName g a = record { book = a.start.book }
+
+abbrev pub ghosts-key_late-N-GroupRun : goal.ghosts-key_late-N-GroupRun
+ghosts-key_late-N-GroupRun g a = record { taken = a.start.taken }

@@ -13,3 +13,6 @@ ghosts-say_late-N-Run g a = record {
 
 abbrev pub ghosts-say_late-N-HistoryName : goal.ghosts-say_late-N-HistoryName
 ghosts-say_late-N-HistoryName g a = record { book = a.start.book }
+
+abbrev pub ghosts-say_late-N-GroupRun : goal.ghosts-say_late-N-GroupRun
+ghosts-say_late-N-GroupRun g a = record { taken = a.start.taken }
