@@ -1,5 +1,5 @@
 -- Rounds that are made one after another.
-use Rattle.std.proofs.Common.{◌≡◌, ℕ, Bool, true, false, List, [], ◌∷◌, Option, Some, None, refl, ap, sym, ◌∙◌, subst, arith, true≢false}
+use Rattle.std.proofs.Common.{◌≡◌, ℕ, Bool, true, false, List, [], ◌∷◌, Option, refl, ap, sym, ◌∙◌, subst, arith, true≢false}
 use Rattle.std.specs.Prelude.{◌||◌}
 use Rattle.pv_outside.specs.declared.limits.Limits.{Limits}
 use Rattle.pv_outside.specs.declared.link.Link as links
@@ -15,10 +15,9 @@ use Rattle.pv_udc.specs.declared.request.UdcRequest.{UdcRequest}
 use Rattle.pv_ports.specs.Outcomes.{HasMemory, HaveSeenTold}
 use Rattle.pv_ports.specs.Round.{CarrierState, Stop}
 use Rattle.pv_ports.specs.declared.round_end.RoundEnd.TheVariants as stops
-use Rattle.pv_service.specs.Chain.{IsChain, any_is}
+use Rattle.pv_service.specs.Chain.{any_is}
 use Rattle.pv_service.specs.Rounds.{CarrierPlace, RoundGoesOn, LastRoundIs, round_lacked_memory, HoldsRight, MakesRound, MakesRounds, HasMadeSome, HasCarried}
 use Rattle.pv_service.specs.declared.carrier_report.CarrierFault.{CarrierFault}
-use Rattle.pv_service.specs.declared.carrier_report.CarrierReport.{CarrierReport}
 
 -- neither of two is so, if not one of them is
 neither : (a b : Bool) → (a || b) ≡ false → (a ≡ false) × (b ≡ false)

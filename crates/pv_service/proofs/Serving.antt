@@ -1,12 +1,11 @@
 -- Lines that are served one after another.
-use Rattle.std.proofs.Common.{◌≡◌, ℕ, ◌+◌, ◌<◌, ◌≤◌, Bool, false, List, [], ◌∷◌, ◌++◌, length, Option, Some, None, refl, ap, sym, ◌∙◌, subst, arith, append_assoc, append-nil, length-append}
+use Rattle.std.proofs.Common.{◌≡◌, ℕ, ◌+◌, ◌<◌, Bool, false, List, [], ◌∷◌, ◌++◌, length, Option, Some, None, refl, ap, sym, ◌∙◌, subst, arith, append_assoc, append-nil, length-append}
 use Rattle.std.specs.Prelude.{◌||◌}
 use Rattle.std.specs.Option.{option_map}
 use Rattle.pv_service.specs.Chain.{IsChain}
 use Rattle.pv_service.specs.Doors.{DoorReport, GivesBack, LetsNoneIn}
 use Rattle.pv_service.specs.Serving.{Served, lines_in, ServesNext, HasServedSome, HasServed}
 use Rattle.pv_service.specs.declared.port_report.PortFault.TheVariants as faults
-use Rattle.pv_service.specs.declared.port_report.PortReport.{PortReport}
 
 -- what a door can report, with a connection more
 back_more : {L : Type 0} (old : Option (List L)) (earlier : List L) (line : L)

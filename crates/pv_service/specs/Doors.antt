@@ -1,5 +1,5 @@
 -- What a door reports, and what becomes of it while connections are served.
-use Rattle.std.specs.Prelude.{◌≡◌, ℕ, ◌+◌, ◌≤◌, List, [], ◌∷◌, ◌++◌, length, Option}
+use Rattle.std.specs.Prelude.{◌≡◌, ℕ, ◌+◌, ◌≤◌, List, ◌++◌, length, Option}
 use Rattle.std.specs.Option.{option_map}
 use Rattle.pv_outside.specs.Counts.{Rose}
 

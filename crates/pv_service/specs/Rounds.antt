@@ -14,8 +14,7 @@ use Rattle.pv_udc.specs.declared.request.UdcRequest.{UdcRequest}
 use Rattle.pv_ports.specs.Cargo.{WentThrough, HasBrought}
 use Rattle.pv_ports.specs.Outcomes.{HasRoundCause, HasMemory, HaveSeenTold}
 use Rattle.pv_ports.specs.Rights.{HoldRightPackets}
-use Rattle.pv_ports.specs.Round.{CarrierState, Stop, round_stop, IsRound}
-use Rattle.pv_ports.specs.declared.round_end.RoundEnd.{RoundEnd}
+use Rattle.pv_ports.specs.Round.{CarrierState, Stop, IsRound}
 use Rattle.pv_ports.specs.declared.round_end.RoundEnd.TheVariants as stops
 use Rattle.pv_service.specs.Chain.{IsChain, any_is}
 use Rattle.pv_service.specs.declared.carrier_report.CarrierFault.{CarrierFault}

@@ -8,8 +8,9 @@ ghost use Rattle.pv_service.specs.declared.caller_stand.TheConstants.{MAX_ACCEPT
 use crate::log::Log;
 use crate::port_report::{PortFault, PortReport};
 use crate::signals::Signals;
+use pv_group::{GroupRun, Live};
 use pv_irc::{CentreRecord, IrcRules};
-use pv_live::{Live, Run};
+use pv_live::Run;
 use pv_node::Rules;
 use pv_outside::{Clock, Disk, Door, Failed, Sink, Source};
 use pv_ports::{CallEnd, CallerPort};
@@ -57,7 +58,7 @@ impl<const C: u8, N: Run<CentreRecord>, D: Disk, O: Door + Drop> CallerStand<C, 
 /// Accepts the next connection, serves it by a call, and gives it back. If the door fails, nothing was served.
 fn serve_next<
     const C: u8,
-    N: Run<CentreRecord>,
+    N: GroupRun<CentreRecord>,
     D: Disk,
     H: Wait + Drop,
     O: Door + Log,
@@ -104,7 +105,7 @@ fn failure_in<D: Disk>(end: CallEnd<D>, memory: &mut bool) -> Option<D::Failure>
 /// Serves the connections of a door, one after the other.
 fn serve_lines<
     const C: u8,
-    N: Run<CentreRecord>,
+    N: GroupRun<CentreRecord>,
     D: Disk,
     H: Wait + Drop,
     O: Door + Log,
@@ -147,7 +148,7 @@ fn serve_lines<
 /// fails. One that was accepted is always given back. A call that finds no memory ends, and the next one is served.
 pub fn serve_callers<
     const C: u8,
-    N: Run<CentreRecord>,
+    N: GroupRun<CentreRecord>,
     D: Disk,
     H: Wait + Drop,
     O: Door + Log + Drop,

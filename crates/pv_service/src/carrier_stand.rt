@@ -5,8 +5,9 @@ use crate::after_round::{AfterRound, after_round};
 use crate::carrier_report::CarrierReport;
 use crate::signals::Signals;
 use pv_edits::Record;
+use pv_group::{GroupRun, Live};
 use pv_irc::{CentreRecord, IrcRules};
-use pv_live::{Live, Run};
+use pv_live::Run;
 use pv_node::Rules;
 use pv_outside::{Disk, Link};
 use pv_ports::Carrier;
@@ -62,8 +63,8 @@ impl<const C: u8, U: Run<Record>, N: Run<CentreRecord>, D: Disk, L: Link + Drop>
 /// Makes rounds until the ports are done and a round has nothing more to bring, or until a link or a disk fails.
 fn make_rounds<
     const C: u8,
-    U: Run<Record>,
-    N: Run<CentreRecord>,
+    U: GroupRun<Record>,
+    N: GroupRun<CentreRecord>,
     D: Disk,
     H: Wait + Drop,
     L: Link,
@@ -104,8 +105,8 @@ fn make_rounds<
 /// A carrier with nothing to bring sleeps. A round that finds no memory ends, and the next one is made after a sleep.
 pub fn carry_rounds<
     const C: u8,
-    U: Run<Record>,
-    N: Run<CentreRecord>,
+    U: GroupRun<Record>,
+    N: GroupRun<CentreRecord>,
     D: Disk,
     H: Wait + Drop,
     L: Link + Drop,

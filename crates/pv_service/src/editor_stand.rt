@@ -10,7 +10,8 @@ use crate::port_report::{PortFault, PortReport};
 use crate::ringing_line::RingingLine;
 use crate::signals::Signals;
 use pv_edits::Record;
-use pv_live::{Live, Run};
+use pv_group::{GroupRun, Live};
+use pv_live::Run;
 use pv_node::Rules;
 use pv_outside::{Disk, Door, Failed, Sink, Source};
 use pv_ports::{EditEnd, EditorPort};
@@ -55,7 +56,7 @@ impl<N: Run<Record>, D: Disk, O: Door + Drop> EditorStand<N, D, O> {
 
 /// Accepts the next connection, serves it by a session, and gives it back. If the door fails, nothing was served. Each
 /// edit that is acknowledged on it wakes the carriers.
-fn serve_next<N: Run<Record>, D: Disk, H: Wait + Drop, O: Door + Log, W: Wait>(
+fn serve_next<N: GroupRun<Record>, D: Disk, H: Wait + Drop, O: Door + Log, W: Wait>(
     rt: &W,
     udc: &Live<UdcRules, D, N, H>,
     signals: &Signals,
@@ -99,7 +100,7 @@ fn failure_in<D: Disk>(end: EditEnd<D>, memory: &mut bool) -> Option<D::Failure>
 }
 
 /// Serves the connections of a door, one after the other.
-fn serve_lines<N: Run<Record>, D: Disk, H: Wait + Drop, O: Door + Log, W: Wait>(
+fn serve_lines<N: GroupRun<Record>, D: Disk, H: Wait + Drop, O: Door + Log, W: Wait>(
     rt: &W,
     udc: &Live<UdcRules, D, N, H>,
     signals: &Signals,
@@ -134,7 +135,7 @@ fn serve_lines<N: Run<Record>, D: Disk, H: Wait + Drop, O: Door + Log, W: Wait>(
 /// Serves the connections of a stand until there were as many as it is to serve, or until its door or the Update
 /// Centre's disk fails. One that was accepted is always given back. A session that finds no memory ends, and the next
 /// one is served.
-pub fn serve_editors<N: Run<Record>, D: Disk, H: Wait + Drop, O: Door + Log + Drop, W: Wait>(
+pub fn serve_editors<N: GroupRun<Record>, D: Disk, H: Wait + Drop, O: Door + Log + Drop, W: Wait>(
     rt: &W,
     udc: &Live<UdcRules, D, N, H>,
     signals: &Signals,

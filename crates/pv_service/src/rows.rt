@@ -20,8 +20,8 @@ use crate::editor_stand::{EditorStand, serve_editors};
 use crate::log::Log;
 use crate::signals::Signals;
 use pv_edits::Record;
+use pv_group::{GroupRun, Live};
 use pv_irc::{CentreRecord, IrcRules};
-use pv_live::{Live, Run};
 use pv_node::Rules;
 use pv_outside::{Clock, Disk, Door, Link, Sink, Source};
 use pv_udc::UdcRules;
@@ -31,7 +31,7 @@ use std::thread::{Threads, for_each_mut};
 /// Serves the callers' stands of a centre, each in a thread of its own.
 pub fn run_callers<
     const C: u8,
-    N: Run<CentreRecord> + Send + Sync,
+    N: GroupRun<CentreRecord> + Send + Sync,
     D: Disk + Drop + Send,
     H: Wait + Drop + Send + Sync,
     O: Door + Log + Drop + Send,
@@ -73,7 +73,7 @@ where
 
 /// Serves the editors' stands of the Update Centre, each in a thread of its own.
 pub fn run_editors<
-    N: Run<Record> + Send + Sync,
+    N: GroupRun<Record> + Send + Sync,
     D: Disk + Drop + Send,
     H: Wait + Drop + Send + Sync,
     O: Door + Log + Drop + Send,
@@ -110,8 +110,8 @@ where
 /// carrier, it makes its rounds once they are served.
 pub fn run_centre<
     const C: u8,
-    U: Run<Record> + Send + Sync,
-    N: Run<CentreRecord> + Send + Sync,
+    U: GroupRun<Record> + Send + Sync,
+    N: GroupRun<CentreRecord> + Send + Sync,
     D: Disk + Drop + Send,
     H: Wait + Drop + Send + Sync,
     O: Door + Log + Drop + Send,
@@ -162,8 +162,8 @@ where
 /// Carries for a centre, with something else beside it.
 fn carry_beside<
     const C: u8,
-    U: Run<Record> + Send + Sync,
-    N: Run<CentreRecord> + Send + Sync,
+    U: GroupRun<Record> + Send + Sync,
+    N: GroupRun<CentreRecord> + Send + Sync,
     D: Disk + Drop + Send,
     H: Wait + Drop + Send + Sync,
     L: Link + Drop + Send,

@@ -8,8 +8,9 @@ use super::nodes::{AtWork, Doors, at_work, doors_of, fresh};
 use super::outcome::{has, port_ended, sent_at};
 use super::rows::{Carrying, Stands, callers_at, carrier_at, editors_at, run_at};
 use pv_edits::Record;
+use pv_group::{GroupRun, GroupStart, Live};
 use pv_irc::{CentreRecord, IrcRules};
-use pv_live::{Live, Pass, Run, Start};
+use pv_live::{Pass, Run};
 use pv_memory::{MemDisk, MemDoor, MemLine, SetClock};
 use pv_node::{Opened, Rules};
 use pv_outside::{Door, Failed, Reports};
@@ -123,8 +124,8 @@ fn stands_at<U: Run<Record>, N: Run<CentreRecord>>(
 /// of the two ports that are at work.
 fn run<
     'r,
-    U: Run<Record> + Send + Sync,
-    N: Run<CentreRecord> + Send + Sync,
+    U: GroupRun<Record> + Send + Sync,
+    N: GroupRun<CentreRecord> + Send + Sync,
     R: Wait + Threads + Sync,
 >(
     rt: &R,
@@ -170,29 +171,29 @@ fn outcome_of<U: Run<Record>, N: Run<CentreRecord>>(
 
 /// What comes of serving these doors at these nodes.
 fn serve_named<
-    U: Run<Record> + Send + Sync,
-    N: Run<CentreRecord> + Send + Sync,
+    U: GroupRun<Record> + Send + Sync,
+    N: GroupRun<CentreRecord> + Send + Sync,
     R: Wait + Threads + Sync,
 >(
     rt: &R,
     alloc: Global,
     udc: Opened<UdcRules, MemDisk>,
-    udc_start: Start<Record>,
+    udc_start: GroupStart<Record>,
     centre: Opened<IrcRules<0>, MemDisk>,
-    centre_start: Start<CentreRecord>,
+    centre_start: GroupStart<CentreRecord>,
     doors: Doors,
 ) -> Result<Outcome, Fail>
     // The Update Centre is at rest, and its run is named by what it starts with.
     requires udc { StandsFor ⟦<UdcRules as Rules>⟧ ⟦<MemDisk as Reports>⟧ udc.node U.opening }
     requires udc_rest { (udc.node.hand ≡ None) × (udc.node.state.limits ≡ U.limits) }
     requires udc_start { udc_start
-        ≡ record { book = U.book; told = U.told; failed = U.failed; passes = U.passes } }
+        ≡ record { book = U.book; told = U.told; failed = U.failed; passes = U.passes; taken = U.taken } }
 
     // So is the centre.
     requires centre { StandsFor ⟦<IrcRules<0> as Rules>⟧ ⟦<MemDisk as Reports>⟧ centre.node N.opening }
     requires centre_rest { (centre.node.hand ≡ None) × (centre.node.state.limits ≡ N.limits) }
     requires centre_start { centre_start
-        ≡ record { book = N.book; told = N.told; failed = N.failed; passes = N.passes } }
+        ≡ record { book = N.book; told = N.told; failed = N.failed; passes = N.passes; taken = N.taken } }
 
     // The Update Centre has two passes, and the centre a third one for the door.
     requires passes { (2 ≡ U.passes) × (3 ≡ N.passes) }
@@ -207,8 +208,8 @@ fn serve_named<
 /// What comes of serving these doors at nodes at work.
 fn serve_working<
     'r,
-    U: Run<Record> + Send + Sync,
-    N: Run<CentreRecord> + Send + Sync,
+    U: GroupRun<Record> + Send + Sync,
+    N: GroupRun<CentreRecord> + Send + Sync,
     R: Wait + Threads + Sync,
 >(
     rt: &R,
@@ -233,7 +234,15 @@ fn serve<R: Wait + Threads + Sync>(rt: &R, alloc: Global) -> Result<Outcome, Fai
     let udc = fresh::<UdcRules>(alloc, &[])?;
     let centre = fresh::<IrcRules<0>>(alloc, &[])?;
     let doors = doors_of(alloc, &[EDITOR], &[CALLER], &[])?;
-    serve_named::<Brand, Brand, _>(rt, alloc, udc, Start::new(2), centre, Start::new(3), doors)
+    serve_named::<Brand, Brand, _>(
+        rt,
+        alloc,
+        udc,
+        GroupStart::new(2),
+        centre,
+        GroupStart::new(3),
+        doors,
+    )
 }
 
 #[test]

@@ -6,8 +6,9 @@ ghost use Rattle.pv_node.specs.Standing.{StandsFor};
 ghost use Rattle.pv_node.specs.Trail.{trail_records};
 ghost use Rattle.pv_service.specs.declared.caller_stand.TheConstants.{MAX_ACCEPTED};
 
+use pv_group::{GroupRun, GroupStart, Live, open_live};
 use pv_journal::format;
-use pv_live::{Live, Pass, Run, Start, open_live};
+use pv_live::Pass;
 use pv_memory::{MemDisk, MemDoor, MemLine, MemSink, MemSource};
 use pv_node::{Node, Opened, Rules};
 use pv_outside::{Limits, Reports};
@@ -41,7 +42,7 @@ pub fn fresh<R: Rules>(alloc: Global, fails: &[u64]) -> Result<Opened<R, MemDisk
 
 /// A node at work: its pass for a port, its pass for its carrier, and the others.
 #[derive(Drop)]
-pub struct AtWork<R: Rules, N: Run<R::Rec>, H: Wait + Drop> {
+pub struct AtWork<R: Rules, N: GroupRun<R::Rec>, H: Wait + Drop> {
     /// The node.
     pub live: Live<R, MemDisk, N, H>,
     /// The pass for a port.
@@ -53,12 +54,12 @@ pub struct AtWork<R: Rules, N: Run<R::Rec>, H: Wait + Drop> {
 }
 
 /// Sets a node to work, with this many passes.
-pub fn at_work<R: Rules, N: Run<R::Rec>, H: Wait + Drop>(
+pub fn at_work<R: Rules, N: GroupRun<R::Rec>, H: Wait + Drop>(
     rt: H,
     alloc: Global,
     node: Node<R, MemDisk>,
     passes: usize,
-    start: Start<R::Rec>,
+    start: GroupStart<R::Rec>,
 ) -> Result<AtWork<R, N, H>, Fail>
     requires stands { StandsFor ⟦<R as Rules>⟧ ⟦<MemDisk as Reports>⟧ node N.opening }
     requires rest { (node.hand ≡ None) × (R.limits_of node.state ≡ N.limits) }
@@ -68,6 +69,7 @@ pub fn at_work<R: Rules, N: Run<R::Rec>, H: Wait + Drop>(
       told = N.told;
       failed = N.failed;
       passes = N.passes;
+      taken = N.taken;
     } }
 {
     let (live, mut others) = open_live::<R, MemDisk, N, H>(rt, alloc, node, passes, start)?;

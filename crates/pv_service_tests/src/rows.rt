@@ -4,8 +4,9 @@ ghost use Rattle.pv_memory.specs.Doors.{accepted_of};
 ghost use Rattle.pv_service.specs.declared.caller_stand.TheConstants.{MAX_ACCEPTED};
 
 use pv_edits::Record;
+use pv_group::{GroupRun, Live};
 use pv_irc::{CentreRecord, IrcRules};
-use pv_live::{Live, Pass, Run};
+use pv_live::{Pass, Run};
 use pv_memory::{MemDisk, MemDoor, Pipe, SetClock};
 use pv_outside::{Clock, Door, Link};
 use pv_ports::{CallerPort, Carrier, EditorPort};
@@ -87,8 +88,8 @@ pub fn carrier_at<U: Run<Record>, N: Run<CentreRecord>>(
 /// Serves callers with their carrier beside them, by any clock and over any links: what may cross to a thread is looked for
 /// here without the parts of a clock and a pipe.
 fn run_beside<
-    U: Run<Record> + Send + Sync,
-    N: Run<CentreRecord> + Send + Sync,
+    U: GroupRun<Record> + Send + Sync,
+    N: GroupRun<CentreRecord> + Send + Sync,
     H: Wait + Drop + Send + Sync,
     O: Door + Log + Drop + Send,
     K: Clock + Sync,
@@ -112,8 +113,8 @@ where
 
 /// Serves callers with their carrier beside them, by a clock that stands and over links in memory.
 pub fn run_at<
-    U: Run<Record> + Send + Sync,
-    N: Run<CentreRecord> + Send + Sync,
+    U: GroupRun<Record> + Send + Sync,
+    N: GroupRun<CentreRecord> + Send + Sync,
     H: Wait + Drop + Send + Sync,
     O: Door + Log + Drop + Send,
     R: Wait + Threads + Sync,

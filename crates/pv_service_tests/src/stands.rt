@@ -8,8 +8,9 @@ use super::nodes::{AtWork, Doors, at_work, doors_of, fresh};
 use super::outcome::{Ended, carrier_ended, has, port_ended, sent_at};
 use super::rows::{Carrying, Stands, callers_at, carrier_at, editors_at, run_at};
 use pv_edits::Record;
+use pv_group::{GroupRun, GroupStart, Live};
 use pv_irc::{CentreRecord, IrcRules};
-use pv_live::{Live, Pass, Run, Start};
+use pv_live::{Pass, Run};
 use pv_memory::{MemDisk, MemDoor, SetClock};
 use pv_node::{Opened, Rules};
 use pv_outside::Reports;
@@ -83,8 +84,8 @@ fn stands_at<U: Run<Record>, N: Run<CentreRecord>>(
 /// The editors are served, what they stored is carried, and the callers are served with the carrier beside them.
 fn run<
     'r,
-    U: Run<Record> + Send + Sync,
-    N: Run<CentreRecord> + Send + Sync,
+    U: GroupRun<Record> + Send + Sync,
+    N: GroupRun<CentreRecord> + Send + Sync,
     R: Wait + Threads + Sync,
 >(
     rt: &R,
@@ -129,16 +130,16 @@ fn outcome_of<U: Run<Record>, N: Run<CentreRecord>>(
 
 /// What comes of serving these doors at these nodes. The gives of these numbers fail at the link down.
 fn serve_named<
-    U: Run<Record> + Send + Sync,
-    N: Run<CentreRecord> + Send + Sync,
+    U: GroupRun<Record> + Send + Sync,
+    N: GroupRun<CentreRecord> + Send + Sync,
     R: Wait + Threads + Sync,
 >(
     rt: &R,
     alloc: Global,
     udc: Opened<UdcRules, MemDisk>,
-    udc_start: Start<Record>,
+    udc_start: GroupStart<Record>,
     centre: Opened<IrcRules<0>, MemDisk>,
-    centre_start: Start<CentreRecord>,
+    centre_start: GroupStart<CentreRecord>,
     doors: Doors,
     link: &[u64],
 ) -> Result<Outcome, Fail>
@@ -146,13 +147,13 @@ fn serve_named<
     requires udc { StandsFor ⟦<UdcRules as Rules>⟧ ⟦<MemDisk as Reports>⟧ udc.node U.opening }
     requires udc_rest { (udc.node.hand ≡ None) × (udc.node.state.limits ≡ U.limits) }
     requires udc_start { udc_start
-        ≡ record { book = U.book; told = U.told; failed = U.failed; passes = U.passes } }
+        ≡ record { book = U.book; told = U.told; failed = U.failed; passes = U.passes; taken = U.taken } }
 
     // So is the centre.
     requires centre { StandsFor ⟦<IrcRules<0> as Rules>⟧ ⟦<MemDisk as Reports>⟧ centre.node N.opening }
     requires centre_rest { (centre.node.hand ≡ None) × (centre.node.state.limits ≡ N.limits) }
     requires centre_start { centre_start
-        ≡ record { book = N.book; told = N.told; failed = N.failed; passes = N.passes } }
+        ≡ record { book = N.book; told = N.told; failed = N.failed; passes = N.passes; taken = N.taken } }
 
     // Each node has two passes.
     requires passes { (2 ≡ U.passes) × (2 ≡ N.passes) }
@@ -167,8 +168,8 @@ fn serve_named<
 /// What comes of serving these doors at nodes at work.
 fn serve_working<
     'r,
-    U: Run<Record> + Send + Sync,
-    N: Run<CentreRecord> + Send + Sync,
+    U: GroupRun<Record> + Send + Sync,
+    N: GroupRun<CentreRecord> + Send + Sync,
     R: Wait + Threads + Sync,
 >(
     rt: &R,
@@ -200,9 +201,9 @@ fn serve<R: Wait + Threads + Sync>(
         rt,
         alloc,
         udc,
-        Start::new(2),
+        GroupStart::new(2),
         centre,
-        Start::new(2),
+        GroupStart::new(2),
         doors,
         failing.link,
     )

@@ -14,6 +14,9 @@ ghosts-serve_named-U-Run g a = record {
 abbrev pub ghosts-serve_named-U-HistoryName : goal.ghosts-serve_named-U-HistoryName
 ghosts-serve_named-U-HistoryName g a = record { book = a.udc_start.book }
 
+abbrev pub ghosts-serve_named-U-GroupRun : goal.ghosts-serve_named-U-GroupRun
+ghosts-serve_named-U-GroupRun g a = record { taken = a.udc_start.taken }
+
 -- and so is that of the centre
 abbrev pub ghosts-serve_named-N-Run : goal.ghosts-serve_named-N-Run
 ghosts-serve_named-N-Run g a = record {
@@ -26,3 +29,6 @@ ghosts-serve_named-N-Run g a = record {
 
 abbrev pub ghosts-serve_named-N-HistoryName : goal.ghosts-serve_named-N-HistoryName
 ghosts-serve_named-N-HistoryName g a = record { book = a.centre_start.book }
+
+abbrev pub ghosts-serve_named-N-GroupRun : goal.ghosts-serve_named-N-GroupRun
+ghosts-serve_named-N-GroupRun g a = record { taken = a.centre_start.taken }
