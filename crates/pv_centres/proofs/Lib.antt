@@ -4,6 +4,7 @@ mod Carrying
 mod Continuing
 mod Disks
 mod Filling
+pub mod Left
 pub mod Passes
 mod Rounds
 pub mod Served

@@ -1,6 +1,6 @@
 -- What rows of stands have become, in terms of their doors, passes and reports.
 use Rattle.std.proofs.Common.{◌≡◌, ℕ, suc, ◌+◌, ◌≤◌, Bool, List, [], ◌∷◌, ◌++◌, length, map, refl, ap, sym, ◌∙◌, subst, arith}
-use Rattle.std.specs.Prelude.{All, IfSome, Option, None, Some}
+use Rattle.std.specs.Prelude.{All, IfSome, Option, None, Some, Ok, Err}
 use Rattle.std.specs.Option.{option_map, unwrap_or}
 use Rattle.std.proofs.lemmas.List.{length-map, map-append}
 use Rattle.std.proofs.lemmas.List.Elements.{All-head, All-tail}
@@ -8,7 +8,6 @@ use Rattle.pv_outside.specs.Counts.{Rose}
 use Rattle.pv_outside.specs.declared.limits.Limits.{Limits}
 use Rattle.pv_outside.specs.declared.reports.Reports as reports
 use Rattle.pv_node.specs.declared.rules.Rules as rules
-use Rattle.pv_node.specs.Parts.{Parts}
 use Rattle.pv_live.specs.Pass.{Standing, new_passes}
 use Rattle.pv_service.specs.Doors.{DoorReport}
 use Rattle.pv_service.specs.Rows.{EachBecomes}
@@ -20,7 +19,7 @@ use Rattle.pv_service.proofs.Serving.{length-lines_in}
 use Rattle.pv_centres.specs.Opening.{count_of, weigh}
 use Rattle.pv_centres.specs.Parts.{IfThere, PerCentre, all_rows, row_lengths}
 use Rattle.pv_centres.proofs.Passes.{each_is_new, each_of}
-use Rattle.pv_centres.specs.Served.{IsNewPass, IsFreshRow, EachServes, IsClosedWith, NodeServed, DoorServed, ServesEachDoor, ServedRows, SomeDoorRose, GiveBackMore}
+use Rattle.pv_centres.specs.Served.{IsNewPass, IsFreshRow, EachServes, ClosedNode, IsClosedWith, NodeServed, DoorServed, ServesEachDoor, ServedRows, SomeDoorRose, GiveBackMore}
 
 -- ---- what is there, and what is not
 
@@ -99,13 +98,13 @@ module _ {T Rec O L R : Type 0} (accepted : O → ℕ) (pass_of : T → Standing
   fresh_row_serves count calls old new fresh all = row_serves calls old new fresh.passes fresh.lines all
 
   -- its node was served from its opening to its closing
-  module _ {S State Request Reply D : Type 0} (r : rules.Ghosts S State Request Rec Reply) (d : reports.Ghosts D) (limits : Limits)
+  module _ {S State Request Reply D F : Type 0} (r : rules.Ghosts S State Request Rec Reply) (d : reports.Ghosts D) (limits : Limits)
       (brought : List Rec → ℕ) (Quiet : Type 0) (opening : List Rec) (calls : ℕ) (old new : List T) where
-    abbrev pub WasServed : Parts D State Rec → Type 0
+    abbrev pub WasServed : ClosedNode D F State Rec → Type 0
     WasServed = NodeServed (Serves calls) r d limits brought Quiet opening (map state_of (map door_of old))
         (map state_of (map door_of new)) (map report_of new)
 
-    closed_served : (count : ℕ) (node : Parts D State Rec) → IsFreshRow accepted pass_of door_of calls_of count calls old
+    closed_served : (count : ℕ) (node : ClosedNode D F State Rec) → IsFreshRow accepted pass_of door_of calls_of count calls old
         → EachBecomes Becomes old new → IsClosedWith r d limits opening brought Quiet (map pass_of new) node → WasServed node
     closed_served count node fresh all closed = record {
       passes = map pass_of new;
@@ -114,7 +113,7 @@ module _ {T Rec O L R : Type 0} (accepted : O → ℕ) (pass_of : T → Standing
     }
 
     -- by its doors and reports, as they were handed back
-    pub node_served : (count : ℕ) (olds news : List O) (reports : List R) (node : Parts D State Rec) → map door_of old ≡ olds
+    pub node_served : (count : ℕ) (olds news : List O) (reports : List R) (node : ClosedNode D F State Rec) → map door_of old ≡ olds
         → news ≡ map door_of new → reports ≡ map report_of new → IsFreshRow accepted pass_of door_of calls_of count calls old
         → EachBecomes Becomes old new → IsClosedWith r d limits opening brought Quiet (map pass_of new) node
         → NodeServed (Serves calls) r d limits brought Quiet opening (map state_of olds) (map state_of news) reports node
@@ -122,7 +121,7 @@ module _ {T Rec O L R : Type 0} (accepted : O → ℕ) (pass_of : T → Standing
         rw (← same_old, same_new, same_reports) (closed_served count node fresh all closed)
 
     -- so it is of a centre, if the network has it
-    pub centre_served : {A B : Type 0} (count : ℕ) (opened : Option A) (was live : Option B) (node : Option (Parts D State Rec))
+    pub centre_served : {A B : Type 0} (count : ℕ) (opened : Option A) (was live : Option B) (node : Option (ClosedNode D F State Rec))
         → count_of was ≡ count_of opened → count_of live ≡ count_of was → IsFreshRow accepted pass_of door_of calls_of count calls old
         → EachBecomes Becomes old new → IfThere (λ live n. IsClosedWith r d limits opening brought Quiet (map pass_of new) n) live node
         → IfThere (λ o n. WasServed n) opened node
@@ -131,19 +130,20 @@ module _ {T Rec O L R : Type 0} (accepted : O → ℕ) (pass_of : T → Standing
         (λ n one. closed_served count n fresh all one) closed
 
 -- what is so if nothing hides what carriers have stored is so if more is known
-module _ {Rec S State Request Reply D : Type 0} (r : rules.Ghosts S State Request Rec Reply) (d : reports.Ghosts D) (limits : Limits)
+module _ {Rec S State Request Reply D F : Type 0} (r : rules.Ghosts S State Request Rec Reply) (d : reports.Ghosts D) (limits : Limits)
     (opening : List Rec) (brought : List Rec → ℕ) (Quiet More : Type 0) (quiet : More → Quiet) where
-  closed_quieter : (ports : List (Standing Rec)) (node : Parts D State Rec) → IsClosedWith r d limits opening brought Quiet ports node
+  closed_quieter : (ports : List (Standing Rec)) (node : ClosedNode D F State Rec) → IsClosedWith r d limits opening brought Quiet ports node
       → IsClosedWith r d limits opening brought More ports node
-  closed_quieter ports node closed = record {
+  closed_quieter ports (Ok node) closed = record {
     carriers = closed.carriers;
     asked = closed.asked;
     closed = closed.closed;
     few = λ more. closed.few (quiet more);
   }
+  closed_quieter ports (Err disk) closed = record { carriers = closed.carriers; left = closed.left }
 
   -- if there is a centre
-  pub there_quieter : {B : Type 0} (ports : List (Standing Rec)) (live : Option B) (node : Option (Parts D State Rec))
+  pub there_quieter : {B : Type 0} (ports : List (Standing Rec)) (live : Option B) (node : Option (ClosedNode D F State Rec))
       → IfThere (λ l n. IsClosedWith r d limits opening brought Quiet ports n) live node
       → IfThere (λ l n. IsClosedWith r d limits opening brought More ports n) live node
   there_quieter ports None None there = tt
@@ -153,7 +153,7 @@ module _ {Rec S State Request Reply D : Type 0} (r : rules.Ghosts S State Reques
 
   -- of a node that was served
   pub served_quieter : {L R : Type 0} (HasServed : Standing Rec → L → Standing Rec → L → R → Type 0) (old new : List L) (reports : List R)
-      (node : Parts D State Rec) → NodeServed HasServed r d limits brought Quiet opening old new reports node
+      (node : ClosedNode D F State Rec) → NodeServed HasServed r d limits brought Quiet opening old new reports node
       → NodeServed HasServed r d limits brought More opening old new reports node
   served_quieter HasServed old new reports node served = record {
     passes = served.passes;
@@ -269,9 +269,9 @@ module _ {Rec L E D F : Type 0} (Serves : Standing Rec → Served L E → Standi
   doors_served (old ∷ olds) (pass ∷ passes) (new ∷ news) [] each = absurd each
 
   -- a node's
-  pub node_doors : {S State Request Reply N : Type 0} (r : rules.Ghosts S State Request Rec Reply) (d : reports.Ghosts N) (limits : Limits)
+  pub node_doors : {S State Request Reply N G : Type 0} (r : rules.Ghosts S State Request Rec Reply) (d : reports.Ghosts N) (limits : Limits)
       (brought : List Rec → ℕ) (Quiet : Type 0) (opening : List Rec) (olds news : List (DoorReport L)) (reports : List (PortReport D F))
-      (node : Parts N State Rec)
+      (node : ClosedNode N G State Rec)
       → NodeServed (HasServed Serves failure_in lacked_memory {D = D} calls) r d limits brought Quiet opening olds news reports node
       → ServesEachDoor calls olds news reports
   node_doors r d limits brought Quiet opening olds news reports node served = doors_served olds served.passes news reports served.ports

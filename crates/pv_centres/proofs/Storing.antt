@@ -1,6 +1,6 @@
 -- What carriers have stored, in the counts of what they have brought.
 use Rattle.std.proofs.Common.{◌≡◌, ℕ, ◌+◌, ◌≤◌, List, [], ◌∷◌, ◌++◌, Option, Some, None, refl, ap, ◌∙◌, subst, arith, append-nil}
-use Rattle.std.specs.Prelude.{IfSome, option_to_list}
+use Rattle.std.specs.Prelude.{IfSome, Ok, Err, option_to_list}
 use Rattle.std.specs.Option.{option_map}
 use Rattle.pv_outside.specs.declared.limits.Limits.{Limits}
 use Rattle.pv_outside.specs.declared.reports.Reports as reports
@@ -18,7 +18,7 @@ use Rattle.pv_ports.specs.Outcomes.{HaveSeenTold, NoAskFailed}
 use Rattle.pv_ports.specs.Round.{CarrierState}
 use Rattle.pv_ports.proofs.Growing.{applied_grows, taken_grows}
 use Rattle.pv_centres.specs.Carried.{HasStoredNoMore, taken_count}
-use Rattle.pv_centres.specs.Served.{IsNewPass}
+use Rattle.pv_centres.specs.Served.{ClosedNode, IsClosedWith, IsGivenBack, IsNewPass}
 
 module _ (udc_opening : List Record) (centre_opening : List CentreRecord) (C : ℕ) where
   -- nothing was stored for new passes
@@ -73,7 +73,7 @@ module _ {T : Type 0} where
 module _ {S State Request Reply D : Type 0} (r : rules.Ghosts S State Request CentreRecord Reply) (d : reports.Ghosts D) (limits : Limits)
     (udc_opening : List Record) (opening : List CentreRecord) (C : ℕ) (ports : List (Standing CentreRecord)) where
   -- all records of a centre but those that were brought are its ports'
-  pub few_at_centre : (carrier : Option CarrierState) (node : Parts D State CentreRecord) (asked : ℕ)
+  few_at_centre : (carrier : Option CarrierState) (node : Parts D State CentreRecord) (asked : ℕ)
       (closed : IsClosed r d limits opening (ports ++ option_to_list (option_map (λ c. c.centre) carrier)) node asked)
       → IfSome carrier (HasStoredNoMore udc_opening opening C)
       → asked + applied_of opening ≤ told_count ports + failed_count ports + applied_of (with_opening opening closed.log)
@@ -97,6 +97,19 @@ module _ {S State Request Reply D : Type 0} (r : rules.Ghosts S State Request Ce
         stored.centre_unfailed,
         applied_grows opening carrier.centre.seen closed.log seen.1.0,
       )
+
+  -- a centre was closed with the passes of its ports and that of its carrier
+  pub centre_closed : {F : Type 0} (Quiet : Type 0) (carrier : Option CarrierState) (node : ClosedNode D F State CentreRecord)
+      → IsGivenBack r d limits opening (ports ++ option_to_list (option_map (λ c. c.centre) carrier)) node
+      → (Quiet → IfSome carrier (HasStoredNoMore udc_opening opening C)) → IsClosedWith r d limits opening applied_of Quiet ports node
+  centre_closed Quiet carrier (Ok node) back stored = record {
+    carriers = option_to_list (option_map (λ c. c.centre) carrier);
+    asked = back.0;
+    closed = back.1;
+    few = λ quiet. few_at_centre carrier node back.0 back.1 (stored quiet);
+  }
+  centre_closed Quiet carrier (Err disk) back stored =
+      record { carriers = option_to_list (option_map (λ c. c.centre) carrier); left = back }
 
 -- the pass of the Update Centre that a carrier has, as a list: no carrier, no pass
 abbrev pub udc_pass : Option CarrierState → List (Standing Record)
@@ -123,7 +136,7 @@ module _ {S State Request Reply D : Type 0} (r : rules.Ghosts S State Request Re
     (opening : List Record) (one other third fourth : List CentreRecord) (ports : List (Standing Record))
     (a b c e : Option CarrierState) where
   -- all records of the Update Centre but items that were taken up are its ports'
-  pub few_at_update : (carriers : List (Standing Record)) (node : Parts D State Record) (asked : ℕ)
+  few_at_update : (carriers : List (Standing Record)) (node : Parts D State Record) (asked : ℕ)
       (closed : IsClosed r d limits opening (ports ++ carriers) node asked)
       → carriers ≡ udc_pass a ++ (udc_pass b ++ (udc_pass c ++ udc_pass e))
       → IfSome a (HasStoredNoMore opening one 0) → IfSome b (HasStoredNoMore opening other 1)
@@ -161,3 +174,18 @@ module _ {S State Request Reply D : Type 0} (r : rules.Ghosts S State Request Re
         at_c.failed,
         at_e.failed,
       )
+
+  -- the Update Centre was closed with the passes of its ports and those that the carriers had
+  pub update_closed : {F : Type 0} (Quiet : Type 0) (carriers : List (Standing Record)) (node : ClosedNode D F State Record)
+      → IsGivenBack r d limits opening (ports ++ carriers) node → carriers ≡ udc_pass a ++ (udc_pass b ++ (udc_pass c ++ udc_pass e))
+      → (Quiet → IfSome a (HasStoredNoMore opening one 0) × IfSome b (HasStoredNoMore opening other 1)
+      × IfSome c (HasStoredNoMore opening third 2) × IfSome e (HasStoredNoMore opening fourth 3))
+      → IsClosedWith r d limits opening taken_count Quiet ports node
+  update_closed Quiet carriers (Ok node) back same stored = record {
+    carriers = carriers;
+    asked = back.0;
+    closed = back.1;
+    few = λ quiet.
+        let all = stored quiet in few_at_update carriers node back.0 back.1 same all.0 all.1 all.2 all.3;
+  }
+  update_closed Quiet carriers (Err disk) back same stored = record { carriers = carriers; left = back }

@@ -1,5 +1,5 @@
 -- What a carrier of a server has brought, and how few of a node's records come from elsewhere.
-use Rattle.std.specs.Prelude.{◌≡◌, ℕ, ◌+◌, ◌≤◌, false, List, Option, None, Some, All}
+use Rattle.std.specs.Prelude.{◌≡◌, ℕ, ◌+◌, ◌≤◌, false, List, Option, Some, All}
 use Rattle.pv_edits.specs.Edits.{taken_of}
 use Rattle.pv_edits.specs.declared.record.Record.{Record}
 use Rattle.pv_irc.specs.History.{applied_of}

@@ -1,4 +1,5 @@
 pub mod Carried
+pub mod Closed
 pub mod Ends
 pub mod Opening
 pub mod Parts

@@ -1,5 +1,5 @@
 -- What has become of a node and of the doors of its ports, once their threads have ended and it was closed.
-use Rattle.std.specs.Prelude.{◌≡◌, ℕ, ◌+◌, ◌<◌, ◌≤◌, List, [], ◌∷◌, ◌++◌, length, map, All, Option, Some, None, slice_index_or}
+use Rattle.std.specs.Prelude.{◌≡◌, ℕ, ◌+◌, ◌<◌, ◌≤◌, List, [], ◌∷◌, ◌++◌, length, map, All, Option, Some, None, Result, Ok, Err, slice_index_or}
 use Rattle.pv_edits.specs.declared.record.Record.{Record}
 use Rattle.pv_irc.specs.History.{CentreState, applied_of}
 use Rattle.pv_irc.specs.declared.record.CentreRecord.{CentreRecord}
@@ -10,6 +10,8 @@ use Rattle.pv_outside.specs.declared.limits.Limits.{Limits}
 use Rattle.pv_outside.specs.declared.reports.Reports as reports
 use Rattle.pv_node.specs.declared.rules.Rules as rules
 use Rattle.pv_node.specs.Parts.{Parts}
+use Rattle.pv_group.specs.Closing.{IsDiskLeft}
+use Rattle.pv_group.specs.declared.outcome.LeftDisk.{LeftDisk}
 use Rattle.pv_live.specs.Closing.{IsClosed}
 use Rattle.pv_live.specs.Entries.{with_opening}
 use Rattle.pv_live.specs.Pass.{Standing, new_pass, told_count, failed_count}
@@ -39,15 +41,36 @@ module _ {T Rec O : Type 0} (accepted : O → ℕ) (pass_of : T → Standing Rec
     pub lines : All (λ stand. calls_of stand ≡ calls) stands
     pub room : All (λ stand. accepted (door_of stand) < MAX_ACCEPTED) stands
 
--- A node that was opened with these records was closed with these passes of its ports, and those of carriers. If nothing hides what
--- carriers have stored, the records that were not brought are at most as many as its ports were told of, or failed to store.
+-- what became of a node as it was closed: it was given back, or, if a call of its disk failed then, its disk was
+abbrev pub ClosedNode : (D F State Rec : Type 0) → Type 0
+ClosedNode D F State Rec = Result (Parts D State Rec) (LeftDisk D F)
+
+-- A node that was opened with these records was closed with these passes of its ports, and those of carriers, and given back. If nothing
+-- hides what carriers have stored, the records that were not brought are at most as many as its ports were told of, or failed to store.
 module _ {S State Request Rec Reply D : Type 0} (r : rules.Ghosts S State Request Rec Reply) (d : reports.Ghosts D) (limits : Limits)
     (opening : List Rec) (brought : List Rec → ℕ) (Quiet : Type 0) where
-  pub record IsClosedWith (ports : List (Standing Rec)) (node : Parts D State Rec) : Type 0 where
+  pub record IsNodeClosedWith (ports : List (Standing Rec)) (node : Parts D State Rec) : Type 0 where
     pub carriers : List (Standing Rec)
     pub asked : ℕ
     pub closed : IsClosed r d limits opening (ports ++ carriers) node asked
     pub few : Quiet → asked + brought opening ≤ told_count ports + failed_count ports + brought (with_opening opening closed.log)
+
+module _ {S State Request Rec Reply D F : Type 0} (r : rules.Ghosts S State Request Rec Reply) (d : reports.Ghosts D) (limits : Limits)
+    (opening : List Rec) where
+  -- it was closed with these passes, which are all that it had
+  abbrev pub IsGivenBack : List (Standing Rec) → ClosedNode D F State Rec → Type 0
+  IsGivenBack passes (Ok node) = (asked : ℕ) × IsClosed r d limits opening passes node asked
+  IsGivenBack passes (Err left) = IsDiskLeft r d limits opening passes left
+
+  -- it was closed with these passes of its ports, and those of carriers, and its disk was given back
+  pub record IsDiskLeftWith (ports : List (Standing Rec)) (disk : LeftDisk D F) : Type 0 where
+    pub carriers : List (Standing Rec)
+    pub left : IsDiskLeft r d limits opening (ports ++ carriers) disk
+
+  -- it, or its disk, was given back
+  abbrev pub IsClosedWith : (List Rec → ℕ) → Type 0 → List (Standing Rec) → ClosedNode D F State Rec → Type 0
+  IsClosedWith brought Quiet ports (Ok node) = IsNodeClosedWith r d limits opening brought Quiet ports node
+  IsClosedWith brought Quiet ports (Err disk) = IsDiskLeftWith ports disk
 
 -- How a port has served its door: from this pass and door, to this pass and door, with this report.
 module _ {Rec L R : Type 0} (HasServed : Standing Rec → L → Standing Rec → L → R → Type 0) where
@@ -66,9 +89,9 @@ module _ {Rec L R : Type 0} (HasServed : Standing Rec → L → Standing Rec →
 
   -- A node was opened with these records, its ports have served these doors, each with a report, and it was closed: it has the records of
   -- the opening and those of a run. Each port's pass has seen a prefix of them; so have the passes of carriers.
-  module _ {S State Request Reply D : Type 0} (r : rules.Ghosts S State Request Rec Reply) (d : reports.Ghosts D) (limits : Limits)
+  module _ {S State Request Reply D F : Type 0} (r : rules.Ghosts S State Request Rec Reply) (d : reports.Ghosts D) (limits : Limits)
       (brought : List Rec → ℕ) (Quiet : Type 0) where
-    pub record NodeServed (opening : List Rec) (old new : List L) (reports : List R) (node : Parts D State Rec) : Type 0 where
+    pub record NodeServed (opening : List Rec) (old new : List L) (reports : List R) (node : ClosedNode D F State Rec) : Type 0 where
       pub passes : List (Standing Rec)
       pub ports : EachServes old passes new reports
       pub closed : IsClosedWith r d limits opening brought Quiet passes node
@@ -76,13 +99,14 @@ module _ {Rec L R : Type 0} (HasServed : Standing Rec → L → Standing Rec →
 -- a centre was served from its opening to its closing, each connection of its doors by a call
 module _ {S L D F : Type 0} (r : rules.Ghosts S CentreState IrcRequest CentreRecord IrcReply) (d : reports.Ghosts D) (limits : Limits)
     (opening : List CentreRecord) (shown : Option ℕ) (report_of : L → LineState) (calls : ℕ) (Quiet : Type 0) where
-  abbrev pub CentreServed : List (DoorReport L) → List (DoorReport L) → List (PortReport D F) → Parts D CentreState CentreRecord → Type 0
+  abbrev pub CentreServed : List (DoorReport L) → List (DoorReport L) → List (PortReport D F)
+      → ClosedNode D F CentreState CentreRecord → Type 0
   CentreServed = NodeServed (HasServedCalls r limits opening shown report_of calls) r d limits applied_of Quiet opening
 
 -- so was the Update Centre, each connection by a session
 module _ {S L D F : Type 0} (r : rules.Ghosts S EditList UdcRequest Record UdcReply) (d : reports.Ghosts D) (limits : Limits)
     (opening : List Record) (report_of : L → LineState) (calls : ℕ) (Quiet : Type 0) where
-  abbrev pub UpdateServed : List (DoorReport L) → List (DoorReport L) → List (PortReport D F) → Parts D EditList Record → Type 0
+  abbrev pub UpdateServed : List (DoorReport L) → List (DoorReport L) → List (PortReport D F) → ClosedNode D F EditList Record → Type 0
   UpdateServed = NodeServed (HasServedSessions r limits opening report_of calls) r d limits taken_count Quiet opening
 
 -- The doors of all callers, old and new, and the reports of their ports, in rows: of each centre those of its ports, as many as are counted.

@@ -3,15 +3,16 @@ ghost use Rattle.std.specs.Prelude.{◌≡◌, ◌<◌, ◌++◌, All, map, vec_
 ghost use Rattle.pv_service.specs.declared.caller_stand.TheConstants.{MAX_ACCEPTED};
 
 use crate::doors::put;
+use pv_group::GroupRun;
 use pv_irc::{CentreRecord, IrcRules};
-use pv_live::{Pass, Run};
+use pv_live::Pass;
 use pv_outside::{Disk, Door};
 use pv_ports::CallerPort;
 use pv_service::{CallerStand, PortReport};
 use std::alloc::{AllocError, Global};
 
 /// A stand of a port of this pass, with its door.
-fn stand_of<const C: u8, N: Run<CentreRecord>, D: Disk, O: Door + Drop>(
+fn stand_of<const C: u8, N: GroupRun<CentreRecord>, D: Disk, O: Door + Drop>(
     alloc: Global,
     pass: Pass<IrcRules<C>, N>,
     door: O,
@@ -27,7 +28,7 @@ fn stand_of<const C: u8, N: Run<CentreRecord>, D: Disk, O: Door + Drop>(
 }
 
 /// A row of stands: one for each door, each with a pass of its own.
-pub fn callers_row<const C: u8, N: Run<CentreRecord>, D: Disk, O: Door + Drop>(
+pub fn callers_row<const C: u8, N: GroupRun<CentreRecord>, D: Disk, O: Door + Drop>(
     alloc: Global,
     passes: Vec<Pass<IrcRules<C>, N>>,
     doors: Vec<O>,
@@ -55,7 +56,7 @@ pub fn callers_row<const C: u8, N: Run<CentreRecord>, D: Disk, O: Door + Drop>(
 }
 
 /// Takes a row apart: the passes, the doors and the reports, in order.
-pub fn take_callers<const C: u8, N: Run<CentreRecord>, D: Disk, O: Door + Drop>(
+pub fn take_callers<const C: u8, N: GroupRun<CentreRecord>, D: Disk, O: Door + Drop>(
     stands: Vec<CallerStand<C, N, D, O>>,
     passes: &mut Vec<Pass<IrcRules<C>, N>>,
     doors: &mut Vec<O>,

@@ -11,10 +11,12 @@ ghost use Rattle.pv_centres.specs.Served.{IsClosedWith, IsFreshRow, IsNewPass};
 
 use crate::callers_row::{callers_row, take_callers};
 use crate::centre_carrier::CentreCarrier;
+use crate::closed::{ClosedNode, close_live};
 use crate::collected::Collected;
 use pv_edits::Record;
+use pv_group::{GroupRun, GroupStart, Live, open_live};
 use pv_irc::{CentreRecord, IrcRules};
-use pv_live::{Live, Pass, Run, Start, open_live};
+use pv_live::Pass;
 use pv_node::{Node, Rules};
 use pv_outside::{Disk, Door};
 use pv_service::CallerStand;
@@ -27,8 +29,8 @@ use std::sync::Wait;
 #[derive(Drop)]
 pub struct OpenCentre<
     const C: u8,
-    U: Run<Record>,
-    N: Run<CentreRecord>,
+    U: GroupRun<Record>,
+    N: GroupRun<CentreRecord>,
     D: Disk + Drop,
     O: Door + Drop,
     H: Wait + Drop,
@@ -44,8 +46,8 @@ pub struct OpenCentre<
 /// Opens a centre for callers: one port for each door. If no memory is found, its disk keeps what it held.
 pub fn open_centre<
     const C: u8,
-    U: Run<Record>,
-    N: Run<CentreRecord>,
+    U: GroupRun<Record>,
+    N: GroupRun<CentreRecord>,
     D: Disk + Drop,
     O: Door + Drop,
     H: Wait + Drop,
@@ -53,7 +55,7 @@ pub fn open_centre<
     rt: H,
     alloc: Global,
     node: Node<IrcRules<C>, D>,
-    start: Start<CentreRecord>,
+    start: GroupStart<CentreRecord>,
     udc: Pass<UdcRules, U>,
     doors: Vec<O>,
     calls: u32,
@@ -72,6 +74,7 @@ pub fn open_centre<
       told = N.told;
       failed = N.failed;
       passes = N.passes;
+      taken = N.taken;
     } }
 
     // Each stand is new, and they have the doors in order.
@@ -100,8 +103,8 @@ pub fn open_centre<
 /// carrier through the threads. `AllocError` comes if they have not, too.
 pub fn close_centre<
     const C: u8,
-    U: Run<Record>,
-    N: Run<CentreRecord>,
+    U: GroupRun<Record>,
+    N: GroupRun<CentreRecord>,
     D: Disk + Drop,
     O: Door + Drop,
     H: Wait + Drop,
@@ -110,7 +113,7 @@ pub fn close_centre<
     centre: OpenCentre<C, U, N, D, O, H>,
     count: usize,
     collected: &mut Collected<U, D, O>,
-) -> Result<Option<Node<IrcRules<C>, D>>, AllocError>
+) -> Result<Option<ClosedNode<IrcRules<C>, D>>, AllocError>
     requires { count ≡ N.passes }
     ensures closed { IfOk result (λ node. IfThere (λ live n. IsClosedWith ⟦<IrcRules<C> as Rules>⟧ D.Reports
         N.limits N.opening applied_of (AreQuiet collected.new.carriers.items)
@@ -141,7 +144,7 @@ pub fn close_centre<
     collected.take_carrier(carrier, &mut passes)?;
     match live {
         Some(live) if passes.len() == count => {
-            Ok(Some(Box::into_inner(live).close(passes).node))
+            Ok(Some(close_live(Box::into_inner(live), passes)))
         }
         Some(_) => Err(AllocError),
         None => Ok(None),

@@ -5,8 +5,9 @@ ghost use Rattle.pv_centres.specs.Carried.{HasStoredNoMore, IsQuiet};
 ghost use Rattle.pv_centres.specs.Served.{IsNewPass};
 
 use pv_edits::Record;
+use pv_group::{GroupRun, Live};
 use pv_irc::{CentreRecord, IrcRules};
-use pv_live::{Live, Pass, Run};
+use pv_live::Pass;
 use pv_memory::Pipe;
 use pv_outside::Disk;
 use pv_ports::Carrier;
@@ -19,11 +20,11 @@ use std::sync::Wait;
 /// The carrier of a centre. Its links are pipes in memory, which hold nothing at first, and of which no call fails. Unless memory
 /// ran out or a disk failed, what was stored for it is what it has brought.
 #[derive(Drop)]
-pub struct CentreCarrier<const C: u8, U: Run<Record>, N: Run<CentreRecord>, D: Disk> {
+pub struct CentreCarrier<const C: u8, U: GroupRun<Record>, N: GroupRun<CentreRecord>, D: Disk> {
     stand: CarrierStand<C, U, N, D, Pipe>,
 }
 
-impl<const C: u8, U: Run<Record>, N: Run<CentreRecord>, D: Disk> Model
+impl<const C: u8, U: GroupRun<Record>, N: GroupRun<CentreRecord>, D: Disk> Model
     for CentreCarrier<C, U, N, D> {
     ghost use Rattle.pv_ports.specs.Round.{CarrierState};
     ghost use Rattle.pv_centres.specs.Carried.{HasStoredNoMore, IsQuiet};
@@ -36,7 +37,12 @@ impl<const C: u8, U: Run<Record>, N: Run<CentreRecord>, D: Disk> Model
         c.stand.carrier };
 }
 
-impl<const C: u8, U: Run<Record>, N: Run<CentreRecord>, D: Disk> CentreCarrier<C, U, N, D> {
+impl<const C: u8, U: GroupRun<Record>, N: GroupRun<CentreRecord>, D: Disk> CentreCarrier<
+    C,
+    U,
+    N,
+    D,
+> {
     /// A carrier of these passes, which were used for nothing.
     pub fn new(
         alloc: Global,

@@ -5,8 +5,9 @@ ghost use Rattle.pv_centres.specs.Carried.{AreQuiet, HasStoredNoMore};
 use crate::centre_carrier::CentreCarrier;
 use crate::doors::put;
 use pv_edits::Record;
+use pv_group::GroupRun;
 use pv_irc::{CentreRecord, IrcRules};
-use pv_live::{Pass, Run};
+use pv_live::Pass;
 use pv_outside::{Disk, Door};
 use pv_service::{CarrierReport, PortReport};
 use pv_udc::UdcRules;
@@ -14,7 +15,7 @@ use std::alloc::{AllocError, Global};
 
 /// What the stands of centres had, collected as these are closed.
 #[derive(Drop)]
-pub struct Collected<U: Run<Record>, D: Disk + Drop, O: Door + Drop> {
+pub struct Collected<U: GroupRun<Record>, D: Disk + Drop, O: Door + Drop> {
     /// The doors of the callers, in order.
     pub doors: Vec<O>,
     /// What their ports have met, in order.
@@ -25,7 +26,7 @@ pub struct Collected<U: Run<Record>, D: Disk + Drop, O: Door + Drop> {
     pub carriers: Vec<CarrierReport<D>>,
 }
 
-impl<U: Run<Record>, D: Disk + Drop, O: Door + Drop> Collected<U, D, O> {
+impl<U: GroupRun<Record>, D: Disk + Drop, O: Door + Drop> Collected<U, D, O> {
     /// Nothing is collected.
     pub fn new(alloc: Global) -> Collected<U, D, O>
         ensures { (result.doors.items ≡ []) × (result.reports.items ≡ []) × (result.passes.items ≡ [])
@@ -40,7 +41,7 @@ impl<U: Run<Record>, D: Disk + Drop, O: Door + Drop> Collected<U, D, O> {
     }
 
     /// Adds what a centre's carrier has met, and its pass of the Update Centre. Its pass of the centre is appended.
-    pub fn take_carrier<const C: u8, N: Run<CentreRecord>>(
+    pub fn take_carrier<const C: u8, N: GroupRun<CentreRecord>>(
         &mut self,
         carrier: Option<CentreCarrier<C, U, N, D>>,
         passes: &mut Vec<Pass<IrcRules<C>, N>>,

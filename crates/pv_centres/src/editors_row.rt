@@ -4,7 +4,8 @@ ghost use Rattle.pv_service.specs.declared.caller_stand.TheConstants.{MAX_ACCEPT
 
 use crate::doors::put;
 use pv_edits::Record;
-use pv_live::{Pass, Run};
+use pv_group::GroupRun;
+use pv_live::Pass;
 use pv_outside::{Disk, Door};
 use pv_ports::EditorPort;
 use pv_service::{EditorStand, PortReport};
@@ -12,7 +13,7 @@ use pv_udc::UdcRules;
 use std::alloc::{AllocError, Global};
 
 /// A stand of a port of this pass, with its door.
-fn stand_of<N: Run<Record>, D: Disk, O: Door + Drop>(
+fn stand_of<N: GroupRun<Record>, D: Disk, O: Door + Drop>(
     alloc: Global,
     pass: Pass<UdcRules, N>,
     door: O,
@@ -28,7 +29,7 @@ fn stand_of<N: Run<Record>, D: Disk, O: Door + Drop>(
 }
 
 /// A row of stands: one for each door, each with a pass of its own.
-pub fn row_of_editors<N: Run<Record>, D: Disk, O: Door + Drop>(
+pub fn row_of_editors<N: GroupRun<Record>, D: Disk, O: Door + Drop>(
     alloc: Global,
     passes: Vec<Pass<UdcRules, N>>,
     doors: Vec<O>,
@@ -56,7 +57,7 @@ pub fn row_of_editors<N: Run<Record>, D: Disk, O: Door + Drop>(
 }
 
 /// Takes a row apart: the passes, the doors and the reports, in order.
-pub fn take_editors<N: Run<Record>, D: Disk, O: Door + Drop>(
+pub fn take_editors<N: GroupRun<Record>, D: Disk, O: Door + Drop>(
     stands: Vec<EditorStand<N, D, O>>,
     passes: &mut Vec<Pass<UdcRules, N>>,
     doors: &mut Vec<O>,

@@ -1,4 +1,4 @@
-ghost use Rattle.std.specs.Prelude.{◌≡◌, ◌||◌, ◌⊎◌, true, false, None, Some, All};
+ghost use Rattle.std.specs.Prelude.{◌≡◌, ◌||◌, not, ◌⊎◌, true, false, None, Some, All};
 ghost use Rattle.pv_centres.specs.Carried.{AreQuiet};
 ghost use Rattle.pv_centres.specs.Ends.{HaveBeenAdded, SomeDoorEnd, first_failure, is_door_end, disk_end, carrier_end, rest_end, is_room_end};
 
@@ -121,6 +121,20 @@ impl<D: Disk> Ends<D> {
             RestEnd::NoRoom => self.no_room = true,
             RestEnd::DiskFault(failure) => self.add_failure(failure),
         }
+    }
+
+    /// Adds that a call of a node's disk failed as it was closed. If it was not counted that what its passes have seen is
+    /// stored, nothing can be said of it, as if memory had run out.
+    pub fn add_left(&mut self, failure: D::Failure, seen_is_stored: bool)
+        ensures memory { self.new.memory ≡ (self.old.memory || not seen_is_stored) }
+        ensures door { self.new.door ≡ self.old.door }
+        ensures disk { self.new.disk ≡ first_failure self.old.disk (Some failure) }
+        ensures no_room { self.new.no_room ≡ self.old.no_room }
+    {
+        if !seen_is_stored {
+            self.memory = true;
+        }
+        self.add_failure(failure);
     }
 
     /// Adds a disk's failure. The first one stays.

@@ -26,6 +26,7 @@
 mod callers_row;
 mod centre;
 mod centre_carrier;
+mod closed;
 mod collected;
 mod doors;
 mod editors_row;
@@ -39,11 +40,12 @@ mod update;
 
 pub use centre::{OpenCentre, close_centre, open_centre};
 pub use centre_carrier::CentreCarrier;
+pub use closed::{ClosedNode, ClosedNodes, LeftNodes};
 pub use collected::Collected;
 pub use doors::next_doors;
 pub use editors_row::row_of_editors;
 pub use ends::Ends;
-pub use nodes::{Nodes, OpenedNodes};
+pub use nodes::{NodeDisks, Nodes, OpenedNodes};
 pub use opening::{NotOpened, open_nodes};
 pub use rest::bring_rest;
 pub use rows::{CallersRow, EditorsRow, RowStart};

@@ -9,6 +9,7 @@ use pv_node::{Node, Opened, Rules};
 use pv_outside::Disk;
 use pv_udc::UdcRules;
 use std::alloc::AllocError;
+use std::marker::Model;
 
 /// The nodes of a network that were opened. Of a centre that the network does not have there is none.
 #[derive(Drop)]
@@ -100,6 +101,58 @@ impl<D: Disk + Drop> Nodes<D> {
     }
 }
 
+/// The disks of a network's nodes. Of a centre that the network does not have there is none.
+#[derive(Drop)]
+pub struct NodeDisks<D: Disk + Drop> {
+    update: D,
+    first: Option<D>,
+    second: Option<D>,
+    third: Option<D>,
+    fourth: Option<D>,
+}
+
+impl<D: Disk + Drop> Model for NodeDisks<D> {
+    ghost use Rattle.std.specs.Prelude.{List, ◌∷◌, ◌++◌, option_to_list};
+
+    ghost Value = { List D };
+
+    ghost view = { λ d. d.update ∷ (option_to_list d.first
+        ++ (option_to_list d.second ++ (option_to_list d.third ++ option_to_list d.fourth))) };
+}
+
+impl<D: Disk + Drop> NodeDisks<D> {
+    /// These disks: that of the Update Centre, and those of the centres.
+    pub(crate) fn new(
+        update: D,
+        first: Option<D>,
+        second: Option<D>,
+        third: Option<D>,
+        fourth: Option<D>,
+    ) -> NodeDisks<D>
+        ensures { result ≡ update ∷ (option_to_list first
+            ++ (option_to_list second ++ (option_to_list third ++ option_to_list fourth))) }
+    {
+        NodeDisks {
+            update,
+            first,
+            second,
+            third,
+            fourth,
+        }
+    }
+
+    /// Hands the disks back, in order, after those that are there.
+    pub fn give_back(self, disks: &mut Vec<D>) -> Result<(), AllocError>
+        ensures { OnOk result (disks.new.items ≡ disks.old.items ++ self) }
+    {
+        put(disks, self.update)?;
+        put_if_there(disks, self.first)?;
+        put_if_there(disks, self.second)?;
+        put_if_there(disks, self.third)?;
+        put_if_there(disks, self.fourth)
+    }
+}
+
 /// Whether there is the node and it has as many records as this.
 fn is_full<R: Rules, D: Disk + Drop>(node: &Option<Node<R, D>>, limit: u64) -> bool
     ensures { result ≡ is_count limit (option_map (λ n. n.journal.count) node.now) }
@@ -120,6 +173,16 @@ fn put_disk<R: Rules, D: Disk + Drop>(
 {
     match node {
         Some(node) => put(disks, node.into_disk()),
+        None => Ok(()),
+    }
+}
+
+/// Hands a disk back, if it is there.
+fn put_if_there<D: Disk + Drop>(disks: &mut Vec<D>, disk: Option<D>) -> Result<(), AllocError>
+    ensures { OnOk result (disks.new.items ≡ disks.old.items ++ option_to_list disk) }
+{
+    match disk {
+        Some(disk) => put(disks, disk),
         None => Ok(()),
     }
 }

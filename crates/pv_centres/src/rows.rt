@@ -8,8 +8,8 @@ ghost use Rattle.pv_service.specs.Sessions.{HasServedSessions};
 ghost use Rattle.pv_service.specs.declared.caller_stand.TheConstants.{MAX_ACCEPTED};
 
 use pv_edits::Record;
+use pv_group::{GroupRun, Live};
 use pv_irc::{CentreRecord, IrcRules};
-use pv_live::{Live, Run};
 use pv_node::Rules;
 use pv_outside::{Clock, Disk, Door, Sink, Source};
 use pv_service::{CallerStand, EditorStand, Log, Signals, run_callers, run_editors};
@@ -38,7 +38,7 @@ impl<S> RowStart<S> for Brand {
 #[derive(Drop)]
 pub struct CallersRow<
     const C: u8,
-    N: Run<CentreRecord>,
+    N: GroupRun<CentreRecord>,
     D: Disk,
     O: Door + Drop,
     B: RowStart<CallerStand<C, N, D, O>>,
@@ -50,7 +50,7 @@ pub struct CallersRow<
 
 impl<
     const C: u8,
-    N: Run<CentreRecord>,
+    N: GroupRun<CentreRecord>,
     D: Disk,
     O: Door + Drop,
     B: RowStart<CallerStand<C, N, D, O>>,
@@ -78,7 +78,7 @@ impl<
 
 impl<
     const C: u8,
-    N: Run<CentreRecord> + Send + Sync,
+    N: GroupRun<CentreRecord> + Send + Sync,
     D: Disk + Drop + Send,
     O: Door + Log + Drop + Send,
     B: RowStart<CallerStand<C, N, D, O>>,
@@ -146,13 +146,18 @@ impl<
 
 /// The ports of the editors. Contracts see whether they are served.
 #[derive(Drop)]
-pub struct EditorsRow<U: Run<Record>, D: Disk, E: Door + Drop, B: RowStart<EditorStand<U, D, E>>> {
+pub struct EditorsRow<
+    U: GroupRun<Record>,
+    D: Disk,
+    E: Door + Drop,
+    B: RowStart<EditorStand<U, D, E>>,
+> {
     stands: Vec<EditorStand<U, D, E>>,
     is_served: bool,
     start: PhantomData<B>,
 }
 
-impl<U: Run<Record>, D: Disk, E: Door + Drop, B: RowStart<EditorStand<U, D, E>>> Model
+impl<U: GroupRun<Record>, D: Disk, E: Door + Drop, B: RowStart<EditorStand<U, D, E>>> Model
     for EditorsRow<U, D, E, B> {
     ghost use Rattle.std.specs.Prelude.{◌≡◌, ◌<◌, Bool};
     ghost use Rattle.pv_ports.specs.Ends.{line_of};
@@ -175,7 +180,7 @@ impl<U: Run<Record>, D: Disk, E: Door + Drop, B: RowStart<EditorStand<U, D, E>>>
 }
 
 impl<
-    U: Run<Record> + Send + Sync,
+    U: GroupRun<Record> + Send + Sync,
     D: Disk + Drop + Send,
     E: Door + Log + Drop + Send,
     B: RowStart<EditorStand<U, D, E>>,

@@ -2,8 +2,8 @@
 
 use crate::centre_carrier::CentreCarrier;
 use pv_edits::Record;
+use pv_group::GroupRun;
 use pv_irc::CentreRecord;
-use pv_live::Run;
 use pv_outside::{Disk, Door};
 use pv_service::{CallerStand, EditorStand};
 use std::alloc::Global;
@@ -11,11 +11,11 @@ use std::alloc::Global;
 /// The stands of all ports. A centre that the network does not have has none.
 #[derive(Drop)]
 pub struct AllPorts<
-    U: Run<Record>,
-    N0: Run<CentreRecord>,
-    N1: Run<CentreRecord>,
-    N2: Run<CentreRecord>,
-    N3: Run<CentreRecord>,
+    U: GroupRun<Record>,
+    N0: GroupRun<CentreRecord>,
+    N1: GroupRun<CentreRecord>,
+    N2: GroupRun<CentreRecord>,
+    N3: GroupRun<CentreRecord>,
     D: Disk + Drop,
     O: Door + Drop,
     E: Door + Drop,
@@ -33,11 +33,11 @@ pub struct AllPorts<
 }
 
 impl<
-    U: Run<Record>,
-    N0: Run<CentreRecord>,
-    N1: Run<CentreRecord>,
-    N2: Run<CentreRecord>,
-    N3: Run<CentreRecord>,
+    U: GroupRun<Record>,
+    N0: GroupRun<CentreRecord>,
+    N1: GroupRun<CentreRecord>,
+    N2: GroupRun<CentreRecord>,
+    N3: GroupRun<CentreRecord>,
     D: Disk + Drop,
     O: Door + Drop,
     E: Door + Drop,
@@ -57,11 +57,11 @@ impl<
 /// The carriers of all centres. Of a centre that the network does not have there is none.
 #[derive(Drop)]
 pub struct AllCarriers<
-    U: Run<Record>,
-    N0: Run<CentreRecord>,
-    N1: Run<CentreRecord>,
-    N2: Run<CentreRecord>,
-    N3: Run<CentreRecord>,
+    U: GroupRun<Record>,
+    N0: GroupRun<CentreRecord>,
+    N1: GroupRun<CentreRecord>,
+    N2: GroupRun<CentreRecord>,
+    N3: GroupRun<CentreRecord>,
     D: Disk + Drop,
 > {
     /// Centre 0.

@@ -1,20 +1,22 @@
-ghost use Rattle.std.specs.Prelude.{◌≡◌, ℕ, ◌+◌, ◌++◌, map, IfOk};
-ghost use Rattle.pv_live.specs.Closing.{IsClosed};
+ghost use Rattle.std.specs.Prelude.{◌≡◌, ◌+◌, ◌++◌, map, IfOk};
+ghost use Rattle.pv_centres.specs.Served.{IsGivenBack};
 
+use crate::closed::{ClosedNode, close_live};
 use crate::editors_row::take_editors;
 use pv_edits::Record;
-use pv_live::{Live, Pass, Run};
-use pv_node::{Node, Rules};
+use pv_group::{GroupRun, Live};
+use pv_live::Pass;
+use pv_node::Rules;
 use pv_outside::{Disk, Door};
 use pv_service::{EditorStand, PortReport};
 use pv_udc::UdcRules;
 use std::alloc::{AllocError, Global};
 use std::sync::Wait;
 
-/// What was handed back of the Update Centre: its node, and the doors and reports of its editors' ports, in order.
+/// What was handed back of the Update Centre: its node or its disk, and the doors and reports of its editors' ports, in order.
 #[derive(Drop)]
 pub struct ClosedUpdate<D: Disk + Drop, E: Door + Drop> {
-    pub node: Node<UdcRules, D>,
+    pub node: ClosedNode<UdcRules, D>,
     pub doors: Vec<E>,
     pub reports: Vec<PortReport<D>>,
 }
@@ -22,7 +24,7 @@ pub struct ClosedUpdate<D: Disk + Drop, E: Door + Drop> {
 /// Closes the Update Centre, of which carriers had these passes. If no memory is found its disk keeps what it held.
 ///
 /// `count` is how many passes it has, which is looked at again. `AllocError` comes if it is another, too.
-pub fn close_update<U: Run<Record>, D: Disk + Drop, E: Door + Drop, H: Wait + Drop>(
+pub fn close_update<U: GroupRun<Record>, D: Disk + Drop, E: Door + Drop, H: Wait + Drop>(
     alloc: Global,
     live: Box<Live<UdcRules, D, U, H>>,
     stands: Vec<EditorStand<U, D, E>>,
@@ -30,9 +32,8 @@ pub fn close_update<U: Run<Record>, D: Disk + Drop, E: Door + Drop, H: Wait + Dr
     count: usize,
 ) -> Result<ClosedUpdate<D, E>, AllocError>
     requires { count ≡ U.passes }
-    ensures closed { IfOk result (λ c. (asked : ℕ) × IsClosed ⟦<UdcRules as Rules>⟧ D.Reports U.limits
-        U.opening
-        (map (λ s. s.port.pass) stands.items ++ carriers.items) c.node asked) }
+    ensures closed { IfOk result (λ c. IsGivenBack ⟦<UdcRules as Rules>⟧ D.Reports U.limits U.opening
+        (map (λ s. s.port.pass) stands.items ++ carriers.items) c.node) }
     ensures doors { IfOk result (λ c. c.doors.items ≡ map (λ s. s.door.value) stands.items) }
     ensures reports { IfOk result (λ c. c.reports.items ≡ map (λ s. s.report.value) stands.items) }
 {
@@ -45,7 +46,7 @@ pub fn close_update<U: Run<Record>, D: Disk + Drop, E: Door + Drop, H: Wait + Dr
     if passes.len() != count {
         return Err(AllocError);
     }
-    let node = Box::into_inner(live).close(passes).node;
+    let node = close_live(Box::into_inner(live), passes);
     Ok(ClosedUpdate {
         node,
         doors,
