@@ -6,11 +6,14 @@ ghost use Rattle.pv_centres.specs.Parts.{IfThere};
 ghost use Rattle.pv_centres.specs.Served.{IsClosedWith};
 
 use crate::network::{Lives, OpenNetwork};
-use pv_centres::{AllCarriers, AllPorts, Collected, Nodes, OpenCentre, close_centre, close_update};
+use pv_centres::{
+    AllCarriers, AllPorts, ClosedNode, ClosedNodes, Collected, OpenCentre, close_centre,
+    close_update,
+};
 use pv_edits::Record;
+use pv_group::GroupRun;
 use pv_irc::{CentreRecord, IrcRules};
-use pv_live::Run;
-use pv_node::{Node, Rules};
+use pv_node::Rules;
 use pv_outside::{Disk, Door};
 use pv_service::{CallerStand, CarrierReport, PortReport};
 use pv_udc::UdcRules;
@@ -20,8 +23,8 @@ use std::sync::Wait;
 /// A network that was closed.
 #[derive(Drop)]
 pub struct ClosedNetwork<D: Disk + Drop, O: Door + Drop, E: Door + Drop> {
-    /// Its nodes.
-    pub nodes: Nodes<D>,
+    /// What has become of its nodes.
+    pub nodes: ClosedNodes<D>,
     /// The callers' doors, in order.
     pub callers: Vec<O>,
     /// What their ports have met, in order.
@@ -34,22 +37,22 @@ pub struct ClosedNetwork<D: Disk + Drop, O: Door + Drop, E: Door + Drop> {
     pub carriers_met: Vec<CarrierReport<D>>,
 }
 
-/// The nodes of those centres that a network has, closed.
+/// What has become of the nodes of those centres that a network has.
 #[derive(Drop)]
 struct ClosedCentres<D: Disk + Drop> {
-    first: Option<Node<IrcRules<0>, D>>,
-    second: Option<Node<IrcRules<1>, D>>,
-    third: Option<Node<IrcRules<2>, D>>,
-    fourth: Option<Node<IrcRules<3>, D>>,
+    first: Option<ClosedNode<IrcRules<0>, D>>,
+    second: Option<ClosedNode<IrcRules<1>, D>>,
+    third: Option<ClosedNode<IrcRules<2>, D>>,
+    fourth: Option<ClosedNode<IrcRules<3>, D>>,
 }
 
 /// Closes those centres that a network has, and adds what their stands had to what was collected.
 fn close_centres<
-    U: Run<Record>,
-    N0: Run<CentreRecord>,
-    N1: Run<CentreRecord>,
-    N2: Run<CentreRecord>,
-    N3: Run<CentreRecord>,
+    U: GroupRun<Record>,
+    N0: GroupRun<CentreRecord>,
+    N1: GroupRun<CentreRecord>,
+    N2: GroupRun<CentreRecord>,
+    N3: GroupRun<CentreRecord>,
     D: Disk + Drop,
     O: Door + Drop,
     H: Wait + Drop,
@@ -134,11 +137,11 @@ fn close_centres<
 
 /// Closes the nodes of a network. If no memory is found the disks keep what they held.
 pub(crate) fn close_network<
-    U: Run<Record>,
-    N0: Run<CentreRecord>,
-    N1: Run<CentreRecord>,
-    N2: Run<CentreRecord>,
-    N3: Run<CentreRecord>,
+    U: GroupRun<Record>,
+    N0: GroupRun<CentreRecord>,
+    N1: GroupRun<CentreRecord>,
+    N2: GroupRun<CentreRecord>,
+    N3: GroupRun<CentreRecord>,
     D: Disk + Drop,
     O: Door + Drop,
     E: Door + Drop,
@@ -213,7 +216,7 @@ pub(crate) fn close_network<
     )?;
     let update = close_update(alloc, update, editors, collected.passes, update_passes)?;
     Ok(ClosedNetwork {
-        nodes: Nodes {
+        nodes: ClosedNodes {
             update: update.node,
             first: closed.first,
             second: closed.second,

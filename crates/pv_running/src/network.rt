@@ -15,8 +15,9 @@ use pv_centres::{
     AllCarriers, AllPorts, OpenCentre, OpenedNodes, next_doors, open_centre, row_of_editors,
 };
 use pv_edits::Record;
+use pv_group::{GroupRun, GroupStart, Live, open_live};
 use pv_irc::{CentreRecord, IrcRules};
-use pv_live::{Live, Pass, Run, Start, open_live};
+use pv_live::Pass;
 use pv_node::{Node, Opened, Rules};
 use pv_outside::{Disk, Door};
 use pv_service::EditorStand;
@@ -38,10 +39,10 @@ pub struct Plan {
 /// The live nodes of a network's centres. Of a centre that the network does not have there is none.
 #[derive(Drop)]
 pub(crate) struct Lives<
-    N0: Run<CentreRecord>,
-    N1: Run<CentreRecord>,
-    N2: Run<CentreRecord>,
-    N3: Run<CentreRecord>,
+    N0: GroupRun<CentreRecord>,
+    N1: GroupRun<CentreRecord>,
+    N2: GroupRun<CentreRecord>,
+    N3: GroupRun<CentreRecord>,
     D: Disk + Drop,
     H: Wait + Drop,
 > {
@@ -58,11 +59,11 @@ pub(crate) struct Lives<
 /// All nodes of a network at work. Of a centre that the network does not have there is none, and it has no stands.
 #[derive(Drop)]
 pub(crate) struct OpenNetwork<
-    U: Run<Record>,
-    N0: Run<CentreRecord>,
-    N1: Run<CentreRecord>,
-    N2: Run<CentreRecord>,
-    N3: Run<CentreRecord>,
+    U: GroupRun<Record>,
+    N0: GroupRun<CentreRecord>,
+    N1: GroupRun<CentreRecord>,
+    N2: GroupRun<CentreRecord>,
+    N3: GroupRun<CentreRecord>,
     D: Disk + Drop,
     O: Door + Drop,
     E: Door + Drop,
@@ -85,11 +86,11 @@ pub(crate) struct OpenNetwork<
 /// What the runs of a network's nodes are named by.
 #[derive(Drop)]
 pub(crate) struct Starts {
-    pub update: Start<Record>,
-    pub first: Start<CentreRecord>,
-    pub second: Start<CentreRecord>,
-    pub third: Start<CentreRecord>,
-    pub fourth: Start<CentreRecord>,
+    pub update: GroupStart<Record>,
+    pub first: GroupStart<CentreRecord>,
+    pub second: GroupStart<CentreRecord>,
+    pub third: GroupStart<CentreRecord>,
+    pub fourth: GroupStart<CentreRecord>,
 }
 
 impl Starts {
@@ -100,11 +101,11 @@ impl Starts {
             × (result.third.passes ≡ centre) × (result.fourth.passes ≡ centre) }
     {
         Starts {
-            update: Start::new(update),
-            first: Start::new(centre),
-            second: Start::new(centre),
-            third: Start::new(centre),
-            fourth: Start::new(centre),
+            update: GroupStart::new(update),
+            first: GroupStart::new(centre),
+            second: GroupStart::new(centre),
+            third: GroupStart::new(centre),
+            fourth: GroupStart::new(centre),
         }
     }
 }
@@ -112,8 +113,8 @@ impl Starts {
 /// Opens a centre for the next doors.
 fn open_next<
     const C: u8,
-    U: Run<Record>,
-    N: Run<CentreRecord>,
+    U: GroupRun<Record>,
+    N: GroupRun<CentreRecord>,
     D: Disk + Drop,
     O: Door + Drop,
     H: Wait + Drop,
@@ -121,7 +122,7 @@ fn open_next<
     rt: H,
     alloc: Global,
     node: Node<IrcRules<C>, D>,
-    start: Start<CentreRecord>,
+    start: GroupStart<CentreRecord>,
     udc: Pass<UdcRules, U>,
     doors: &mut IntoIter<O>,
     plan: Plan,
@@ -141,6 +142,7 @@ fn open_next<
       told = N.told;
       failed = N.failed;
       passes = N.passes;
+      taken = N.taken;
     } }
 
     // It is there, with a stand for each of its doors, and the other doors are left.
@@ -168,8 +170,8 @@ fn open_next<
 /// Opens a centre, if the network has it, for the next doors.
 fn open_if_there<
     const C: u8,
-    U: Run<Record>,
-    N: Run<CentreRecord>,
+    U: GroupRun<Record>,
+    N: GroupRun<CentreRecord>,
     D: Disk + Drop,
     O: Door + Drop,
     H: Wait + Drop,
@@ -177,7 +179,7 @@ fn open_if_there<
     rt: H,
     alloc: Global,
     opened: Option<Opened<IrcRules<C>, D>>,
-    start: Start<CentreRecord>,
+    start: GroupStart<CentreRecord>,
     udc: &mut Vec<Pass<UdcRules, U>>,
     doors: &mut IntoIter<O>,
     plan: Plan,
@@ -197,6 +199,7 @@ fn open_if_there<
       told = N.told;
       failed = N.failed;
       passes = N.passes;
+      taken = N.taken;
     } }
 
     // It is open exactly if the network has it, and each of its stands is new.
@@ -230,9 +233,9 @@ fn open_if_there<
 struct OpenPair<
     const A: u8,
     const B: u8,
-    U: Run<Record>,
-    NA: Run<CentreRecord>,
-    NB: Run<CentreRecord>,
+    U: GroupRun<Record>,
+    NA: GroupRun<CentreRecord>,
+    NB: GroupRun<CentreRecord>,
     D: Disk + Drop,
     O: Door + Drop,
     H: Wait + Drop,
@@ -245,9 +248,9 @@ struct OpenPair<
 fn open_pair<
     const A: u8,
     const B: u8,
-    U: Run<Record>,
-    NA: Run<CentreRecord>,
-    NB: Run<CentreRecord>,
+    U: GroupRun<Record>,
+    NA: GroupRun<CentreRecord>,
+    NB: GroupRun<CentreRecord>,
     D: Disk + Drop,
     O: Door + Drop,
     H: Wait + Copy + Drop,
@@ -255,9 +258,9 @@ fn open_pair<
     rt: H,
     alloc: Global,
     one: Option<Opened<IrcRules<A>, D>>,
-    one_start: Start<CentreRecord>,
+    one_start: GroupStart<CentreRecord>,
     other: Option<Opened<IrcRules<B>, D>>,
-    other_start: Start<CentreRecord>,
+    other_start: GroupStart<CentreRecord>,
     udc: &mut Vec<Pass<UdcRules, U>>,
     doors: &mut IntoIter<O>,
     plan: Plan,
@@ -272,12 +275,14 @@ fn open_pair<
       told = NA.told;
       failed = NA.failed;
       passes = NA.passes;
+      taken = NA.taken;
     } }
     requires other_start { other_start ≡ record {
       book = NB.book;
       told = NB.told;
       failed = NB.failed;
       passes = NB.passes;
+      taken = NB.taken;
     } }
 
     // There are passes and doors enough for both.
@@ -327,11 +332,11 @@ fn open_pair<
 /// The centres of a network at work.
 #[derive(Drop)]
 struct OpenCentres<
-    U: Run<Record>,
-    N0: Run<CentreRecord>,
-    N1: Run<CentreRecord>,
-    N2: Run<CentreRecord>,
-    N3: Run<CentreRecord>,
+    U: GroupRun<Record>,
+    N0: GroupRun<CentreRecord>,
+    N1: GroupRun<CentreRecord>,
+    N2: GroupRun<CentreRecord>,
+    N3: GroupRun<CentreRecord>,
     D: Disk + Drop,
     O: Door + Drop,
     H: Wait + Drop,
@@ -343,11 +348,11 @@ struct OpenCentres<
 }
 
 impl<
-    U: Run<Record>,
-    N0: Run<CentreRecord>,
-    N1: Run<CentreRecord>,
-    N2: Run<CentreRecord>,
-    N3: Run<CentreRecord>,
+    U: GroupRun<Record>,
+    N0: GroupRun<CentreRecord>,
+    N1: GroupRun<CentreRecord>,
+    N2: GroupRun<CentreRecord>,
+    N3: GroupRun<CentreRecord>,
     D: Disk + Drop,
     O: Door + Drop,
     H: Wait + Drop,
@@ -420,11 +425,11 @@ impl<
 
 /// Opens those centres that the network has, each with its part of the doors and a pass of the Update Centre.
 fn open_centres<
-    U: Run<Record>,
-    N0: Run<CentreRecord>,
-    N1: Run<CentreRecord>,
-    N2: Run<CentreRecord>,
-    N3: Run<CentreRecord>,
+    U: GroupRun<Record>,
+    N0: GroupRun<CentreRecord>,
+    N1: GroupRun<CentreRecord>,
+    N2: GroupRun<CentreRecord>,
+    N3: GroupRun<CentreRecord>,
     D: Disk + Drop,
     O: Door + Drop,
     H: Wait + Copy + Drop,
@@ -432,13 +437,13 @@ fn open_centres<
     rt: H,
     alloc: Global,
     first: Option<Opened<IrcRules<0>, D>>,
-    first_start: Start<CentreRecord>,
+    first_start: GroupStart<CentreRecord>,
     second: Option<Opened<IrcRules<1>, D>>,
-    second_start: Start<CentreRecord>,
+    second_start: GroupStart<CentreRecord>,
     third: Option<Opened<IrcRules<2>, D>>,
-    third_start: Start<CentreRecord>,
+    third_start: GroupStart<CentreRecord>,
     fourth: Option<Opened<IrcRules<3>, D>>,
-    fourth_start: Start<CentreRecord>,
+    fourth_start: GroupStart<CentreRecord>,
     udc: &mut Vec<Pass<UdcRules, U>>,
     doors: Vec<O>,
     plan: Plan,
@@ -456,6 +461,7 @@ fn open_centres<
       told = N0.told;
       failed = N0.failed;
       passes = N0.passes;
+      taken = N0.taken;
     } }
 
     // The runs of the other centres are named by their starts, too.
@@ -464,18 +470,21 @@ fn open_centres<
       told = N1.told;
       failed = N1.failed;
       passes = N1.passes;
+      taken = N1.taken;
     } }
     requires third_start { third_start ≡ record {
       book = N2.book;
       told = N2.told;
       failed = N2.failed;
       passes = N2.passes;
+      taken = N2.taken;
     } }
     requires fourth_start { fourth_start ≡ record {
       book = N3.book;
       told = N3.told;
       failed = N3.failed;
       passes = N3.passes;
+      taken = N3.taken;
     } }
     requires passes { IsPassCount (plan.ports + 1) × (plan.ports + 1 ≡ N0.passes)
         × (plan.ports + 1 ≡ N1.passes)
@@ -562,7 +571,7 @@ fn open_centres<
 }
 
 /// A row of new stands for editors: one for each door, with a pass that was used for nothing.
-fn fresh_editors<U: Run<Record>, D: Disk, E: Door + Drop>(
+fn fresh_editors<U: GroupRun<Record>, D: Disk, E: Door + Drop>(
     alloc: Global,
     passes: Vec<Pass<UdcRules, U>>,
     doors: Vec<E>,
@@ -583,12 +592,12 @@ fn fresh_editors<U: Run<Record>, D: Disk, E: Door + Drop>(
 }
 
 /// Opens the Update Centre, with as many new passes as it is to have.
-fn open_update<U: Run<Record>, D: Disk + Drop, H: Wait + Drop>(
+fn open_update<U: GroupRun<Record>, D: Disk + Drop, H: Wait + Drop>(
     rt: H,
     alloc: Global,
     node: Node<UdcRules, D>,
     passes: usize,
-    start: Start<Record>,
+    start: GroupStart<Record>,
 ) -> Result<(Box<Live<UdcRules, D, U, H>>, Vec<Pass<UdcRules, U>>), AllocError>
     requires ready { IsReady ⟦<UdcRules as Rules>⟧ D.Reports U.opening U.limits node }
     requires passes { (passes ≡ U.passes) × IsPassCount passes }
@@ -597,6 +606,7 @@ fn open_update<U: Run<Record>, D: Disk + Drop, H: Wait + Drop>(
       told = U.told;
       failed = U.failed;
       passes = U.passes;
+      taken = U.taken;
     } }
     ensures new { IfOk result (λ r. All IsNewPass r.1.items) }
     ensures count { IfOk result (λ r. vec_len r.1 ≡ passes) }
@@ -608,11 +618,11 @@ fn open_update<U: Run<Record>, D: Disk + Drop, H: Wait + Drop>(
 
 /// Opens the nodes of a network for their editors and callers, under the names of their runs.
 pub(crate) fn open_network<
-    U: Run<Record>,
-    N0: Run<CentreRecord>,
-    N1: Run<CentreRecord>,
-    N2: Run<CentreRecord>,
-    N3: Run<CentreRecord>,
+    U: GroupRun<Record>,
+    N0: GroupRun<CentreRecord>,
+    N1: GroupRun<CentreRecord>,
+    N2: GroupRun<CentreRecord>,
+    N3: GroupRun<CentreRecord>,
     D: Disk + Drop,
     O: Door + Drop,
     E: Door + Drop,
@@ -642,30 +652,35 @@ pub(crate) fn open_network<
       told = U.told;
       failed = U.failed;
       passes = U.passes;
+      taken = U.taken;
     } }
     requires first_start { starts.first ≡ record {
       book = N0.book;
       told = N0.told;
       failed = N0.failed;
       passes = N0.passes;
+      taken = N0.taken;
     } }
     requires second_start { starts.second ≡ record {
       book = N1.book;
       told = N1.told;
       failed = N1.failed;
       passes = N1.passes;
+      taken = N1.taken;
     } }
     requires third_start { starts.third ≡ record {
       book = N2.book;
       told = N2.told;
       failed = N2.failed;
       passes = N2.passes;
+      taken = N2.taken;
     } }
     requires fourth_start { starts.fourth ≡ record {
       book = N3.book;
       told = N3.told;
       failed = N3.failed;
       passes = N3.passes;
+      taken = N3.taken;
     } }
 
     // There is a pass for each port, and for each carrier one at both of its ends.

@@ -14,8 +14,8 @@ use crate::beside::do_beside;
 use crate::network::{Lives, OpenNetwork};
 use pv_centres::{AllCarriers, AllPorts, CallersRow, CentreCarrier, EditorsRow, RowStart};
 use pv_edits::Record;
+use pv_group::{GroupRun, Live};
 use pv_irc::{CentreRecord, IrcRules};
-use pv_live::{Live, Run};
 use pv_node::Rules;
 use pv_outside::{Clock, Disk, Door, Sink, Source};
 use pv_service::{CallerStand, EditorStand, Log, Signals};
@@ -29,7 +29,7 @@ use std::thread::Threads;
 /// Serves the callers of a centre. One that is not there has none.
 fn serve_if_there<
     const C: u8,
-    N: Run<CentreRecord> + Send + Sync,
+    N: GroupRun<CentreRecord> + Send + Sync,
     D: Disk + Drop + Send,
     H: Wait + Drop + Send + Sync,
     O: Door + Log + Drop + Send,
@@ -55,8 +55,8 @@ where
 /// Carries for a centre. One that is not there has no carrier.
 fn carry_if_there<
     const C: u8,
-    U: Run<Record>,
-    N: Run<CentreRecord>,
+    U: GroupRun<Record>,
+    N: GroupRun<CentreRecord>,
     D: Disk + Drop,
     H: Wait + Drop,
     R: Wait,
@@ -82,7 +82,7 @@ fn with_editors<
     GG: FnMut() + Send,
     GH: FnMut() + Send,
     GI: FnMut() + Send,
-    U: Run<Record> + Send + Sync,
+    U: GroupRun<Record> + Send + Sync,
     D: Disk + Drop + Send,
     H: Wait + Drop + Send + Sync,
     E: Door + Log + Drop + Send,
@@ -131,8 +131,8 @@ fn with_fourth<
     GF: FnMut() + Send,
     GG: FnMut() + Send,
     GH: FnMut() + Send,
-    U: Run<Record> + Send + Sync,
-    N3: Run<CentreRecord> + Send + Sync,
+    U: GroupRun<Record> + Send + Sync,
+    N3: GroupRun<CentreRecord> + Send + Sync,
     D: Disk + Drop + Send,
     H: Wait + Drop + Send + Sync,
     O: Door + Log + Drop + Send,
@@ -191,9 +191,9 @@ fn with_third_carrier<
     GC: FnMut() + Send,
     GF: FnMut() + Send,
     GG: FnMut() + Send,
-    U: Run<Record> + Send + Sync,
-    N2: Run<CentreRecord> + Send + Sync,
-    N3: Run<CentreRecord> + Send + Sync,
+    U: GroupRun<Record> + Send + Sync,
+    N2: GroupRun<CentreRecord> + Send + Sync,
+    N3: GroupRun<CentreRecord> + Send + Sync,
     D: Disk + Drop + Send,
     H: Wait + Drop + Send + Sync,
     O: Door + Log + Drop + Send,
@@ -252,9 +252,9 @@ fn with_third<
     GB: FnMut() + Send,
     GF: FnMut() + Send,
     GG: FnMut() + Send,
-    U: Run<Record> + Send + Sync,
-    N2: Run<CentreRecord> + Send + Sync,
-    N3: Run<CentreRecord> + Send + Sync,
+    U: GroupRun<Record> + Send + Sync,
+    N2: GroupRun<CentreRecord> + Send + Sync,
+    N3: GroupRun<CentreRecord> + Send + Sync,
     D: Disk + Drop + Send,
     H: Wait + Drop + Send + Sync,
     O: Door + Log + Drop + Send,
@@ -314,10 +314,10 @@ fn with_second_carrier<
     GA: FnMut() + Send,
     GB: FnMut() + Send,
     GF: FnMut() + Send,
-    U: Run<Record> + Send + Sync,
-    N1: Run<CentreRecord> + Send + Sync,
-    N2: Run<CentreRecord> + Send + Sync,
-    N3: Run<CentreRecord> + Send + Sync,
+    U: GroupRun<Record> + Send + Sync,
+    N1: GroupRun<CentreRecord> + Send + Sync,
+    N2: GroupRun<CentreRecord> + Send + Sync,
+    N3: GroupRun<CentreRecord> + Send + Sync,
     D: Disk + Drop + Send,
     H: Wait + Drop + Send + Sync,
     O: Door + Log + Drop + Send,
@@ -377,10 +377,10 @@ where
 fn with_second<
     GA: FnMut() + Send,
     GF: FnMut() + Send,
-    U: Run<Record> + Send + Sync,
-    N1: Run<CentreRecord> + Send + Sync,
-    N2: Run<CentreRecord> + Send + Sync,
-    N3: Run<CentreRecord> + Send + Sync,
+    U: GroupRun<Record> + Send + Sync,
+    N1: GroupRun<CentreRecord> + Send + Sync,
+    N2: GroupRun<CentreRecord> + Send + Sync,
+    N3: GroupRun<CentreRecord> + Send + Sync,
     D: Disk + Drop + Send,
     H: Wait + Drop + Send + Sync,
     O: Door + Log + Drop + Send,
@@ -442,11 +442,11 @@ where
 /// Runs the carrier of centre 0 and the threads of the later ones, with the row of centre 0 beside them.
 fn with_first_carrier<
     GA: FnMut() + Send,
-    U: Run<Record> + Send + Sync,
-    N0: Run<CentreRecord> + Send + Sync,
-    N1: Run<CentreRecord> + Send + Sync,
-    N2: Run<CentreRecord> + Send + Sync,
-    N3: Run<CentreRecord> + Send + Sync,
+    U: GroupRun<Record> + Send + Sync,
+    N0: GroupRun<CentreRecord> + Send + Sync,
+    N1: GroupRun<CentreRecord> + Send + Sync,
+    N2: GroupRun<CentreRecord> + Send + Sync,
+    N3: GroupRun<CentreRecord> + Send + Sync,
     D: Disk + Drop + Send,
     H: Wait + Drop + Send + Sync,
     O: Door + Log + Drop + Send,
@@ -507,11 +507,11 @@ where
 
 /// Runs the threads of all centres and of the editors.
 fn with_first<
-    U: Run<Record> + Send + Sync,
-    N0: Run<CentreRecord> + Send + Sync,
-    N1: Run<CentreRecord> + Send + Sync,
-    N2: Run<CentreRecord> + Send + Sync,
-    N3: Run<CentreRecord> + Send + Sync,
+    U: GroupRun<Record> + Send + Sync,
+    N0: GroupRun<CentreRecord> + Send + Sync,
+    N1: GroupRun<CentreRecord> + Send + Sync,
+    N2: GroupRun<CentreRecord> + Send + Sync,
+    N3: GroupRun<CentreRecord> + Send + Sync,
     D: Disk + Drop + Send,
     H: Wait + Drop + Send + Sync,
     O: Door + Log + Drop + Send,
@@ -574,11 +574,11 @@ where
 /// Runs the threads of all ports and carriers. The stands of each row are what its name says, and those that are returned have served
 /// their doors.
 fn run_rows<
-    U: Run<Record> + Send + Sync,
-    N0: Run<CentreRecord> + Send + Sync,
-    N1: Run<CentreRecord> + Send + Sync,
-    N2: Run<CentreRecord> + Send + Sync,
-    N3: Run<CentreRecord> + Send + Sync,
+    U: GroupRun<Record> + Send + Sync,
+    N0: GroupRun<CentreRecord> + Send + Sync,
+    N1: GroupRun<CentreRecord> + Send + Sync,
+    N2: GroupRun<CentreRecord> + Send + Sync,
+    N3: GroupRun<CentreRecord> + Send + Sync,
     D: Disk + Drop + Send,
     H: Wait + Drop + Send + Sync,
     O: Door + Log + Drop + Send,
@@ -690,11 +690,11 @@ where
 
 /// Runs the threads of a network, and waits for all.
 pub(crate) fn run_network<
-    U: Run<Record> + Send + Sync,
-    N0: Run<CentreRecord> + Send + Sync,
-    N1: Run<CentreRecord> + Send + Sync,
-    N2: Run<CentreRecord> + Send + Sync,
-    N3: Run<CentreRecord> + Send + Sync,
+    U: GroupRun<Record> + Send + Sync,
+    N0: GroupRun<CentreRecord> + Send + Sync,
+    N1: GroupRun<CentreRecord> + Send + Sync,
+    N2: GroupRun<CentreRecord> + Send + Sync,
+    N3: GroupRun<CentreRecord> + Send + Sync,
     D: Disk + Drop + Send,
     H: Wait + Drop + Send + Sync,
     O: Door + Log + Drop + Send,

@@ -15,8 +15,8 @@ use crate::network::{Plan, Starts, open_network};
 use crate::running::run_network;
 use pv_centres::OpenedNodes;
 use pv_edits::Record;
+use pv_group::GroupRun;
 use pv_irc::{CentreRecord, IrcRules};
-use pv_live::Run;
 use pv_node::Rules;
 use pv_outside::{Clock, Disk, Door, Limits, Sink, Source};
 use pv_service::{Log, Signals};
@@ -106,11 +106,11 @@ where
 
 /// Serves the doors of nodes whose runs have these names. The limits are for the names alone.
 fn serve_named<
-    U: Run<Record> + Send + Sync,
-    N0: Run<CentreRecord> + Send + Sync,
-    N1: Run<CentreRecord> + Send + Sync,
-    N2: Run<CentreRecord> + Send + Sync,
-    N3: Run<CentreRecord> + Send + Sync,
+    U: GroupRun<Record> + Send + Sync,
+    N0: GroupRun<CentreRecord> + Send + Sync,
+    N1: GroupRun<CentreRecord> + Send + Sync,
+    N2: GroupRun<CentreRecord> + Send + Sync,
+    N3: GroupRun<CentreRecord> + Send + Sync,
     D: Disk + Drop + Send,
     O: Door + Log + Drop + Send,
     E: Door + Log + Drop + Send,
@@ -146,30 +146,35 @@ where
       told = U.told;
       failed = U.failed;
       passes = U.passes;
+      taken = U.taken;
     } }
     requires first_start { starts.first ≡ record {
       book = N0.book;
       told = N0.told;
       failed = N0.failed;
       passes = N0.passes;
+      taken = N0.taken;
     } }
     requires second_start { starts.second ≡ record {
       book = N1.book;
       told = N1.told;
       failed = N1.failed;
       passes = N1.passes;
+      taken = N1.taken;
     } }
     requires third_start { starts.third ≡ record {
       book = N2.book;
       told = N2.told;
       failed = N2.failed;
       passes = N2.passes;
+      taken = N2.taken;
     } }
     requires fourth_start { starts.fourth ≡ record {
       book = N3.book;
       told = N3.told;
       failed = N3.failed;
       passes = N3.passes;
+      taken = N3.taken;
     } }
 
     // There is a pass for each port and each carrier, and the doors have counts to spare.

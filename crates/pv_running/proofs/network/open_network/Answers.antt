@@ -1,4 +1,4 @@
-use Rattle.std.proofs.Common.{◌+◌, sym, ◌∙◌}
+use Rattle.std.proofs.Common.{sym, ◌∙◌}
 use Rattle.pv_running.proofs.Ports.{all_of_them}
 use Rattle.pv_running.proofs.network.open_network.Goals as goal
 

@@ -16,6 +16,9 @@ ghosts-serve_named-U-Run g a = record {
 abbrev pub ghosts-serve_named-U-HistoryName : goal.ghosts-serve_named-U-HistoryName
 ghosts-serve_named-U-HistoryName g a = record { book = a.starts.update.book }
 
+abbrev pub ghosts-serve_named-U-GroupRun : goal.ghosts-serve_named-U-GroupRun
+ghosts-serve_named-U-GroupRun g a = record { taken = a.starts.update.taken }
+
 abbrev pub ghosts-serve_named-N0-Run : goal.ghosts-serve_named-N0-Run
 ghosts-serve_named-N0-Run g a = record {
   opening = unwrap_or (option_map (λ o. trail_records o.trail.items) a.nodes.first) [];
@@ -27,6 +30,9 @@ ghosts-serve_named-N0-Run g a = record {
 
 abbrev pub ghosts-serve_named-N0-HistoryName : goal.ghosts-serve_named-N0-HistoryName
 ghosts-serve_named-N0-HistoryName g a = record { book = a.starts.first.book }
+
+abbrev pub ghosts-serve_named-N0-GroupRun : goal.ghosts-serve_named-N0-GroupRun
+ghosts-serve_named-N0-GroupRun g a = record { taken = a.starts.first.taken }
 
 abbrev pub ghosts-serve_named-N1-Run : goal.ghosts-serve_named-N1-Run
 ghosts-serve_named-N1-Run g a = record {
@@ -40,6 +46,9 @@ ghosts-serve_named-N1-Run g a = record {
 abbrev pub ghosts-serve_named-N1-HistoryName : goal.ghosts-serve_named-N1-HistoryName
 ghosts-serve_named-N1-HistoryName g a = record { book = a.starts.second.book }
 
+abbrev pub ghosts-serve_named-N1-GroupRun : goal.ghosts-serve_named-N1-GroupRun
+ghosts-serve_named-N1-GroupRun g a = record { taken = a.starts.second.taken }
+
 abbrev pub ghosts-serve_named-N2-Run : goal.ghosts-serve_named-N2-Run
 ghosts-serve_named-N2-Run g a = record {
   opening = unwrap_or (option_map (λ o. trail_records o.trail.items) a.nodes.third) [];
@@ -52,6 +61,9 @@ ghosts-serve_named-N2-Run g a = record {
 abbrev pub ghosts-serve_named-N2-HistoryName : goal.ghosts-serve_named-N2-HistoryName
 ghosts-serve_named-N2-HistoryName g a = record { book = a.starts.third.book }
 
+abbrev pub ghosts-serve_named-N2-GroupRun : goal.ghosts-serve_named-N2-GroupRun
+ghosts-serve_named-N2-GroupRun g a = record { taken = a.starts.third.taken }
+
 abbrev pub ghosts-serve_named-N3-Run : goal.ghosts-serve_named-N3-Run
 ghosts-serve_named-N3-Run g a = record {
   opening = unwrap_or (option_map (λ o. trail_records o.trail.items) a.nodes.fourth) [];
@@ -63,3 +75,6 @@ ghosts-serve_named-N3-Run g a = record {
 
 abbrev pub ghosts-serve_named-N3-HistoryName : goal.ghosts-serve_named-N3-HistoryName
 ghosts-serve_named-N3-HistoryName g a = record { book = a.starts.fourth.book }
+
+abbrev pub ghosts-serve_named-N3-GroupRun : goal.ghosts-serve_named-N3-GroupRun
+ghosts-serve_named-N3-GroupRun g a = record { taken = a.starts.fourth.taken }
