@@ -1,15 +1,18 @@
 -- As many disks and doors are handed back as there were.
-use Rattle.std.proofs.Common.{◌≡◌, ℕ, ◌+◌, List, [], ◌∷◌, ◌++◌, length, map, Option, None, Some, inl, inr, refl, sym, ap, ◌∙◌, arith}
-use Rattle.std.specs.Prelude.{option_to_list}
+use Rattle.std.proofs.Common.{◌≡◌, ℕ, ◌+◌, List, [], ◌∷◌, ◌++◌, length, map, Option, None, Some, ◌⊎◌, inl, inr, refl, sym, ap, ◌∙◌, arith}
+use Rattle.std.specs.Prelude.{Ok, option_to_list}
 use Rattle.std.specs.Option.{option_map}
 use Rattle.std.proofs.lemmas.List.{length-append, length-map}
+use Rattle.pv_node.specs.Parts.{Parts}
 use Rattle.pv_outside.specs.declared.reports.Reports as reports
 use Rattle.pv_service.specs.Doors.{DoorReport}
 use Rattle.pv_service.specs.declared.port_report.PortReport.{PortReport}
 use Rattle.pv_centres.specs.Opening.{KeepsDisks, count_of, weigh}
-use Rattle.pv_centres.specs.Served.{ServesEachDoor}
+use Rattle.pv_centres.specs.Served.{ClosedNode, ServesEachDoor}
+use Rattle.pv_centres.specs.Closed.{disk_left, disks_left}
+use Rattle.pv_centres.specs.declared.closed.ClosedNodes.{ClosedNodes}
 use Rattle.pv_centres.specs.declared.nodes.Nodes.{Nodes}
-use Rattle.pv_serve.specs.Ended.{AreHandedBack, WouldBeBrought, disks_of}
+use Rattle.pv_serve.specs.Ended.{AreClosed, AreHandedBack, AreLeft, WouldBeBrought, disks_of}
 use Rattle.pv_serve.specs.Serving.{EndsBy, HandsAllBack, WasBegun}
 use Rattle.pv_serve.specs.declared.status.ServeStatus.{ServeStatus}
 use Rattle.pv_serve.specs.declared.status.ServeStatus.TheVariants.{Usage, NoStart, Memory, Done, Full, DiskFault, DoorFault, Unopened}
@@ -44,7 +47,7 @@ length_there of (Some there) = refl
 
 -- the disks of closed nodes are as many as the nodes
 module _ {D F : Type 0} (g : reports.Ghosts D) (status : ServeStatus D F) (closed : Nodes D F) (before after : List D) where
-  pub disks_back : AreHandedBack g status closed before after
+  disks_back : AreHandedBack g status closed before after
       → length after ≡ length before + (count_of closed.first + count_of closed.second + count_of closed.third + count_of closed.fourth
       + 1)
   disks_back back =
@@ -70,16 +73,57 @@ module _ {D F : Type 0} (g : reports.Ghosts D) (status : ServeStatus D F) (close
         same_weight 1 closed.fourth ended.fourth (WouldBeBrought g status 3 closed.update ended.update) back.fourth,
       )
 
--- a server that was begun and hands all back has ended
-pub ended_if_back : {D F : Type 0} (Ended : Type 0) (status : ServeStatus D F) → WasBegun status → HandsAllBack status
-    → EndsBy ⊥ Ended status
-    → Ended
-ended_if_back Ended Usage begun all ends = absurd begun
-ended_if_back Ended NoStart begun all ends = absurd begun
-ended_if_back Ended Memory begun all ends = absurd all
-ended_if_back Ended (Unopened node fault) begun all ends = absurd ends
-ended_if_back Ended (DiskFault failure) begun all (inl none) = absurd none
-ended_if_back Ended (DiskFault failure) begun all (inr ended) = ended
-ended_if_back Ended Done begun all ends = ends
-ended_if_back Ended DoorFault begun all ends = ends
-ended_if_back Ended (Full node count) begun all ends = ends
+-- what is there is there in another form
+count_map : {X Y : Type 0} (of : X → Y) (x : Option X) → count_of (option_map of x) ≡ count_of x
+count_map of None = refl
+count_map of (Some there) = refl
+
+-- a node that was given back
+abbrev given : {D F State Rec : Type 0} → Parts D State Rec → ClosedNode D F State Rec
+given node = Ok node
+
+-- the disks of nodes that were closed are as many as the nodes, whether these were given back or not
+module _ {D F : Type 0} (g : reports.Ghosts D) (status : ServeStatus D F) (closed : ClosedNodes D F) (before after : List D) where
+  pub closed_back : AreClosed g status closed before after ⊎ AreLeft closed before after
+      → length after ≡ length before + (count_of closed.first + count_of closed.second + count_of closed.third + count_of closed.fourth
+      + 1)
+  closed_back (inl is) =
+      let nodes = is.nodes in
+      omega (
+        arith,
+        disks_back g status nodes before after is.back,
+        ap count_of is.all.first ∙ count_map (given {D = D} {F = F}) nodes.first,
+        ap count_of is.all.second ∙ count_map (given {D = D} {F = F}) nodes.second,
+        ap count_of is.all.third ∙ count_map (given {D = D} {F = F}) nodes.third,
+        ap count_of is.all.fourth ∙ count_map (given {D = D} {F = F}) nodes.fourth,
+      )
+  closed_back (inr is) =
+      let first = option_to_list (option_map disk_left closed.first) in
+      let second = option_to_list (option_map disk_left closed.second) in
+      let third = option_to_list (option_map disk_left closed.third) in
+      let fourth = option_to_list (option_map disk_left closed.fourth) in
+      omega (
+        arith,
+        ap (λ (l : List D). length l) is.disks,
+        length-append before (disks_left closed),
+        length-append first (second ++ (third ++ fourth)),
+        length-append second (third ++ fourth),
+        length-append third fourth,
+        length_there disk_left closed.first,
+        length_there disk_left closed.second,
+        length_there disk_left closed.third,
+        length_there disk_left closed.fourth,
+      )
+
+-- a server that was begun and hands all back has ended, or has left its disks
+pub ended_if_back : {D F : Type 0} (Ended Left : Type 0) (status : ServeStatus D F) → WasBegun status → HandsAllBack status
+    → EndsBy ⊥ Ended Left status → Ended ⊎ Left
+ended_if_back Ended Left Usage begun all ends = absurd begun
+ended_if_back Ended Left NoStart begun all ends = absurd begun
+ended_if_back Ended Left Memory begun all ends = absurd all
+ended_if_back Ended Left (Unopened node fault) begun all ends = absurd ends
+ended_if_back Ended Left (DiskFault failure) begun all (inl none) = absurd none
+ended_if_back Ended Left (DiskFault failure) begun all (inr either) = either
+ended_if_back Ended Left Done begun all ends = inl ends
+ended_if_back Ended Left DoorFault begun all ends = inl ends
+ended_if_back Ended Left (Full node count) begun all ends = inl ends

@@ -1,12 +1,13 @@
 -- How a server ends, by what has happened.
-use Rattle.std.proofs.Common.{◌≡◌, ℕ, zero, suc, ◌<◌, ◌≤◌, arith, Bool, true, false, inl, inr, List, length, Option, None, Some, refl}
+use Rattle.std.proofs.Common.{◌≡◌, ℕ, zero, suc, ◌<◌, ◌≤◌, arith, Bool, true, false, ◌||◌, not, inl, inr, List, length, Option, None, Some, refl, subst}
 use Rattle.std.specs.Prelude.{IfSome, slice_get}
 use Rattle.pv_node.specs.Opening.{IsOpenFault}
 use Rattle.pv_node.specs.declared.fault.NodeFault.{NodeFault}
 use Rattle.pv_node.specs.declared.fault.NodeFault.TheVariants as faults
 use Rattle.pv_outside.specs.declared.limits.Limits.{Limits}
 use Rattle.pv_outside.specs.declared.reports.Reports as reports
-use Rattle.pv_serve.specs.Serving.{HasNoDiskFault, HasServedAll, WasBegun, OnNodeFault, EndsBy, SaysFull, end_by_node, end_by_work}
+use Rattle.pv_centres.specs.Ends.{first_failure}
+use Rattle.pv_serve.specs.Serving.{HasDiskFault, HasNoDiskFault, HasServedAll, WasBegun, OnNodeFault, EndsBy, SaysFull, end_by_node, end_by_work}
 use Rattle.pv_serve.specs.Unopened.{IsUnreadable, NodeShows}
 use Rattle.pv_serve.specs.declared.status.ServeStatus.{ServeStatus}
 use Rattle.pv_serve.specs.declared.status.ServeStatus.TheVariants.{Usage, NoStart, Memory, Done, Full, DiskFault, DoorFault, Unopened}
@@ -54,17 +55,34 @@ module _ {D F : Type 0} where
   -- ---- what is known of each end
 
   -- what is known of the nodes of a server that was begun is known of the server
-  pub work_says : (Holds : ℕ → NodeFault D F → Type 0) (NotBegun Before After : Type 0) (status : ServeStatus D F) → (Before → After)
-      → EndsBy ⊥ Before status → OnNodeFault Holds status × EndsBy NotBegun After status
-  work_says Holds NotBegun Before After (Unopened node fault) then ends = absurd ends
-  work_says Holds NotBegun Before After (DiskFault failure) then (inl none) = absurd none
-  work_says Holds NotBegun Before After (DiskFault failure) then (inr ended) = (tt, inr (then ended))
-  work_says Holds NotBegun Before After Usage then ends = (tt, tt)
-  work_says Holds NotBegun Before After NoStart then ends = (tt, tt)
-  work_says Holds NotBegun Before After Memory then ends = (tt, tt)
-  work_says Holds NotBegun Before After Done then ends = (tt, then ends)
-  work_says Holds NotBegun Before After DoorFault then ends = (tt, then ends)
-  work_says Holds NotBegun Before After (Full node count) then ends = (tt, then ends)
+  pub work_says : (Holds : ℕ → NodeFault D F → Type 0) (NotBegun Before After Left Leaves : Type 0) (status : ServeStatus D F)
+      → (Before → After) → (HasDiskFault status → Left → Leaves) → EndsBy ⊥ Before Left status
+      → OnNodeFault Holds status × EndsBy NotBegun After Leaves status
+  work_says Holds NotBegun Before After Left Leaves (Unopened node fault) then else ends = absurd ends
+  work_says Holds NotBegun Before After Left Leaves (DiskFault failure) then else (inl none) = absurd none
+  work_says Holds NotBegun Before After Left Leaves (DiskFault failure) then else (inr (inl ended)) = (tt, inr (inl (then ended)))
+  work_says Holds NotBegun Before After Left Leaves (DiskFault failure) then else (inr (inr left)) = (tt, inr (inr (else tt left)))
+  work_says Holds NotBegun Before After Left Leaves Usage then else ends = (tt, tt)
+  work_says Holds NotBegun Before After Left Leaves NoStart then else ends = (tt, tt)
+  work_says Holds NotBegun Before After Left Leaves Memory then else ends = (tt, tt)
+  work_says Holds NotBegun Before After Left Leaves Done then else ends = (tt, then ends)
+  work_says Holds NotBegun Before After Left Leaves DoorFault then else ends = (tt, then ends)
+  work_says Holds NotBegun Before After Left Leaves (Full node count) then else ends = (tt, then ends)
+
+  -- a server that only leaves its disks has not served all that it was to
+  pub left_unserved : (Left : Type 0) (status : ServeStatus D F) → EndsBy ⊥ ⊥ Left status → HasServedAll status → ⊥
+  left_unserved Left Done left all = left
+  left_unserved Left (Full node count) left all = left
+  left_unserved Left Usage left all = all
+  left_unserved Left NoStart left all = all
+  left_unserved Left Memory left all = all
+  left_unserved Left (Unopened node fault) left all = all
+  left_unserved Left (DiskFault failure) left all = all
+  left_unserved Left DoorFault left all = all
+
+  -- and blames no door
+  pub left_unblamed : (Left : Type 0) (status : ServeStatus D F) → EndsBy ⊥ ⊥ Left status → status ≡ DoorFault → ⊥
+  left_unblamed Left status left is = subst (EndsBy ⊥ ⊥ Left) is left
 
 -- ---- by what the threads met
 
@@ -112,9 +130,17 @@ module _ (D : Type 0) {F : Type 0} where
 
   -- the server was begun and has ended
   pub ends_by_work : (Ended : Type 0) (memory door : Bool) (disk : Option F) (full : Option ℕ) → Ended
-      → EndsBy ⊥ Ended (end_by_work {D = D} memory door disk full)
+      → EndsBy ⊥ Ended ⊥ (end_by_work {D = D} memory door disk full)
   ends_by_work Ended true door disk full ended = tt
-  ends_by_work Ended false door (Some failure) full ended = inr ended
+  ends_by_work Ended false door (Some failure) full ended = inr (inl ended)
   ends_by_work Ended false true None full ended = ended
   ends_by_work Ended false false None (Some node) ended = ended
   ends_by_work Ended false false None None ended = ended
+
+  -- a disk has failed as the nodes were closed
+  pub left_by_work : (Left : Type 0) (memory seen door : Bool) (disk : Option F) (failure : F) → Left
+      → EndsBy ⊥ ⊥ ((seen ≡ true) × Left) (end_by_work {D = D} (memory || not seen) door (first_failure disk (Some failure)) None)
+  left_by_work Left true seen door disk failure left = tt
+  left_by_work Left false false door disk failure left = tt
+  left_by_work Left false true door None failure left = inr (inr (refl, left))
+  left_by_work Left false true door (Some earlier) failure left = inr (inr (refl, left))

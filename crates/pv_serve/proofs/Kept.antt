@@ -1,6 +1,6 @@
 -- What the closed list of a node keeps of what its ports have served.
 use Rattle.std.proofs.Common.{◌≡◌, ℕ, ◌+◌, ◌≤◌, Bool, true, false, List, [], ◌∷◌, ◌++◌, length, map, Option, Some, None, Ok, Err, ap, sym, ◌∙◌, subst, arith, append_assoc, length-append, if◌then◌else◌}
-use Rattle.std.specs.Prelude.{MatchOption, unwrap_or, not, ◌==◌, ◌&&◌, nat_lt}
+use Rattle.std.specs.Prelude.{MatchOption, unwrap_or, not, ◌==◌, ◌&&◌, nat_lt, option_to_list}
 use Rattle.std.proofs.lemmas.List.{length-map}
 use mathlib.Core.List.{IsPrefix}
 use Rattle.pv_history.proofs.CallerLemmas.{prefix_self, prefix_trans, prefix_length}
@@ -39,9 +39,12 @@ use Rattle.pv_udc.specs.EditList.{EditList}
 use Rattle.pv_udc.specs.declared.reply.UdcReply.{UdcReply}
 use Rattle.pv_udc.specs.declared.request.UdcRequest.{UdcRequest}
 use Rattle.pv_centres.specs.Carried.{taken_count}
-use Rattle.pv_centres.specs.Served.{CentreServed, EachServes, NodeServed, UpdateServed}
+use Rattle.pv_centres.specs.Closed.{disk_left, is_seen_stored}
+use Rattle.pv_centres.specs.Served.{CentreServed, ClosedNode, EachServes, NodeServed, UpdateServed}
+use Rattle.pv_serve.specs.Left.{HaveServed}
 use Rattle.pv_serve.proofs.Ended.{ClosesSo}
-use Rattle.pv_serve.specs.Kept.{RiseWithin, AreMarksIn, KeepsCall, KeepsSession, CentreKept, StoresChargesFirst, UpdateKept}
+use Rattle.pv_serve.proofs.Leaving.{LeavesSo, run_prefix, with_group, with_hand}
+use Rattle.pv_serve.specs.Kept.{RiseWithin, AreMarksIn, HasKeptCalls, HasKeptSessions, KeepsCall, KeepsSession, CentreKept, StoresChargesFirst, UpdateKept}
 
 -- ---- marks
 
@@ -297,9 +300,9 @@ module _ {L E F Rec : Type 0} (Serves : Standing Rec → Served L E → Standing
   pub node_keeps : {S State Request Reply D : Type 0} (r : rules.Ghosts S State Request Rec Reply) (d : reports.Ghosts D) (limits : Limits)
       (brought : List Rec → ℕ) (Quiet : Type 0) (calls : ℕ) (olds news : List (DoorReport L)) (reports : List (PortReport D F))
       (opening : List Rec) (node : Parts D State Rec)
-      → NodeServed (HasServed Serves failure_in lacked_memory calls) r d limits brought Quiet opening olds news reports node
-      → ClosesSo r d limits (λ log closed. NodeServed (HasServed (Keeps log) failure_in lacked_memory calls) r d limits brought Quiet
-      opening olds news reports closed) opening node
+      → NodeServed (HasServed Serves failure_in lacked_memory calls) {F = F} r d limits brought Quiet opening olds news reports (Ok node)
+      → ClosesSo r d limits (λ log closed. NodeServed (HasServed (Keeps log) failure_in lacked_memory calls) {F = F} r d limits brought
+      Quiet opening olds news reports (Ok closed)) opening node
   node_keeps r d limits brought Quiet calls olds news reports opening node served =
       let closed = served.closed.closed in
       record {
@@ -315,11 +318,45 @@ module _ {L E F Rec : Type 0} (Serves : Standing Rec → Served L E → Standing
         };
       }
 
+  -- so does what is left of it, if that has all that was seen
+  pub node_leaves : {S State Request Reply D : Type 0} (r : rules.Ghosts S State Request Rec Reply) (d : reports.Ghosts D) (limits : Limits)
+      (brought : List Rec → ℕ) (Quiet : Type 0) (calls : ℕ) (olds news : List (DoorReport L)) (reports : List (PortReport D F))
+      (opening : List Rec) (node : ClosedNode D F State Rec)
+      → NodeServed (HasServed Serves failure_in lacked_memory calls) r d limits brought Quiet opening olds news reports node
+      → is_seen_stored node ≡ true
+      → LeavesSo r d limits (λ log. HaveServed (HasServed (Keeps log) failure_in lacked_memory calls) olds news reports) opening
+      (disk_left node)
+  node_leaves r d limits brought Quiet calls olds news reports opening (Ok node) served seen =
+      let closed = served.closed.closed in
+      record {
+        log = closed.log;
+        run = closed.run;
+        served = record {
+          passes = served.passes;
+          ports = ports_keep closed.log calls olds served.passes news reports served.closed.carriers closed.seen served.ports;
+        };
+        more = option_to_list node.hand;
+        images = λ some image there. with_hand r (with_opening opening closed.log) node.hand image (closed.stands.images some image there);
+      }
+  node_leaves r d limits brought Quiet calls olds news reports opening (Err left) served seen =
+      let is = served.closed.left in
+      record {
+        log = is.stored;
+        run = run_prefix r limits opening is.stored is.log
+            (is.group ++ is.waiting, sym (append_assoc is.stored is.group is.waiting) ∙ sym is.log_is) is.run;
+        served = record {
+          passes = served.passes;
+          ports = ports_keep is.stored calls olds served.passes news reports served.closed.carriers (is.seen_stored seen) served.ports;
+        };
+        more = records_in is.group;
+        images = λ some image there. with_group r d opening is.stored is.group image (is.images some image there);
+      }
+
 -- so it is of a centre, if its charges are stored first
 pub centre_keeps : {S L D F : Type 0} (r : rules.Ghosts S CentreState IrcRequest CentreRecord IrcReply) → StoresChargesFirst r
     → (d : reports.Ghosts D) (limits : Limits) (shown : Option ℕ) (report_of : L → LineState) (calls : ℕ) (Quiet : Type 0)
     (olds news : List (DoorReport L)) (met : List (PortReport D F)) (opening : List CentreRecord) (node : Parts D CentreState CentreRecord)
-    → CentreServed r d limits opening shown report_of calls Quiet olds news met node
+    → CentreServed r d limits opening shown report_of calls Quiet olds news met (Ok node)
     → ClosesSo r d limits (λ log closed. CentreKept r limits opening shown report_of log d calls Quiet olds news met closed) opening node
 centre_keeps r law d limits shown report_of calls Quiet olds news met opening node served =
     node_keeps (ServesCall r limits opening shown report_of) (λ log. KeepsCall r limits opening shown report_of log) call_failure
@@ -330,9 +367,32 @@ centre_keeps r law d limits shown report_of calls Quiet olds news met opening no
 pub update_keeps : {S L D F : Type 0} (r : rules.Ghosts S EditList UdcRequest Record UdcReply) (d : reports.Ghosts D) (limits : Limits)
     (report_of : L → LineState) (calls : ℕ) (Quiet : Type 0) (olds news : List (DoorReport L)) (met : List (PortReport D F))
     (opening : List Record) (node : Parts D EditList Record)
-    → UpdateServed r d limits opening report_of calls Quiet olds news met node
+    → UpdateServed r d limits opening report_of calls Quiet olds news met (Ok node)
     → ClosesSo r d limits (λ log closed. UpdateKept r limits opening report_of log d calls Quiet olds news met closed) opening node
 update_keeps r d limits report_of calls Quiet olds news met opening node served =
     node_keeps (ServesSession r limits opening report_of) (λ log. KeepsSession r limits opening report_of log) session_failure
     session_lacked_memory (λ log. keeps_session r limits opening report_of log) r d limits taken_count Quiet calls olds news met opening node
     served
+
+-- what is left of a centre keeps its calls, too
+pub centre_leaves : {S L D F : Type 0} (r : rules.Ghosts S CentreState IrcRequest CentreRecord IrcReply) → StoresChargesFirst r
+    → (d : reports.Ghosts D) (limits : Limits) (shown : Option ℕ) (report_of : L → LineState) (calls : ℕ) (Quiet : Type 0)
+    (olds news : List (DoorReport L)) (met : List (PortReport D F)) (opening : List CentreRecord)
+    (node : ClosedNode D F CentreState CentreRecord)
+    → CentreServed r d limits opening shown report_of calls Quiet olds news met node → is_seen_stored node ≡ true
+    → LeavesSo r d limits (λ log. HaveServed (HasKeptCalls r limits opening shown report_of log calls) olds news met) opening (disk_left node)
+centre_leaves r law d limits shown report_of calls Quiet olds news met opening node served seen =
+    node_leaves (ServesCall r limits opening shown report_of) (λ log. KeepsCall r limits opening shown report_of log) call_failure
+    call_lacked_memory (λ log. keeps_call r law limits opening shown report_of log) r d limits applied_of Quiet calls olds news met opening node
+    served seen
+
+-- and what is left of the Update Centre its sessions
+pub update_leaves : {S L D F : Type 0} (r : rules.Ghosts S EditList UdcRequest Record UdcReply) (d : reports.Ghosts D) (limits : Limits)
+    (report_of : L → LineState) (calls : ℕ) (Quiet : Type 0) (olds news : List (DoorReport L)) (met : List (PortReport D F))
+    (opening : List Record) (node : ClosedNode D F EditList Record)
+    → UpdateServed r d limits opening report_of calls Quiet olds news met node → is_seen_stored node ≡ true
+    → LeavesSo r d limits (λ log. HaveServed (HasKeptSessions r limits opening report_of log calls) olds news met) opening (disk_left node)
+update_leaves r d limits report_of calls Quiet olds news met opening node served seen =
+    node_leaves (ServesSession r limits opening report_of) (λ log. KeepsSession r limits opening report_of log) session_failure
+    session_lacked_memory (λ log. keeps_session r limits opening report_of log) r d limits taken_count Quiet calls olds news met opening node
+    served seen

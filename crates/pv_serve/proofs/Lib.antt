@@ -6,5 +6,8 @@ mod Ending
 mod Facts
 mod Given
 mod Kept
+mod Leaving
+mod Left
+mod Places
 mod Server
 mod Worded

@@ -1,7 +1,7 @@
 -- A server that has ended, from what is known of its nodes and doors at each step.
 use denote.Param.{number}
 use Rattle.std.proofs.Common.{◌≡◌, ℕ, ◌≤◌, List, [], Option, None, Some, ◌⊎◌, inl, inr, sym, subst, ◌∙◌, arith}
-use Rattle.std.specs.Prelude.{IfSome}
+use Rattle.std.specs.Prelude.{IfSome, Ok}
 use Rattle.pv_edits.specs.declared.record.Record.{Record}
 use Rattle.pv_irc.specs.History.{CentreState, applied_of}
 use Rattle.pv_irc.specs.contracts.rules.IrcRulesRules.TheImpl as irc
@@ -33,6 +33,7 @@ use Rattle.pv_serve.specs.Serving.{HasNoDiskFault, HasServedAll}
 use Rattle.pv_serve.specs.declared.status.ServeStatus.{ServeStatus}
 use Rattle.pv_serve.proofs.Kept.{centre_keeps, update_keeps}
 use Rattle.pv_serve.proofs.Ended.{ClosesSo, first_is, is_brought, node_has_ended, same_weight}
+use Rattle.pv_serve.proofs.Places.{AreOver, places_in_order, ports_counts}
 
 -- one of the ports ended since its door failed: the count of that door rose
 pub door_rose : {L M D F : Type 0} (calls : ℕ) (olds news : List (DoorReport L)) (met : List (PortReport D F)) (olds' news' : List
@@ -61,26 +62,26 @@ module _ {D F L M : Type 0} (g : reports.Ghosts D) (left : (disk : D) → IfSome
     (rows : ServedRows (port_counts ports nodes) callers callers' callers_met) (Quiet : Type 0) (quiet : HasServedAll status → Quiet) where
   -- how the Update Centre was served, and how a centre
   abbrev pub UpdateIs : Type 0 → List Record → Parts D EditList Record → Type 0
-  UpdateIs Known opening node = UpdateServed udc.ghosts g limits opening editor_of calls Known editors editors' editors_met node
+  UpdateIs Known opening node = UpdateServed udc.ghosts g limits opening editor_of calls Known editors editors' editors_met (Ok node)
 
   abbrev pub CentreIs : Type 0 → ℕ → List (DoorReport L) → List (DoorReport L) → List (PortReport D F) → List CentreRecord
       → Parts D CentreState CentreRecord → Type 0
   CentreIs Known centre olds news met opening node =
-      CentreServed (irc.ghosts (number centre)) g limits opening shown caller_of calls Known olds news met node
+      CentreServed (irc.ghosts (number centre)) g limits opening shown caller_of calls Known olds news met (Ok node)
 
   -- what is known if no carrier has met anything is known if all were served
   update_as : (opening : List Record) (node : Parts D EditList Record) → UpdateIs Quiet opening node
       → UpdateIs (HasServedAll status) opening node
   update_as opening node served =
       served_quieter udc.ghosts g limits opening taken_count Quiet (HasServedAll status) quiet
-      (HasServedSessions udc.ghosts limits opening editor_of calls) editors editors' editors_met node served
+      (HasServedSessions udc.ghosts limits opening editor_of calls) editors editors' editors_met (Ok node) served
 
   centre_as : (centre : ℕ) (olds news : List (DoorReport L)) (met : List (PortReport D F)) (opening : List CentreRecord)
       (node : Parts D CentreState CentreRecord) → CentreIs Quiet centre olds news met opening node
       → CentreIs (HasServedAll status) centre olds news met opening node
   centre_as centre olds news met opening node served =
       served_quieter (irc.ghosts (number centre)) g limits opening applied_of Quiet (HasServedAll status) quiet
-      (HasServedCalls (irc.ghosts (number centre)) limits opening shown caller_of calls) olds news met node served
+      (HasServedCalls (irc.ghosts (number centre)) limits opening shown caller_of calls) olds news met (Ok node) served
 
   -- what each keeps, when it is closed
   abbrev UpdateKeeps : List Record → List (Entry Record) → Parts D EditList Record → Type 0
@@ -108,11 +109,7 @@ module _ {D F L M : Type 0} (g : reports.Ghosts D) (left : (disk : D) → IfSome
 
   pub server_ended : (limits' : Limits) → limits ≡ limits' → UpdateLaw → CentreLaw 0 → CentreLaw 1 → CentreLaw 2 → CentreLaw 3
       → (at : DiskPlaces D) → disks ≡ all_disks at → AreInOrder nodes → 1 ≤ centre_count nodes
-      → IfThere (λ disk o. IsOpenedOver udc.ghosts g disk o.node) at.update (Some nodes.update)
-      → IfThere (λ disk o. IsOpenedOver (irc.ghosts (number 0)) g disk o.node) at.first nodes.first
-      → IfThere (λ disk o. IsOpenedOver (irc.ghosts (number 1)) g disk o.node) at.second nodes.second
-      → IfThere (λ disk o. IsOpenedOver (irc.ghosts (number 2)) g disk o.node) at.third nodes.third
-      → IfThere (λ disk o. IsOpenedOver (irc.ghosts (number 3)) g disk o.node) at.fourth nodes.fourth
+      → AreOver g at nodes
       → IsReady udc.ghosts g (trail_records nodes.update.trail.items) limits nodes.update.node
       → IfSome nodes.first (λ o. IsReady (irc.ghosts (number 0)) g (trail_records o.trail.items) limits o.node)
       → IfSome nodes.second (λ o. IsReady (irc.ghosts (number 1)) g (trail_records o.trail.items) limits o.node)
@@ -128,19 +125,11 @@ module _ {D F L M : Type 0} (g : reports.Ghosts D) (left : (disk : D) → IfSome
       → ServesEachDoor calls callers callers' callers_met → ServesEachDoor calls editors editors' editors_met
       → (back : AreHandedBack g status closed [] disks')
       → ServerEnded g limits' shown caller_of editor_of ports calls disks disks' callers callers' editors editors' status
-  server_ended limits' same law law0 law1 law2 law3 at places_are order some over over0 over1 over2 over3 ready ready0 ready1 ready2 ready3
+  server_ended limits' same law law0 law1 law2 law3 at places_are order some over ready ready0 ready1 ready2 ready3
       served served0 served1
       served2 served3 callers_doors editors_doors back =
       let ended = back.ended in
       let stands = served.closed.closed.stands in
-      let weigh0 : (n : ℕ) → weigh (λ there. n) at.first ≡ weigh (λ there. n) nodes.first = λ n.
-      same_weight n at.first nodes.first (λ disk o. IsOpenedOver (irc.ghosts (number 0)) g disk o.node) over0 in
-      let weigh1 : (n : ℕ) → weigh (λ there. n) at.second ≡ weigh (λ there. n) nodes.second = λ n.
-      same_weight n at.second nodes.second (λ disk o. IsOpenedOver (irc.ghosts (number 1)) g disk o.node) over1 in
-      let weigh2 : (n : ℕ) → weigh (λ there. n) at.third ≡ weigh (λ there. n) nodes.third = λ n.
-      same_weight n at.third nodes.third (λ disk o. IsOpenedOver (irc.ghosts (number 2)) g disk o.node) over2 in
-      let weigh3 : (n : ℕ) → weigh (λ there. n) at.fourth ≡ weigh (λ there. n) nodes.fourth = λ n.
-      same_weight n at.fourth nodes.fourth (λ disk o. IsOpenedOver (irc.ghosts (number 3)) g disk o.node) over3 in
       let served_first : IfThere (λ o n. CentreIs Quiet 0 rows.olds.first rows.news.first rows.met.first
       (trail_records o.trail.items) n) nodes.first closed.first = served0 in
       let firsts : count_of ended.first ≡ count_of nodes.first = omega (
@@ -151,22 +140,12 @@ module _ {D F L M : Type 0} (g : reports.Ghosts D) (left : (disk : D) → IfSome
       let update_rests : HasNoDiskFault status → ended.update.hand ≡ None = λ held.
       first_is (ended.update.hand ≡ None) ended.first nodes.second nodes.third nodes.fourth (omega (arith, order.second, firsts)) order.third
       order.fourth (omega (arith, some, firsts)) (back.update_rests held) in
-      let counts : port_counts ports nodes ≡ place_ports ports at = λ i. record {
-        first = sym (weigh0 ports) i;
-        second = sym (weigh1 ports) i;
-        third = sym (weigh2 ports) i;
-        fourth = sym (weigh3 ports) i;
-      } in
       subst (λ (l : Limits). ServerEnded g l shown caller_of editor_of ports calls disks disks' callers callers' editors editors'
       status) same
       record {
         places = at;
         places_are = places_are;
-        in_order = record {
-          second = omega (arith, order.second, weigh0 1, weigh1 1);
-          third = omega (arith, order.third, weigh1 1, weigh2 1);
-          fourth = omega (arith, order.fourth, weigh2 1, weigh3 1);
-        };
+        in_order = places_in_order g at nodes over order;
         ended = ended;
         handed_back = back.disks;
         callers_met = callers_met;
@@ -175,7 +154,7 @@ module _ {D F L M : Type 0} (g : reports.Ghosts D) (left : (disk : D) → IfSome
           olds = rows.olds;
           news = rows.news;
           met = rows.met;
-          counted = rows.counted ∙ counts;
+          counted = rows.counted ∙ ports_counts g at nodes over ports;
           old_rows = rows.old_rows;
           new_rows = rows.new_rows;
           met_rows = rows.met_rows;
@@ -183,21 +162,21 @@ module _ {D F L M : Type 0} (g : reports.Ghosts D) (left : (disk : D) → IfSome
         update = node_has_ended udc.ghosts g law left limits (UpdateIs Quiet) UpdateKeeps (IsUpdateBrought g status)
             (IsUpdateBrought g status) update_closes (λ one end brought. brought.0)
             (λ opening one end serves brought. brought) (HasNoDiskFault status) (λ one end brought. brought.2) (Some nodes.update) (λ o. o.node) (λ o. trail_records o.trail.items) at.update
-            (Some closed.update) (Some ended.update) over ready served (back.update, update_rests, back.update_runs);
+            (Some closed.update) (Some ended.update) over.update ready served (back.update, update_rests, back.update_runs);
         first = node_has_ended (irc.ghosts (number 0)) g law0.0 left limits (CentreIs Quiet 0 rows.olds.first rows.news.first rows.met.first)
             (CentreKeeps 0 rows.olds.first rows.news.first rows.met.first)
             (WouldBeBrought g status 0 closed.update ended.update) (IsBrought g status 0 ended.update)
             (centre_closes 0 law0.1 rows.olds.first rows.news.first rows.met.first) (λ one end would. would.0)
             (λ opening one end serves would. is_brought g status 0 closed.update ended.update _ stands one end _ serves.closed.closed.stands
             would)
-            (HasNoDiskFault status) (λ one end would. would.3) nodes.first (λ o. o.node) (λ o. trail_records o.trail.items) at.first closed.first ended.first over0 ready0 served0 back.first;
+            (HasNoDiskFault status) (λ one end would. would.3) nodes.first (λ o. o.node) (λ o. trail_records o.trail.items) at.first closed.first ended.first over.first ready0 served0 back.first;
         second = node_has_ended (irc.ghosts (number 1)) g law1.0 left limits (CentreIs Quiet 1 rows.olds.second rows.news.second rows.met.second)
             (CentreKeeps 1 rows.olds.second rows.news.second rows.met.second)
             (WouldBeBrought g status 1 closed.update ended.update) (IsBrought g status 1 ended.update)
             (centre_closes 1 law1.1 rows.olds.second rows.news.second rows.met.second) (λ one end would. would.0)
             (λ opening one end serves would. is_brought g status 1 closed.update ended.update _ stands one end _ serves.closed.closed.stands
             would)
-            (HasNoDiskFault status) (λ one end would. would.3) nodes.second (λ o. o.node) (λ o. trail_records o.trail.items) at.second closed.second ended.second over1 ready1 served1
+            (HasNoDiskFault status) (λ one end would. would.3) nodes.second (λ o. o.node) (λ o. trail_records o.trail.items) at.second closed.second ended.second over.second ready1 served1
             back.second;
         third = node_has_ended (irc.ghosts (number 2)) g law2.0 left limits (CentreIs Quiet 2 rows.olds.third rows.news.third rows.met.third)
             (CentreKeeps 2 rows.olds.third rows.news.third rows.met.third)
@@ -205,14 +184,14 @@ module _ {D F L M : Type 0} (g : reports.Ghosts D) (left : (disk : D) → IfSome
             (centre_closes 2 law2.1 rows.olds.third rows.news.third rows.met.third) (λ one end would. would.0)
             (λ opening one end serves would. is_brought g status 2 closed.update ended.update _ stands one end _ serves.closed.closed.stands
             would)
-            (HasNoDiskFault status) (λ one end would. would.3) nodes.third (λ o. o.node) (λ o. trail_records o.trail.items) at.third closed.third ended.third over2 ready2 served2 back.third;
+            (HasNoDiskFault status) (λ one end would. would.3) nodes.third (λ o. o.node) (λ o. trail_records o.trail.items) at.third closed.third ended.third over.third ready2 served2 back.third;
         fourth = node_has_ended (irc.ghosts (number 3)) g law3.0 left limits (CentreIs Quiet 3 rows.olds.fourth rows.news.fourth rows.met.fourth)
             (CentreKeeps 3 rows.olds.fourth rows.news.fourth rows.met.fourth)
             (WouldBeBrought g status 3 closed.update ended.update) (IsBrought g status 3 ended.update)
             (centre_closes 3 law3.1 rows.olds.fourth rows.news.fourth rows.met.fourth) (λ one end would. would.0)
             (λ opening one end serves would. is_brought g status 3 closed.update ended.update _ stands one end _ serves.closed.closed.stands
             would)
-            (HasNoDiskFault status) (λ one end would. would.3) nodes.fourth (λ o. o.node) (λ o. trail_records o.trail.items) at.fourth closed.fourth ended.fourth over3 ready3 served3
+            (HasNoDiskFault status) (λ one end would. would.3) nodes.fourth (λ o. o.node) (λ o. trail_records o.trail.items) at.fourth closed.fourth ended.fourth over.fourth ready3 served3
             back.fourth;
         callers_doors = callers_doors;
         editors_doors = editors_doors;

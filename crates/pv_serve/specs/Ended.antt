@@ -21,10 +21,12 @@ use Rattle.pv_service.specs.Doors.{DoorReport}
 use Rattle.pv_service.specs.declared.port_report.PortReport.{PortReport}
 use Rattle.pv_udc.specs.EditList.{EditList}
 use Rattle.pv_udc.specs.contracts.rules.UdcRulesRules.TheImpl as udc
+use Rattle.pv_centres.specs.Closed.{AreNodes, AreSeenStored, disks_left}
 use Rattle.pv_centres.specs.Opening.{DiskPlaces, all_disks, count_of, weigh}
 use Rattle.pv_centres.specs.Parts.{IfThere, PerCentre}
 use Rattle.pv_centres.specs.Rest.{AddsRecords, AddsRun, AreCarried, NextHasNoRoom, StandsOn, first_full}
 use Rattle.pv_centres.specs.Served.{ServesEachDoor, ServedRows}
+use Rattle.pv_centres.specs.declared.closed.ClosedNodes.{ClosedNodes}
 use Rattle.pv_centres.specs.declared.nodes.Nodes.{Nodes}
 use Rattle.pv_serve.specs.Kept.{CentreKept, UpdateKept}
 use Rattle.pv_serve.specs.Serving.{HasNoDiskFault, HasServedAll, SaysFull}
@@ -106,6 +108,19 @@ module _ {D F : Type 0} (g : reports.Ghosts D) (status : ServeStatus D F) where
     pub fourth : IfThere (WouldBeBrought 3 closed.update ended.update) closed.fourth ended.fourth
     pub disks : after ≡ before ++ disks_of ended
     pub full : SaysFull (first_full MAX_RECORDS 0 (counts_of ended)) status
+
+-- what became of nodes as they were closed: all were given back, and then they were brought what they lacked
+module _ {D F : Type 0} (g : reports.Ghosts D) (status : ServeStatus D F) (closed : ClosedNodes D F) where
+  pub record AreClosed (before after : List D) : Type 0 where
+    pub nodes : Nodes D F
+    pub all : AreNodes closed nodes
+    pub back : AreHandedBack g status nodes before after
+
+-- or only their disks were, after others, and what the passes have seen was counted to be stored
+module _ {D F : Type 0} (closed : ClosedNodes D F) where
+  pub record AreLeft (before after : List D) : Type 0 where
+    pub seen : AreSeenStored closed
+    pub disks : after ≡ before ++ disks_left closed
 
 -- ---- the whole
 

@@ -1,5 +1,5 @@
 -- What the list of a node, once it is closed, keeps of the calls and sessions that its ports have served.
-use Rattle.std.specs.Prelude.{ℕ, ◌≤◌, List, [], ◌∷◌, length, All, Option}
+use Rattle.std.specs.Prelude.{ℕ, ◌≤◌, List, [], ◌∷◌, length, All, Option, Ok}
 use Rattle.pv_outside.specs.declared.limits.Limits.{Limits}
 use Rattle.pv_outside.specs.declared.reports.Reports as reports
 use Rattle.pv_node.specs.declared.rules.Rules as rules
@@ -60,7 +60,8 @@ module _ {S L D F : Type 0} (r : rules.Ghosts S CentreState IrcRequest CentreRec
   -- a centre was served from its opening to its closing, each connection of its doors by such a call
   abbrev pub CentreKept : reports.Ghosts D → ℕ → Type 0 → List (DoorReport L) → List (DoorReport L) → List (PortReport D F)
       → Parts D CentreState CentreRecord → Type 0
-  CentreKept d calls Quiet = NodeServed (HasKeptCalls calls) r d limits applied_of Quiet opening
+  CentreKept d calls Quiet old new met node = NodeServed (HasKeptCalls calls) {F = F} r d limits applied_of Quiet opening old new met
+      (Ok node)
 
 module _ {S L D F : Type 0} (r : rules.Ghosts S EditList UdcRequest Record UdcReply) (limits : Limits) (opening : List Record)
     (report_of : L → LineState) (log : List (Entry Record)) where
@@ -75,4 +76,5 @@ module _ {S L D F : Type 0} (r : rules.Ghosts S EditList UdcRequest Record UdcRe
   -- the Update Centre was served from its opening to its closing, each connection of its doors by such a session
   abbrev pub UpdateKept : reports.Ghosts D → ℕ → Type 0 → List (DoorReport L) → List (DoorReport L) → List (PortReport D F)
       → Parts D EditList Record → Type 0
-  UpdateKept d calls Quiet = NodeServed (HasKeptSessions calls) r d limits taken_count Quiet opening
+  UpdateKept d calls Quiet old new met node = NodeServed (HasKeptSessions calls) {F = F} r d limits taken_count Quiet opening old new met
+      (Ok node)

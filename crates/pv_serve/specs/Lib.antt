@@ -1,6 +1,7 @@
 pub mod Ended
 pub mod Formatting
 pub mod Kept
+pub mod Left
 pub mod Options
 pub mod Serving
 pub mod Status

@@ -48,6 +48,11 @@ HasNoDiskFault (Full node count) = Unit {0}
 HasNoDiskFault DoorFault = Unit {0}
 HasNoDiskFault _ = ⊥
 
+-- a call of a disk has failed, as the server says
+abbrev pub HasDiskFault : {D F : Type 0} → ServeStatus D F → Type 0
+HasDiskFault (DiskFault failure) = Unit {0}
+HasDiskFault _ = ⊥
+
 -- everything is handed back: memory did not run out
 abbrev pub HandsAllBack : {D F : Type 0} → ServeStatus D F → Type 0
 HandsAllBack Memory = ⊥
@@ -58,15 +63,15 @@ abbrev pub OnNodeFault : {D F : Type 0} → (ℕ → NodeFault D F → Type 0) �
 OnNodeFault Holds (Unopened node fault) = Holds node fault
 OnNodeFault Holds _ = Unit {0}
 
--- Once threads may start: the server was not begun, since a node was not opened, or it was begun and has ended. A disk may have failed
--- before or after. If memory ran out nothing is said.
-abbrev pub EndsBy : {D F : Type 0} → (NotBegun Ended : Type 0) → ServeStatus D F → Type 0
-EndsBy NotBegun Ended Usage = Unit {0}
-EndsBy NotBegun Ended NoStart = Unit {0}
-EndsBy NotBegun Ended Memory = Unit {0}
-EndsBy NotBegun Ended (Unopened node fault) = NotBegun
-EndsBy NotBegun Ended (DiskFault failure) = NotBegun ⊎ Ended
-EndsBy NotBegun Ended _ = Ended
+-- Once threads may start: the server was not begun, since a node was not opened; or it was begun and has ended; or a disk has failed as
+-- the nodes were closed, and their disks are left. A disk may also have failed before that or after. If memory ran out nothing is said.
+abbrev pub EndsBy : {D F : Type 0} → (NotBegun Ended Left : Type 0) → ServeStatus D F → Type 0
+EndsBy NotBegun Ended Left Usage = Unit {0}
+EndsBy NotBegun Ended Left NoStart = Unit {0}
+EndsBy NotBegun Ended Left Memory = Unit {0}
+EndsBy NotBegun Ended Left (Unopened node fault) = NotBegun
+EndsBy NotBegun Ended Left (DiskFault failure) = NotBegun ⊎ (Ended ⊎ Left)
+EndsBy NotBegun Ended Left _ = Ended
 
 -- with this first node that is full: it is said to be, with as many records as the limit; a server that is done has none
 abbrev pub SaysFull : {D F : Type 0} → Option ℕ → ServeStatus D F → Type 0

@@ -1,5 +1,5 @@
 //! The server over whatever keeps its records and lets its connections in.
-ghost use Rattle.std.specs.Prelude.{◌≡◌, ◌⊎◌, ◌<◌, ℕ, List, All, IfSome, None, map, string_bytes, vec_len};
+ghost use Rattle.std.specs.Prelude.{◌≡◌, ◌⊎◌, ◌<◌, ◌++◌, ℕ, true, false, List, All, IfSome, None, map, string_bytes, vec_len};
 ghost use Rattle.pv_outside.specs.Counts.{Rose};
 ghost use Rattle.pv_node.specs.Standing.{Stands};
 ghost use Rattle.pv_ports.specs.Ends.{line_of};
@@ -8,8 +8,9 @@ ghost use Rattle.pv_centres.specs.Carried.{AreQuiet};
 ghost use Rattle.pv_centres.specs.Ends.{SomeDoorEnd};
 ghost use Rattle.pv_centres.specs.Served.{SomeDoorRose, GiveBackMore};
 ghost use Rattle.pv_service.specs.Doors.{door_of};
-ghost use Rattle.pv_serve.specs.Ended.{AreHandedBack, ServerEnded};
+ghost use Rattle.pv_serve.specs.Ended.{AreClosed, AreHandedBack, AreLeft, ServerEnded};
 ghost use Rattle.pv_serve.specs.Kept.{StoresChargesFirst};
+ghost use Rattle.pv_serve.specs.Left.{ServerLeft};
 ghost use Rattle.pv_serve.specs.Options.{AskToServe, AskNoServe};
 ghost use Rattle.pv_serve.specs.Serving.{ArePartsOf, EndsBy, HandsAllBack, HasServedAll, OnNodeFault, WasBegun, end_by_node, end_by_words, end_by_work, node_limits};
 ghost use Rattle.pv_serve.specs.Unopened.{IsUnreadable, IsUnserved};
@@ -17,7 +18,7 @@ ghost use Rattle.pv_serve.specs.declared.options.ServeOptions.{ServeOptions};
 
 use crate::options::{OptionFault, serve_options};
 use crate::status::ServeStatus;
-use pv_centres::{Ends, NotOpened, bring_rest, open_nodes};
+use pv_centres::{Ends, LeftNodes, Nodes, NotOpened, bring_rest, open_nodes};
 use pv_edits::Record;
 use pv_irc::{CentreRecord, IrcRules};
 use pv_node::{NodeFault, Rules, image_stands_for_one_list};
@@ -118,10 +119,18 @@ where
     // If a node was not opened nothing has become of them. Else each node was served from its disk on, and each door by its port;
     // the closed list of a centre has each charge of each call, stored before the screen was sent.
     // A node is said to be full exactly if it is the first that is, and if all were served, what the nodes lacked is carried.
+    // If a disk has failed as the nodes were closed, the disks are left as they were then.
     ensures ends { EndsBy (IsUnserved D.Reports disks.items result.disks.items callers result.callers
         editors result.editors)
         ((options : ServeOptions) × AskToServe (map string_bytes words.now) options
         × ServerEnded D.Reports node_limits (K.moment clock.now)
+        (line_of ⟦<O::Line as Source>⟧ ⟦<O::Line as Sink>⟧)
+        (line_of ⟦<E::Line as Source>⟧ ⟦<E::Line as Sink>⟧) options.ports options.calls disks.items result.disks.items
+        (map (door_of O.lines O.accepted O.finished O.faults) callers.items) (map (door_of O.lines O.accepted O.finished O.faults) result.callers.items)
+        (map (door_of E.lines E.accepted E.finished E.faults) editors.items) (map (door_of E.lines E.accepted E.finished E.faults) result.editors.items)
+        result.status)
+        ((options : ServeOptions) × AskToServe (map string_bytes words.now) options
+        × ServerLeft D.Reports node_limits (K.moment clock.now)
         (line_of ⟦<O::Line as Source>⟧ ⟦<O::Line as Sink>⟧)
         (line_of ⟦<E::Line as Source>⟧ ⟦<E::Line as Sink>⟧) options.ports options.calls disks.items result.disks.items
         (map (door_of O.lines O.accepted O.finished O.faults) callers.items) (map (door_of O.lines O.accepted O.finished O.faults) result.callers.items)
@@ -253,7 +262,8 @@ fn charges_are_stored_first_at_each_centre()
     charges_are_stored_first::<3>();
 }
 
-/// Brings the nodes of a network that was closed what they lack of each other, and hands everything back.
+/// Hands everything back of a network that was closed, once the nodes were brought what they lack of each other. If a disk
+/// has failed as they were closed, their disks are handed back as they are left.
 fn close<D: Disk + Drop, O: Door + Drop, E: Door + Drop>(
     closed: ClosedNetwork<D, O, E>,
     disks: Vec<D>,
@@ -266,35 +276,82 @@ fn close<D: Disk + Drop, O: Door + Drop, E: Door + Drop>(
     ensures carriers { HasServedAll result.status → AreQuiet closed.carriers_met.items }
 
     // The server was begun and has ended, with the nodes' disks after those that were there.
-    ensures ends { EndsBy ⊥ (AreHandedBack D.Reports result.status closed.nodes disks.items
-        result.disks.items) result.status }
+    ensures ends { EndsBy ⊥ (AreClosed D.Reports result.status closed.nodes disks.items result.disks.items)
+        (AreLeft closed.nodes disks.items result.disks.items) result.status }
     ensures begun { WasBegun result.status }
 {
     let ClosedNetwork {
-        mut nodes,
+        nodes,
         callers,
         callers_met,
         editors,
         editors_met,
         carriers_met,
     } = closed;
-    let mut ends = Ends::of(callers_met, editors_met, carriers_met);
+    let ends = Ends::of(callers_met, editors_met, carriers_met);
+    match nodes.into_nodes() {
+        Ok(nodes) => {
+            let (status, disks) = bring(nodes, ends, disks);
+            Served {
+                status,
+                disks,
+                callers,
+                editors,
+            }
+        }
+        Err(left) => {
+            let (status, disks) = leave(left, ends, disks);
+            Served {
+                status,
+                disks,
+                callers,
+                editors,
+            }
+        }
+    }
+}
+
+/// Brings nodes what they lack of each other, and hands their disks back after those that are there. Returns how a server
+/// ends whose threads met this.
+fn bring<D: Disk + Drop>(nodes: Nodes<D>, ends: Ends<D>, disks: Vec<D>) -> (ServeStatus<D>, Vec<D>)
+    ensures door { result.0 ≡ ServeStatus.DoorFault → ends.door ≡ true }
+    ensures quiet { HasServedAll result.0 → (ends.memory ≡ false) × (ends.door ≡ false) × (ends.disk ≡ None) }
+    ensures back { EndsBy ⊥ (AreHandedBack D.Reports result.0 nodes disks.items result.1.items) ⊥ result.0 }
+    ensures begun { WasBegun result.0 }
+{
+    let mut nodes = nodes;
+    let mut ends = ends;
     bring_rest(&mut nodes, &mut ends);
     let full = nodes.full(u64::from(MAX_RECORDS));
     let mut disks = disks;
     match nodes.give_back(&mut disks) {
-        Ok(()) => Served {
-            status: status_of(ends, full),
-            disks,
-            callers,
-            editors,
-        },
-        Err(AllocError) => Served {
-            status: ServeStatus::Memory,
-            disks,
-            callers,
-            editors,
-        },
+        Ok(()) => (status_of(ends, full), disks),
+        Err(AllocError) => (ServeStatus::Memory, disks),
+    }
+}
+
+/// Hands disks back after those that are there, of which one has failed as the nodes were closed. Returns how a server ends
+/// whose threads met this.
+fn leave<D: Disk + Drop>(
+    left: LeftNodes<D>,
+    ends: Ends<D>,
+    disks: Vec<D>,
+) -> (ServeStatus<D>, Vec<D>)
+    ensures left { EndsBy ⊥ ⊥ ((left.seen_is_stored ≡ true)
+        × (result.1.items ≡ disks.items ++ left.disks)) result.0 }
+    ensures begun { WasBegun result.0 }
+{
+    let LeftNodes {
+        failure,
+        seen_is_stored,
+        disks: nodes_disks,
+    } = left;
+    let mut ends = ends;
+    ends.add_left(failure, seen_is_stored);
+    let mut disks = disks;
+    match nodes_disks.give_back(&mut disks) {
+        Ok(()) => (status_of(ends, None), disks),
+        Err(AllocError) => (ServeStatus::Memory, disks),
     }
 }
 

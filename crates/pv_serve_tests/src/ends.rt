@@ -49,11 +49,18 @@ const DONE: Case = Case {
 };
 
 /// A disk fails at its eighth call, which is the first after its formatting and its opening. A door fails at its first
-/// accept, or since no second line comes in. The ports that met no fault serve their lines all the same.
-const CASES: [Case; 6] = [
+/// accept, or since no second line comes in. The ports that met no fault serve their lines all the same. The second
+/// disk that fails does so again as its node is closed.
+const CASES: [Case; 7] = [
     DONE,
     Case {
         update: &[7],
+        replies: b"OK\nNO 15 DISK\n",
+        number: 8,
+        ..DONE
+    },
+    Case {
+        update: &[7, 8],
         replies: b"OK\nNO 15 DISK\n",
         number: 8,
         ..DONE

@@ -1,68 +1,43 @@
-use Rattle.std.proofs.Common.{◌≡◌, ℕ, Option, None, sym, ap, subst, ◌∙◌}
-use Rattle.pv_outside.specs.declared.limits.TheConstants.{MAX_RECORDS}
-use Rattle.pv_centres.specs.Rest.{first_full}
-use Rattle.pv_serve.specs.Ended.{AreHandedBack, counts_of}
-use Rattle.pv_serve.specs.Serving.{HasNoDiskFault, EndsBy, HasServedAll, SaysFull, WasBegun, end_by_work}
-use Rattle.pv_serve.specs.declared.status.ServeStatus.{ServeStatus}
-use Rattle.pv_serve.proofs.Ended.{would_be_brought}
-use Rattle.pv_serve.proofs.Ending.{begun_by_work, door_by_work, ends_by_work, full_by_work, held_by_work, quiet_by_work}
+use Rattle.std.proofs.Common.{◌∙◌, ap, List, ◌++◌}
+use Rattle.pv_serve.specs.Ended.{AreClosed, AreHandedBack, AreLeft}
+use Rattle.pv_serve.proofs.Ending.{left_unblamed, left_unserved, work_says}
 use Rattle.pv_serve.proofs.serving.close.Goals as goal
 
 -- a door is blamed only if a port ended since it failed: no other work ends so
 pub returns-in-Ok-clause-door : goal.returns-in-Ok-clause-door
-returns-in-Ok-clause-door g c = λ is.
-    c.of-ends.ensures.door (sym c.bring_rest.ensures.door ∙ door_by_work _ _ _ _ _ (sym c.status_of.ensures ∙ is))
+returns-in-Ok-clause-door g c = λ is. c.of-ends.ensures.door (c.bring-status.ensures.door is)
 
 -- all were served only if no port has met a fault
 pub returns-in-Ok-clause-quiet : goal.returns-in-Ok-clause-quiet
 returns-in-Ok-clause-quiet g c = λ all.
-    let quiet = quiet_by_work _ _ _ _ _ (subst HasServedAll c.status_of.ensures all) in
-    c.of-ends.ensures.quiet (sym c.bring_rest.ensures.door ∙ quiet.1) (c.bring_rest.ensures.disk quiet.2)
+    let quiet = c.bring-status.ensures.quiet all in c.of-ends.ensures.quiet quiet.1 quiet.2
 
 -- nor did memory run out for a carrier, or a disk fail
 pub returns-in-Ok-clause-carriers : goal.returns-in-Ok-clause-carriers
 returns-in-Ok-clause-carriers g c = λ all.
-    let quiet = quiet_by_work _ _ _ _ _ (subst HasServedAll c.status_of.ensures all) in
-    c.of-ends.ensures.carriers (sym c.bring_rest.ensures.memory ∙ quiet.0) (c.bring_rest.ensures.disk quiet.2)
+    let quiet = c.bring-status.ensures.quiet all in c.of-ends.ensures.carriers quiet.0 quiet.2
 
-pub returns-in-Ok-clause-begun : goal.returns-in-Ok-clause-begun
-returns-in-Ok-clause-begun g c = subst WasBegun (sym c.status_of.ensures) (begun_by_work _ _ _ _ _)
-
--- the nodes were brought what they lacked, and hold the disks that are handed back
+-- all nodes were given back, and then brought what they lacked
 pub returns-in-Ok-clause-ends : goal.returns-in-Ok-clause-ends
 returns-in-Ok-clause-ends g c =
-    let bring = c.bring_rest.ensures in
-    let ended = c.bring_rest.new.nodes in
-    let ends = c.bring_rest.new.ends in
-    let noted = ends.no_room in
-    let full : c.full-full.result ≡ first_full MAX_RECORDS 0 (counts_of ended) =
-    c.full-full.ensures ∙ ap (λ (n : ℕ). first_full n 0 (counts_of ended)) c.from.ensures in
-    let none : HasNoDiskFault (end_by_work {D = g.row.D.Denot} ends.memory ends.door ends.disk c.full-full.result) → ends.disk
-    ≡ None = λ held. held_by_work _ _ _ _ _ held in
-    let back : AreHandedBack g.D.Reports (end_by_work ends.memory ends.door ends.disk c.full-full.result) c.args.closed.nodes
-    c.args.disks.items
-    c.give_back.new.disks.items = record {
-      ended = ended;
-      update = bring.update;
-      update_rests = λ held. (bring.rests (none held)).0;
-      update_runs = λ held. (bring.runs (none held)).0;
-      first = would_be_brought g.D.Reports _ noted 0 c.args.closed.nodes.update ended.update _ _ bring.first
-          (λ held. bring.first_carried (none held)) (λ held. (bring.rests (none held)).1)
-          (λ held. (bring.runs (none held)).1);
-      second = would_be_brought g.D.Reports _ noted 1 c.args.closed.nodes.update ended.update _ _ bring.second
-          (λ held. bring.second_carried (none held)) (λ held. (bring.rests (none held)).2)
-          (λ held. (bring.runs (none held)).2);
-      third = would_be_brought g.D.Reports _ noted 2 c.args.closed.nodes.update ended.update _ _ bring.third
-          (λ held. bring.third_carried (none held)) (λ held. (bring.rests (none held)).3)
-          (λ held. (bring.runs (none held)).3);
-      fourth = would_be_brought g.D.Reports _ noted 3 c.args.closed.nodes.update ended.update _ _ bring.fourth
-          (λ held. bring.fourth_carried (none held)) (λ held. (bring.rests (none held)).4)
-          (λ held. (bring.runs (none held)).4);
-      disks = c.in-Ok.ensures;
-      full = subst
-          (λ (f : Option ℕ). SaysFull f (end_by_work {D = g.row.D.Denot} ends.memory ends.door ends.disk c.full-full.result)) full
-          (full_by_work _ _ _ _ _);
-    } in
-    subst (λ (s : ServeStatus g.row.D.Denot g.row.D-Failure.Denot). EndsBy ⊥
-    (AreHandedBack g.D.Reports s c.args.closed.nodes c.args.disks.items c.give_back.new.disks.items) s) (sym c.status_of.ensures)
-    (ends_by_work _ _ _ _ _ _ back)
+    (work_says (λ node fault. Unit {0}) ⊥ (AreHandedBack g.D.Reports c.bring-status.result.0 c.in-Ok.nodes c.args.disks.items c.bring-status.result.1.items)
+    (AreClosed g.D.Reports c.bring-status.result.0 c.args.closed.nodes c.args.disks.items c.bring-status.result.1.items) ⊥
+    (AreLeft c.args.closed.nodes c.args.disks.items c.bring-status.result.1.items) c.bring-status.result.0
+    (λ back. record { nodes = c.in-Ok.nodes; all = c.in-Ok.ensures.nodes; back = back }) (λ failed none. absurd none) c.bring-status.ensures.back).1
+
+-- or only their disks were
+pub returns-in-Err-clause-door : goal.returns-in-Err-clause-door
+returns-in-Err-clause-door g c = λ is. absurd (left_unblamed _ _ c.leave-status.ensures.left is)
+
+pub returns-in-Err-clause-quiet : goal.returns-in-Err-clause-quiet
+returns-in-Err-clause-quiet g c = λ all. absurd (left_unserved _ _ c.leave-status.ensures.left all)
+
+pub returns-in-Err-clause-carriers : goal.returns-in-Err-clause-carriers
+returns-in-Err-clause-carriers g c = λ all. absurd (left_unserved _ _ c.leave-status.ensures.left all)
+
+pub returns-in-Err-clause-ends : goal.returns-in-Err-clause-ends
+returns-in-Err-clause-ends g c =
+    (work_says (λ node fault. Unit {0}) ⊥ ⊥
+    (AreClosed g.D.Reports c.leave-status.result.0 c.args.closed.nodes c.args.disks.items c.leave-status.result.1.items) _
+    (AreLeft c.args.closed.nodes c.args.disks.items c.leave-status.result.1.items) c.leave-status.result.0 (λ none. absurd none)
+    (λ failed left. record { seen = c.in-Err.ensures.seen left.0; disks = left.1 ∙ ap (λ (l : List g.row.D.Denot). c.args.disks.items ++ l) c.in-Err.ensures.disks }) c.leave-status.ensures.left).1

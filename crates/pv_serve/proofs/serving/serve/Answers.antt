@@ -5,14 +5,17 @@ use Rattle.pv_service.specs.Doors.{door_of}
 use Rattle.pv_centres.specs.Carried.{AreQuiet}
 use Rattle.pv_centres.specs.Opening.{centre_count}
 use Rattle.pv_centres.proofs.Served.{all_finished}
-use Rattle.pv_serve.specs.Ended.{AreHandedBack, ServerEnded}
+use Rattle.pv_serve.specs.Ended.{AreClosed, AreHandedBack, AreLeft, ServerEnded}
+use Rattle.pv_serve.specs.Left.{ServerLeft}
 use Rattle.pv_serve.specs.Options.{AskToServe}
 use Rattle.pv_serve.specs.Serving.{OnNodeFault, end_by_node, node_limits}
 use Rattle.pv_serve.specs.Unopened.{IsUnreadable, IsUnserved}
 use Rattle.pv_serve.specs.declared.options.ServeOptions.{ServeOptions}
-use Rattle.pv_serve.proofs.Counting.{disks_back, doors_back, ended_if_back, length_kept}
+use Rattle.pv_serve.proofs.Counting.{closed_back, doors_back, ended_if_back, length_kept}
 use Rattle.pv_serve.proofs.Ended.{same_weight}
 use Rattle.pv_serve.proofs.Ending.{unreadable, work_says}
+use Rattle.pv_serve.proofs.Left.{given_there, server_left}
+use Rattle.pv_serve.proofs.Places.{AreOver}
 use Rattle.pv_serve.proofs.Server.{door_rose, server_ended}
 use Rattle.pv_serve.proofs.serving.serve.Goals as goal
 
@@ -50,10 +53,8 @@ serve_nodes-requires-clause-callers g c =
 -- all nodes were opened
 pub returns-in-Ok-serve_nodes-clause-unopened : goal.returns-in-Ok-serve_nodes-clause-unopened
 returns-in-Ok-serve_nodes-clause-unopened g c =
-    (work_says (IsUnreadable g.D.Reports node_limits c.args.disks.items) ⊥
-    (AreHandedBack g.D.Reports c.close.result.status c.in-Ok-serve_nodes.closed.nodes c.open_nodes.new.disks.items
-    c.close.result.disks.items)
-    (Unit {0}) c.close.result.status (λ back. tt) c.close.ensures.ends).0
+    (work_says (IsUnreadable g.D.Reports node_limits c.args.disks.items) ⊥ _ (Unit {0}) _ (Unit {0}) c.close.result.status (λ back. tt)
+    (λ failed left. tt) c.close.ensures.ends).0
 
 -- the door of a port that has ended since it failed
 pub returns-in-Ok-serve_nodes-clause-door_fault : goal.returns-in-Ok-serve_nodes-clause-door_fault
@@ -81,7 +82,13 @@ returns-in-Ok-serve_nodes-clause-finished g c =
 pub returns-in-Ok-serve_nodes-clause-ends : goal.returns-in-Ok-serve_nodes-clause-ends
 returns-in-Ok-serve_nodes-clause-ends g c =
     let opened = c.in-Ok-open_nodes.ensures in
-    let over = opened.over in
+    let over : AreOver g.D.Reports opened.over.0 c.in-Ok-open_nodes.nodes = record {
+      update = opened.over.2;
+      first = opened.over.3;
+      second = opened.over.4;
+      third = opened.over.5;
+      fourth = opened.over.6;
+    } in
     let served = c.in-Ok-serve_nodes.ensures in
     let rows = served.callers in
     let law = c.images_stand_for_one_list.ensures in
@@ -89,35 +96,49 @@ returns-in-Ok-serve_nodes-clause-ends g c =
     let closed = c.in-Ok-serve_nodes.closed in
     let asked = c.in-Ok.ensures.ok in
     let parts = c.requires.parts c.in-Ok.options asked in
+    let status = c.close.result.status in
+    let callers = map (door_of g.O.Door.lines g.O.Door.accepted g.O.Door.finished g.O.Door.faults) in
+    let editors = map (door_of g.E.Door.lines g.E.Door.accepted g.E.Door.finished g.E.Door.faults) in
     let some : 1 ≤ centre_count c.in-Ok-open_nodes.nodes = omega
     (arith, parts.nodes, asked.1.numbers.centres.some, opened.count) in
     rw (c.close.ensures.doors.0, c.close.ensures.doors.1)
     ((work_says (λ node fault. Unit {0})
     (IsUnserved g.D.Reports c.args.disks.items c.close.result.disks.items c.args.callers closed.callers c.args.editors closed.editors)
-    (AreHandedBack g.D.Reports c.close.result.status closed.nodes c.open_nodes.new.disks.items c.close.result.disks.items)
+    (AreClosed g.D.Reports status closed.nodes c.open_nodes.new.disks.items c.close.result.disks.items)
     ((options : ServeOptions) × AskToServe (map string_bytes c.args.words.now) options
     × ServerEnded g.D.Reports node_limits (g.K.Clock.moment c.args.clock.now) (line_of g.O.Line.Source g.O.Line.Sink)
     (line_of g.E.Line.Source g.E.Line.Sink) options.ports options.calls c.args.disks.items c.close.result.disks.items
-    (map (door_of g.O.Door.lines g.O.Door.accepted g.O.Door.finished g.O.Door.faults) c.args.callers.items)
-    (map (door_of g.O.Door.lines g.O.Door.accepted g.O.Door.finished g.O.Door.faults) closed.callers.items)
-    (map (door_of g.E.Door.lines g.E.Door.accepted g.E.Door.finished g.E.Door.faults) c.args.editors.items)
-    (map (door_of g.E.Door.lines g.E.Door.accepted g.E.Door.finished g.E.Door.faults) closed.editors.items) c.close.result.status)
-    c.close.result.status
-    (
-    λ back. (
+    (callers c.args.callers.items) (callers closed.callers.items) (editors c.args.editors.items) (editors closed.editors.items) status)
+    (AreLeft closed.nodes c.open_nodes.new.disks.items c.close.result.disks.items)
+    ((options : ServeOptions) × AskToServe (map string_bytes c.args.words.now) options
+    × ServerLeft g.D.Reports node_limits (g.K.Clock.moment c.args.clock.now) (line_of g.O.Line.Source g.O.Line.Sink)
+    (line_of g.E.Line.Source g.E.Line.Sink) options.ports options.calls c.args.disks.items c.close.result.disks.items
+    (callers c.args.callers.items) (callers closed.callers.items) (editors c.args.editors.items) (editors closed.editors.items) status)
+    status
+    (λ is.
+    let nodes = is.nodes in (
       c.in-Ok.options,
-      c.in-Ok.ensures.ok,
+      asked,
       server_ended g.D.Reports law.left c.node_limits-limits.result _ _ _ _ _ _ _ _ _ _ _ _ _ _ c.in-Ok-open_nodes.nodes
-          closed.nodes rows.0 (AreQuiet closed.carriers_met.items) c.close.ensures.carriers node_limits c.node_limits-limits.ensures law.update (law.first, charges.first) (law.second, charges.second)
-          (law.third, charges.third) (law.fourth, charges.fourth) over.0 over.1
-          opened.order some over.2 over.3 over.4 over.5 over.6 opened.update opened.first opened.second opened.third opened.fourth
-          served.update rows.1
-          rows.2 rows.3 rows.4 served.callers_doors served.editors_doors
-          (subst (λ (before : List g.row.D.Denot). AreHandedBack g.D.Reports c.close.result.status closed.nodes before
-          c.close.result.disks.items) opened.taken back),
-    )
-    )
-    c.close.ensures.ends).1)
+          nodes rows.0 (AreQuiet closed.carriers_met.items) c.close.ensures.carriers node_limits c.node_limits-limits.ensures law.update (law.first, charges.first) (law.second, charges.second)
+          (law.third, charges.third) (law.fourth, charges.fourth) opened.over.0 opened.over.1
+          opened.order some over opened.update opened.first opened.second opened.third opened.fourth
+          (rw is.all.update at served.update) (given_there _ _ _ _ is.all.first rows.1)
+          (given_there _ _ _ _ is.all.second rows.2) (given_there _ _ _ _ is.all.third rows.3)
+          (given_there _ _ _ _ is.all.fourth rows.4) served.callers_doors served.editors_doors
+          (subst (λ (before : List g.row.D.Denot). AreHandedBack g.D.Reports status nodes before
+          c.close.result.disks.items) opened.taken is.back),
+    ))
+    (λ failed left. (
+      c.in-Ok.options,
+      asked,
+      server_left g.D.Reports law.left c.node_limits-limits.result _ _ _ _ _ _ _ _ _ _ _ _ _ status c.in-Ok-open_nodes.nodes
+          closed.nodes rows.0 (AreQuiet closed.carriers_met.items) node_limits c.node_limits-limits.ensures law.update (law.first, charges.first)
+          (law.second, charges.second) (law.third, charges.third) (law.fourth, charges.fourth) opened.over.0 opened.over.1
+          opened.order over opened.update opened.first opened.second opened.third opened.fourth served.update rows.1 rows.2 rows.3 rows.4
+          served.callers_doors served.editors_doors failed
+          (subst (λ (before : List g.row.D.Denot). AreLeft closed.nodes before c.close.result.disks.items) opened.taken left),
+    )) c.close.ensures.ends).1)
 
 -- as many are handed back as there were
 pub returns-in-Err-open_nodes-clause-all : goal.returns-in-Err-open_nodes-clause-all
@@ -133,9 +154,8 @@ returns-in-Ok-serve_nodes-clause-all g c = λ all.
     let served = c.in-Ok-serve_nodes.ensures in
     let closed = c.in-Ok-serve_nodes.closed in
     let result = c.close.result in
-    let handed : AreHandedBack g.D.Reports result.status closed.nodes c.open_nodes.new.disks.items result.disks.items =
-    ended_if_back _ result.status c.close.ensures.begun all c.close.ensures.ends in
-    let disks = disks_back g.D.Reports result.status closed.nodes c.open_nodes.new.disks.items result.disks.items handed in
+    let disks = closed_back g.D.Reports result.status closed.nodes c.open_nodes.new.disks.items result.disks.items
+    (ended_if_back _ _ result.status c.close.ensures.begun all c.close.ensures.ends) in
     let callers = doors_back (door_of g.O.Door.lines g.O.Door.accepted g.O.Door.finished g.O.Door.faults) _ c.args.callers.items
     closed.callers.items closed.callers_met.items served.callers_doors in
     let editors = doors_back (door_of g.E.Door.lines g.E.Door.accepted g.E.Door.finished g.E.Door.faults) _ c.args.editors.items
